@@ -2,78 +2,14 @@
  *
  * The functions of crates/bully_c are proved, but for references and slices: none of these can be null, and C can pass a null
  * pointer. So each function of bully.h tests its pointers and lengths here, as that header says, and then calls the proved
- * function that has its name with `bully_c_` in the place of `bully_`, and its parameters. Nothing else is decided here, and only
- * the texts of bully_status_name and bully_version stand here.
+ * function that has its name with `bully_c_` in the place of `bully_`, and its parameters. Nothing else is decided here. Behind
+ * bully_status_name and bully_version is no proved function: they give texts that bin/library makes.
  */
 #include "bully.h"
 
-/* ---- The proved functions: a reference is a pointer here, and a slice a pointer with its length behind it. ---- */
-
-bully_status bully_c_check(const uint8_t *trace, size_t length, bully_verdict *verdict);
-bully_status bully_c_table(const bully_setup *setup, const uint16_t *weights, size_t weight_count, const uint16_t *members,
-                           size_t member_count, const uint16_t *old, size_t old_count, uint16_t *owners, size_t owner_count,
-                           uint16_t *moves);
-bully_status bully_c_header(const bully_setup *setup, const uint16_t *weights, size_t weight_count, char *row, size_t room,
-                            size_t *length);
-bully_status bully_c_agent_open(bully_agent *agent, const bully_setup *setup, const uint16_t *weights, size_t weight_count,
-                                uint16_t node, uint32_t events, const uint16_t *task, size_t task_count);
-bully_status bully_c_agent_close(bully_agent *agent);
-bully_status bully_c_agent_recover(bully_agent *agent);
-bully_status bully_c_agent_crash(bully_agent *agent);
-bully_status bully_c_agent_check(bully_agent *agent);
-bully_status bully_c_agent_timeout(bully_agent *agent);
-bully_status bully_c_agent_start(bully_agent *agent);
-bully_status bully_c_agent_advance(bully_agent *agent);
-bully_status bully_c_agent_plan(bully_agent *agent, const uint16_t *owners, size_t owner_count);
-bully_status bully_c_agent_drop_orphan(bully_agent *agent);
-bully_status bully_c_agent_prepare(bully_agent *agent, const uint16_t *old, size_t old_count, uint16_t *owners, size_t owner_count);
-bully_status bully_c_agent_request(bully_agent *agent, char *line, size_t room, size_t *length);
-bully_status bully_c_agent_serve(bully_agent *agent, const char *line, size_t line_length, char *reply, size_t room, size_t *length);
-bully_status bully_c_agent_replied(bully_agent *agent, const char *line, size_t line_length, uint32_t *answer);
-bully_status bully_c_agent_failed(bully_agent *agent, uint32_t number, uint32_t *answer);
-bully_status bully_c_agent_show(bully_agent *agent, bully_state *state);
-bully_status bully_c_agent_up(bully_agent *agent, uint16_t *nodes, size_t room, size_t *count);
-bully_status bully_c_agent_task(bully_agent *agent, uint16_t *owners, size_t room, size_t *count);
-bully_status bully_c_agent_rows(bully_agent *agent, char *rows, size_t room, size_t *length);
-bully_status bully_c_agent_claim(bully_agent *agent, char *row, size_t room, size_t *length);
-bully_status bully_c_replica_open(bully_replica *replica, const char *header, size_t length);
-bully_status bully_c_replica_close(bully_replica *replica);
-bully_status bully_c_replica_learn(bully_replica *replica, const char *rows, size_t length, size_t *taken);
-bully_status bully_c_replica_next(bully_replica *replica, uint16_t node, char *row, size_t room, size_t *length);
-bully_status bully_c_replica_event(bully_replica *replica, uint16_t node, uint32_t event, char *row, size_t room, size_t *length);
-bully_status bully_c_replica_show(bully_replica *replica, uint16_t node, bully_state *state);
-bully_status bully_c_replica_up(bully_replica *replica, uint16_t node, uint16_t *nodes, size_t room, size_t *count);
-bully_status bully_c_replica_task(bully_replica *replica, uint16_t node, uint16_t *owners, size_t room, size_t *count);
-bully_status bully_c_replica_group(bully_replica *replica, bully_group *group);
-bully_status bully_c_replica_planned(bully_replica *replica, uint16_t *owners, size_t room, size_t *count);
-bully_status bully_c_replica_settle(bully_replica *replica, const uint16_t *present, size_t present_count, const uint16_t *old,
-                                    size_t old_count, char *rows, size_t room, size_t *length);
-bully_status bully_c_replica_is_at_rest(bully_replica *replica, const uint16_t *present, size_t present_count, uint32_t place,
-                                        uint32_t *rests);
-bully_status bully_c_replica_owned(bully_replica *replica, uint16_t node, uint32_t place, uint32_t *token, uint16_t *partitions,
-                                   size_t room, size_t *count);
-bully_status bully_c_member_open(bully_member *member, const char *header, size_t length, uint32_t epoch, uint16_t node, uint32_t rows_max,
-                                 const uint16_t *old, size_t old_count, uint64_t process, uint64_t ttl);
-bully_status bully_c_member_close(bully_member *member);
-bully_status bully_c_member_next(bully_member *member, uint64_t now, bully_step *step);
-bully_status bully_c_member_answered(bully_member *member, uint64_t now, uint32_t answer);
-bully_status bully_c_member_learn(bully_member *member, const char *rows, size_t length, size_t *taken);
-bully_status bully_c_member_looked(bully_member *member, uint64_t now, uint32_t epoch, const bully_presence *presences,
-                                   size_t presence_count, uint32_t has_strangers, uint32_t is_wished);
-bully_status bully_c_member_passed(bully_member *member);
-bully_status bully_c_member_followed(bully_member *member, uint64_t now, const char *header, size_t length, uint32_t epoch, uint16_t node,
-                                     uint32_t rows_max, const uint16_t *old, size_t old_count);
-bully_status bully_c_member_not_there(bully_member *member);
-bully_status bully_c_member_woke(bully_member *member);
-bully_status bully_c_member_leave(bully_member *member);
-bully_status bully_c_member_lost(bully_member *member, uint32_t token);
-bully_status bully_c_member_stopped(bully_member *member);
-bully_status bully_c_member_settlement(bully_member *member, char *rows, size_t room, size_t *length);
-bully_status bully_c_member_owned(bully_member *member, uint32_t *token, uint16_t *partitions, size_t room, size_t *count);
-bully_status bully_c_member_show(bully_member *member, uint64_t now, bully_member_state *shown);
-bully_status bully_c_member_node(bully_member *member, uint16_t node, bully_state *state);
-bully_status bully_c_member_group(bully_member *member, bully_group *group);
-bully_status bully_c_member_planned(bully_member *member, uint16_t *owners, size_t room, size_t *count);
+/* Declares the proved function behind the next one, as bully.h declares that: a reference is a pointer here, and a slice a pointer
+ * with its length behind it. */
+#define PROVED(name) __typeof__(bully_##name) bully_c_##name
 
 /* ---- The tests ---- */
 
@@ -97,6 +33,7 @@ static void *target(void *items, size_t count) {
 
 /* ---- Traces and tables ---- */
 
+PROVED(check);
 bully_status bully_check(const uint8_t *trace, size_t length, bully_verdict *verdict) {
     if (!can_lie(trace, length, 1) || verdict == NULL) {
         return BULLY_NULL;
@@ -104,6 +41,7 @@ bully_status bully_check(const uint8_t *trace, size_t length, bully_verdict *ver
     return bully_c_check(source(trace, length), length, verdict);
 }
 
+PROVED(header);
 bully_status bully_header(const bully_setup *setup, const uint16_t *weights, size_t weight_count, char *row, size_t room,
                           size_t *length) {
     if (setup == NULL || !can_lie(weights, weight_count, sizeof *weights) || !can_lie(row, room, 1) || length == NULL) {
@@ -112,6 +50,7 @@ bully_status bully_header(const bully_setup *setup, const uint16_t *weights, siz
     return bully_c_header(setup, source(weights, weight_count), weight_count, target(row, room), room, length);
 }
 
+PROVED(table);
 bully_status bully_table(const bully_setup *setup, const uint16_t *weights, size_t weight_count, const uint16_t *members,
                          size_t member_count, const uint16_t *old, size_t old_count, uint16_t *owners, size_t owner_count,
                          uint16_t *moves) {
@@ -127,6 +66,7 @@ bully_status bully_table(const bully_setup *setup, const uint16_t *weights, size
 
 /* ---- One node ---- */
 
+PROVED(agent_open);
 bully_status bully_agent_open(bully_agent *agent, const bully_setup *setup, const uint16_t *weights, size_t weight_count,
                               uint16_t node, uint32_t events, const uint16_t *task, size_t task_count) {
     if (agent == NULL || setup == NULL) {
@@ -139,34 +79,42 @@ bully_status bully_agent_open(bully_agent *agent, const bully_setup *setup, cons
                               task_count);
 }
 
+PROVED(agent_close);
 bully_status bully_agent_close(bully_agent *agent) {
     return agent == NULL ? BULLY_NULL : bully_c_agent_close(agent);
 }
 
+PROVED(agent_recover);
 bully_status bully_agent_recover(bully_agent *agent) {
     return agent == NULL ? BULLY_NULL : bully_c_agent_recover(agent);
 }
 
+PROVED(agent_crash);
 bully_status bully_agent_crash(bully_agent *agent) {
     return agent == NULL ? BULLY_NULL : bully_c_agent_crash(agent);
 }
 
+PROVED(agent_check);
 bully_status bully_agent_check(bully_agent *agent) {
     return agent == NULL ? BULLY_NULL : bully_c_agent_check(agent);
 }
 
+PROVED(agent_timeout);
 bully_status bully_agent_timeout(bully_agent *agent) {
     return agent == NULL ? BULLY_NULL : bully_c_agent_timeout(agent);
 }
 
+PROVED(agent_start);
 bully_status bully_agent_start(bully_agent *agent) {
     return agent == NULL ? BULLY_NULL : bully_c_agent_start(agent);
 }
 
+PROVED(agent_advance);
 bully_status bully_agent_advance(bully_agent *agent) {
     return agent == NULL ? BULLY_NULL : bully_c_agent_advance(agent);
 }
 
+PROVED(agent_plan);
 bully_status bully_agent_plan(bully_agent *agent, const uint16_t *owners, size_t owner_count) {
     if (agent == NULL || !can_lie(owners, owner_count, sizeof *owners)) {
         return BULLY_NULL;
@@ -174,10 +122,12 @@ bully_status bully_agent_plan(bully_agent *agent, const uint16_t *owners, size_t
     return bully_c_agent_plan(agent, source(owners, owner_count), owner_count);
 }
 
+PROVED(agent_drop_orphan);
 bully_status bully_agent_drop_orphan(bully_agent *agent) {
     return agent == NULL ? BULLY_NULL : bully_c_agent_drop_orphan(agent);
 }
 
+PROVED(agent_prepare);
 bully_status bully_agent_prepare(bully_agent *agent, const uint16_t *old, size_t old_count, uint16_t *owners, size_t owner_count) {
     if (agent == NULL || !can_lie(old, old_count, sizeof *old) || !can_lie(owners, owner_count, sizeof *owners)) {
         return BULLY_NULL;
@@ -187,6 +137,7 @@ bully_status bully_agent_prepare(bully_agent *agent, const uint16_t *old, size_t
 
 /* ---- What comes from other nodes, or goes to them ---- */
 
+PROVED(agent_request);
 bully_status bully_agent_request(bully_agent *agent, char *line, size_t room, size_t *length) {
     if (agent == NULL || !can_lie(line, room, 1) || length == NULL) {
         return BULLY_NULL;
@@ -194,6 +145,7 @@ bully_status bully_agent_request(bully_agent *agent, char *line, size_t room, si
     return bully_c_agent_request(agent, target(line, room), room, length);
 }
 
+PROVED(agent_serve);
 bully_status bully_agent_serve(bully_agent *agent, const char *line, size_t line_length, char *reply, size_t room, size_t *length) {
     if (agent == NULL || !can_lie(line, line_length, 1) || !can_lie(reply, room, 1) || length == NULL) {
         return BULLY_NULL;
@@ -201,6 +153,7 @@ bully_status bully_agent_serve(bully_agent *agent, const char *line, size_t line
     return bully_c_agent_serve(agent, source(line, line_length), line_length, target(reply, room), room, length);
 }
 
+PROVED(agent_replied);
 bully_status bully_agent_replied(bully_agent *agent, const char *line, size_t line_length, uint32_t *answer) {
     if (agent == NULL || !can_lie(line, line_length, 1) || answer == NULL) {
         return BULLY_NULL;
@@ -208,16 +161,19 @@ bully_status bully_agent_replied(bully_agent *agent, const char *line, size_t li
     return bully_c_agent_replied(agent, source(line, line_length), line_length, answer);
 }
 
+PROVED(agent_failed);
 bully_status bully_agent_failed(bully_agent *agent, uint32_t number, uint32_t *answer) {
     return agent == NULL || answer == NULL ? BULLY_NULL : bully_c_agent_failed(agent, number, answer);
 }
 
 /* ---- What an agent shows ---- */
 
+PROVED(agent_show);
 bully_status bully_agent_show(bully_agent *agent, bully_state *state) {
     return agent == NULL || state == NULL ? BULLY_NULL : bully_c_agent_show(agent, state);
 }
 
+PROVED(agent_up);
 bully_status bully_agent_up(bully_agent *agent, uint16_t *nodes, size_t room, size_t *count) {
     if (agent == NULL || !can_lie(nodes, room, sizeof *nodes) || count == NULL) {
         return BULLY_NULL;
@@ -225,6 +181,7 @@ bully_status bully_agent_up(bully_agent *agent, uint16_t *nodes, size_t room, si
     return bully_c_agent_up(agent, target(nodes, room), room, count);
 }
 
+PROVED(agent_task);
 bully_status bully_agent_task(bully_agent *agent, uint16_t *owners, size_t room, size_t *count) {
     if (agent == NULL || !can_lie(owners, room, sizeof *owners) || count == NULL) {
         return BULLY_NULL;
@@ -232,6 +189,7 @@ bully_status bully_agent_task(bully_agent *agent, uint16_t *owners, size_t room,
     return bully_c_agent_task(agent, target(owners, room), room, count);
 }
 
+PROVED(agent_rows);
 bully_status bully_agent_rows(bully_agent *agent, char *rows, size_t room, size_t *length) {
     if (agent == NULL || !can_lie(rows, room, 1) || length == NULL) {
         return BULLY_NULL;
@@ -239,6 +197,7 @@ bully_status bully_agent_rows(bully_agent *agent, char *rows, size_t room, size_
     return bully_c_agent_rows(agent, target(rows, room), room, length);
 }
 
+PROVED(agent_claim);
 bully_status bully_agent_claim(bully_agent *agent, char *row, size_t room, size_t *length) {
     if (agent == NULL || !can_lie(row, room, 1) || length == NULL) {
         return BULLY_NULL;
@@ -248,6 +207,7 @@ bully_status bully_agent_claim(bully_agent *agent, char *row, size_t room, size_
 
 /* ---- A group whose history is a log outside ---- */
 
+PROVED(replica_open);
 bully_status bully_replica_open(bully_replica *replica, const char *header, size_t length) {
     if (replica == NULL || !can_lie(header, length, 1)) {
         return BULLY_NULL;
@@ -255,10 +215,12 @@ bully_status bully_replica_open(bully_replica *replica, const char *header, size
     return bully_c_replica_open(replica, source(header, length), length);
 }
 
+PROVED(replica_close);
 bully_status bully_replica_close(bully_replica *replica) {
     return replica == NULL ? BULLY_NULL : bully_c_replica_close(replica);
 }
 
+PROVED(replica_learn);
 bully_status bully_replica_learn(bully_replica *replica, const char *rows, size_t length, size_t *taken) {
     if (replica == NULL || !can_lie(rows, length, 1) || taken == NULL) {
         return BULLY_NULL;
@@ -266,6 +228,7 @@ bully_status bully_replica_learn(bully_replica *replica, const char *rows, size_
     return bully_c_replica_learn(replica, source(rows, length), length, taken);
 }
 
+PROVED(replica_next);
 bully_status bully_replica_next(bully_replica *replica, uint16_t node, char *row, size_t room, size_t *length) {
     if (replica == NULL || !can_lie(row, room, 1) || length == NULL) {
         return BULLY_NULL;
@@ -273,6 +236,7 @@ bully_status bully_replica_next(bully_replica *replica, uint16_t node, char *row
     return bully_c_replica_next(replica, node, target(row, room), room, length);
 }
 
+PROVED(replica_event);
 bully_status bully_replica_event(bully_replica *replica, uint16_t node, uint32_t event, char *row, size_t room, size_t *length) {
     if (replica == NULL || !can_lie(row, room, 1) || length == NULL) {
         return BULLY_NULL;
@@ -280,10 +244,12 @@ bully_status bully_replica_event(bully_replica *replica, uint16_t node, uint32_t
     return bully_c_replica_event(replica, node, event, target(row, room), room, length);
 }
 
+PROVED(replica_show);
 bully_status bully_replica_show(bully_replica *replica, uint16_t node, bully_state *state) {
     return replica == NULL || state == NULL ? BULLY_NULL : bully_c_replica_show(replica, node, state);
 }
 
+PROVED(replica_up);
 bully_status bully_replica_up(bully_replica *replica, uint16_t node, uint16_t *nodes, size_t room, size_t *count) {
     if (replica == NULL || !can_lie(nodes, room, sizeof *nodes) || count == NULL) {
         return BULLY_NULL;
@@ -291,6 +257,7 @@ bully_status bully_replica_up(bully_replica *replica, uint16_t node, uint16_t *n
     return bully_c_replica_up(replica, node, target(nodes, room), room, count);
 }
 
+PROVED(replica_task);
 bully_status bully_replica_task(bully_replica *replica, uint16_t node, uint16_t *owners, size_t room, size_t *count) {
     if (replica == NULL || !can_lie(owners, room, sizeof *owners) || count == NULL) {
         return BULLY_NULL;
@@ -298,10 +265,12 @@ bully_status bully_replica_task(bully_replica *replica, uint16_t node, uint16_t 
     return bully_c_replica_task(replica, node, target(owners, room), room, count);
 }
 
+PROVED(replica_group);
 bully_status bully_replica_group(bully_replica *replica, bully_group *group) {
     return replica == NULL || group == NULL ? BULLY_NULL : bully_c_replica_group(replica, group);
 }
 
+PROVED(replica_planned);
 bully_status bully_replica_planned(bully_replica *replica, uint16_t *owners, size_t room, size_t *count) {
     if (replica == NULL || !can_lie(owners, room, sizeof *owners) || count == NULL) {
         return BULLY_NULL;
@@ -309,6 +278,7 @@ bully_status bully_replica_planned(bully_replica *replica, uint16_t *owners, siz
     return bully_c_replica_planned(replica, target(owners, room), room, count);
 }
 
+PROVED(replica_settle);
 bully_status bully_replica_settle(bully_replica *replica, const uint16_t *present, size_t present_count, const uint16_t *old,
                                   size_t old_count, char *rows, size_t room, size_t *length) {
     if (replica == NULL || !can_lie(present, present_count, sizeof *present) || !can_lie(old, old_count, sizeof *old)) {
@@ -321,6 +291,7 @@ bully_status bully_replica_settle(bully_replica *replica, const uint16_t *presen
                                   target(rows, room), room, length);
 }
 
+PROVED(replica_is_at_rest);
 bully_status bully_replica_is_at_rest(bully_replica *replica, const uint16_t *present, size_t present_count, uint32_t place,
                                       uint32_t *rests) {
     if (replica == NULL || !can_lie(present, present_count, sizeof *present) || rests == NULL) {
@@ -329,6 +300,7 @@ bully_status bully_replica_is_at_rest(bully_replica *replica, const uint16_t *pr
     return bully_c_replica_is_at_rest(replica, source(present, present_count), present_count, place, rests);
 }
 
+PROVED(replica_owned);
 bully_status bully_replica_owned(bully_replica *replica, uint16_t node, uint32_t place, uint32_t *token, uint16_t *partitions, size_t room,
                                  size_t *count) {
     if (replica == NULL || token == NULL || !can_lie(partitions, room, sizeof *partitions) || count == NULL) {
@@ -339,6 +311,7 @@ bully_status bully_replica_owned(bully_replica *replica, uint16_t node, uint32_t
 
 /* ---- A process that acts for a node ---- */
 
+PROVED(member_open);
 bully_status bully_member_open(bully_member *member, const char *header, size_t length, uint32_t epoch, uint16_t node, uint32_t rows_max,
                                const uint16_t *old, size_t old_count, uint64_t process, uint64_t ttl) {
     if (member == NULL || !can_lie(header, length, 1) || !can_lie(old, old_count, sizeof *old)) {
@@ -348,18 +321,22 @@ bully_status bully_member_open(bully_member *member, const char *header, size_t 
                                ttl);
 }
 
+PROVED(member_close);
 bully_status bully_member_close(bully_member *member) {
     return member == NULL ? BULLY_NULL : bully_c_member_close(member);
 }
 
+PROVED(member_next);
 bully_status bully_member_next(bully_member *member, uint64_t now, bully_step *step) {
     return member == NULL || step == NULL ? BULLY_NULL : bully_c_member_next(member, now, step);
 }
 
+PROVED(member_answered);
 bully_status bully_member_answered(bully_member *member, uint64_t now, uint32_t answer) {
     return member == NULL ? BULLY_NULL : bully_c_member_answered(member, now, answer);
 }
 
+PROVED(member_learn);
 bully_status bully_member_learn(bully_member *member, const char *rows, size_t length, size_t *taken) {
     if (member == NULL || !can_lie(rows, length, 1) || taken == NULL) {
         return BULLY_NULL;
@@ -367,6 +344,7 @@ bully_status bully_member_learn(bully_member *member, const char *rows, size_t l
     return bully_c_member_learn(member, source(rows, length), length, taken);
 }
 
+PROVED(member_looked);
 bully_status bully_member_looked(bully_member *member, uint64_t now, uint32_t epoch, const bully_presence *presences, size_t presence_count,
                                  uint32_t has_strangers, uint32_t is_wished) {
     if (member == NULL || !can_lie(presences, presence_count, sizeof *presences)) {
@@ -375,10 +353,12 @@ bully_status bully_member_looked(bully_member *member, uint64_t now, uint32_t ep
     return bully_c_member_looked(member, now, epoch, source(presences, presence_count), presence_count, has_strangers, is_wished);
 }
 
+PROVED(member_passed);
 bully_status bully_member_passed(bully_member *member) {
     return member == NULL ? BULLY_NULL : bully_c_member_passed(member);
 }
 
+PROVED(member_followed);
 bully_status bully_member_followed(bully_member *member, uint64_t now, const char *header, size_t length, uint32_t epoch, uint16_t node,
                                    uint32_t rows_max, const uint16_t *old, size_t old_count) {
     if (member == NULL || !can_lie(header, length, 1) || !can_lie(old, old_count, sizeof *old)) {
@@ -387,26 +367,32 @@ bully_status bully_member_followed(bully_member *member, uint64_t now, const cha
     return bully_c_member_followed(member, now, source(header, length), length, epoch, node, rows_max, source(old, old_count), old_count);
 }
 
+PROVED(member_not_there);
 bully_status bully_member_not_there(bully_member *member) {
     return member == NULL ? BULLY_NULL : bully_c_member_not_there(member);
 }
 
+PROVED(member_woke);
 bully_status bully_member_woke(bully_member *member) {
     return member == NULL ? BULLY_NULL : bully_c_member_woke(member);
 }
 
+PROVED(member_leave);
 bully_status bully_member_leave(bully_member *member) {
     return member == NULL ? BULLY_NULL : bully_c_member_leave(member);
 }
 
+PROVED(member_lost);
 bully_status bully_member_lost(bully_member *member, uint32_t token) {
     return member == NULL ? BULLY_NULL : bully_c_member_lost(member, token);
 }
 
+PROVED(member_stopped);
 bully_status bully_member_stopped(bully_member *member) {
     return member == NULL ? BULLY_NULL : bully_c_member_stopped(member);
 }
 
+PROVED(member_settlement);
 bully_status bully_member_settlement(bully_member *member, char *rows, size_t room, size_t *length) {
     if (member == NULL || !can_lie(rows, room, 1) || length == NULL) {
         return BULLY_NULL;
@@ -414,6 +400,7 @@ bully_status bully_member_settlement(bully_member *member, char *rows, size_t ro
     return bully_c_member_settlement(member, target(rows, room), room, length);
 }
 
+PROVED(member_owned);
 bully_status bully_member_owned(bully_member *member, uint32_t *token, uint16_t *partitions, size_t room, size_t *count) {
     if (member == NULL || token == NULL || !can_lie(partitions, room, sizeof *partitions) || count == NULL) {
         return BULLY_NULL;
@@ -421,18 +408,22 @@ bully_status bully_member_owned(bully_member *member, uint32_t *token, uint16_t 
     return bully_c_member_owned(member, token, target(partitions, room), room, count);
 }
 
+PROVED(member_show);
 bully_status bully_member_show(bully_member *member, uint64_t now, bully_member_state *shown) {
     return member == NULL || shown == NULL ? BULLY_NULL : bully_c_member_show(member, now, shown);
 }
 
+PROVED(member_node);
 bully_status bully_member_node(bully_member *member, uint16_t node, bully_state *state) {
     return member == NULL || state == NULL ? BULLY_NULL : bully_c_member_node(member, node, state);
 }
 
+PROVED(member_group);
 bully_status bully_member_group(bully_member *member, bully_group *group) {
     return member == NULL || group == NULL ? BULLY_NULL : bully_c_member_group(member, group);
 }
 
+PROVED(member_planned);
 bully_status bully_member_planned(bully_member *member, uint16_t *owners, size_t room, size_t *count) {
     if (member == NULL || !can_lie(owners, room, sizeof *owners) || count == NULL) {
         return BULLY_NULL;
@@ -442,24 +433,9 @@ bully_status bully_member_planned(bully_member *member, uint16_t *owners, size_t
 
 /* ---- Names ---- */
 
-#define NAME(status) [BULLY_##status] = #status
-
+/* By their numbers. bin/library cuts them out of bully.h: `[0] = "OK",` and so on. */
 static const char *const names[] = {
-    NAME(OK),
-    /* why an event is refused */
-    NAME(FULL), NAME(BAD_NODE), NAME(IS_DOWN), NAME(IS_UP), NAME(BUSY), NAME(NO_STEP), NAME(SLOT_BUSY), NAME(NO_CALL),
-    NAME(CALLEE_DOWN), NAME(CALLEE_UP), NAME(BAD_TABLE), NAME(NOT_ORPHAN),
-    /* of arguments */
-    NAME(NULL), NAME(CLOSED), NAME(OPEN), NAME(OUT_OF_MEMORY), NAME(SHORT), NAME(BAD_NODES), NAME(BAD_PARTITIONS),
-    NAME(BAD_LIMIT), NAME(BAD_WEIGHTS), NAME(TABLE_LENGTH), NAME(TABLE_OWNER), NAME(NO_MEMBER), NAME(BAD_EVENT),
-    NAME(BAD_ROWS_MAX), NAME(BAD_TTL), NAME(BAD_ANSWER),
-    /* of lines */
-    NAME(LINE_WORD), NAME(LINE_CALLER), NAME(LINE_NUMBER), NAME(LINE_CALLEE), NAME(LINE_KIND), NAME(LINE_TABLE),
-    NAME(LINE_ANSWER),
-    /* of traces */
-    NAME(BAD_HEADER), NAME(BAD_ROW), NAME(TOO_MANY_ROWS),
-    /* of rows of a log that are learned */
-    NAME(ROW_DIFFERS), NAME(ROW_END),
+#include "names.h"
 };
 
 const char *bully_status_name(bully_status status) {

@@ -22,7 +22,7 @@ from bully import etcd
 from bully.epochs import Opening
 from bully.etcd import EtcdLog
 from bully.gateway import Answer, Endpoint
-from laws import OPENING, wait_until
+from laws import OPENING, has_stopped, wait_until
 
 PROGRAM = shutil.which('etcd')
 QUICK = ('--heartbeat-interval', '50', '--election-timeout', '500')  # milliseconds; so the shortest lease is of 1 s
@@ -82,9 +82,9 @@ class Server:
     def pause(self) -> None:
         """It does nothing more."""
         assert self.process is not None
+        process = self.process.pid
         self.process.send_signal(signal.SIGSTOP)
-        tasks = Path(f'/proc/{self.process.pid}/task')
-        wait_until(lambda: all(stat.read_text().rsplit(')', 1)[1].split()[0] == 'T' for stat in tasks.glob('*/stat')))
+        wait_until(lambda: has_stopped(process))
 
     def resume(self) -> None:
         assert self.process is not None

@@ -1,15 +1,19 @@
 """What each store of a shared log does: tests that `test_stores.py` and `test_etcd.py` have for their stores."""
 import contextlib
+import inspect
 import random
 import socket
 import threading
 import time
 import unittest
+from pathlib import Path
 from typing import TYPE_CHECKING, Callable, Dict, List, Optional, Tuple
+from unittest import mock
 
 from bully.epochs import Opening
-from bully.logs import SECOND, Holder, Log, LogError, MemoryLog, NoEpoch
+from bully.logs import SECOND, DamagedLog, Holder, Log, LogError, MemoryLog, NoEpoch
 from bully.member import Life, Promise, Until
+from bully.orders import Orders
 
 if TYPE_CHECKING:
     Tests = unittest.TestCase
@@ -18,18 +22,31 @@ else:
 
 HEADER = 'bully,1,3,6'
 OPENING = Opening.first(HEADER)
-PATIENCE = 60.0
+PATIENCE = 30.0  # seconds that anything may take for which a test waits
 A, B, C = Life(2**64 - 1, 1), Life(7, 1), Life(7, 2)
 EMPTY = Promise(1, 0)
 
 
-def wait_until(is_so: Callable[[], object]) -> None:
-    """Waits until that is so."""
-    end = time.monotonic() + PATIENCE
+def wait_until(is_so: Callable[[], object], seconds: float = PATIENCE) -> None:
+    """Waits until that is so, for so long at most."""
+    end = time.monotonic() + seconds
     while not is_so():
         if time.monotonic() > end:
-            raise AssertionError('it never came to be so')
+            raise AssertionError(f'in {seconds:g} s it did not come to be so: {source_of(is_so)}')
         time.sleep(0.01)
+
+
+def source_of(call: Callable[[], object]) -> str:
+    """What a test awaits, as it is written."""
+    with contextlib.suppress(OSError, TypeError):  # it is no function of a file
+        return inspect.getsource(call).strip()
+    return repr(call)
+
+
+def has_stopped(process: int) -> bool:
+    """Whether all of the process is stopped by a signal."""
+    stats = Path(f'/proc/{process}/task').glob('*/stat')
+    return all(stat.read_text().rsplit(')', 1)[1].split()[0] == 'T' for stat in stats)
 
 
 class Clock:
@@ -50,7 +67,7 @@ def present(log: Log) -> Dict[str, Holder]:
 def looked(log: Log, epoch: int, place: int) -> object:
     """What a look finds."""
     found = log.look(epoch, place)
-    return found.epoch, list(found.rows), dict(found.presences), found.wish
+    return found.epoch, list(found.rows), dict(found.presences), found.wish, found.orders
 
 
 def end_of(log: Log) -> Promise:
@@ -226,18 +243,36 @@ class Laws(Tests):
         log, other = self.pair()
         self.assertFalse(log.append(1, 0, ['recover,1']), 'nobody is present')
         self.assertTrue(log.take('a', A, EMPTY, self.LONG))
-        for epoch, place in ((1, 1), (2, 0), (0, 0)):
-            self.assertFalse(log.append(epoch, place, ['recover,1']))
+        self.assertFalse(log.append(0, 0, ['recover,1']))
         self.assertTrue(log.append(1, 0, ['recover,1', 'start,1']))
         self.assertFalse(other.append(1, 0, ['recover,2']), 'it comes late')
         self.assertFalse(other.append(1, 2, ['recover,2']), 'nobody has promised that')
         self.assertTrue(other.promise('a', A, Promise(1, 2)))
         self.assertTrue(other.append(1, 2, ['recover,2']))
         self.assertEqual(list(log.read(1, 0)), ['recover,1', 'start,1', 'recover,2'])
-        self.assertEqual([list(log.read(1, place)) for place in (1, 2, 3, 9)], [['start,1', 'recover,2'], ['recover,2'], [], []])
+        self.assertEqual([list(log.read(1, place)) for place in (1, 2, 3)], [['start,1', 'recover,2'], ['recover,2'], []])
         for epoch in (0, 2):
             with self.assertRaises(NoEpoch):
                 log.read(epoch, 0)
+
+    def test_goes_back(self) -> None:
+        """Who has read more than there is, by this epoch or by a later one, is told that the log isn't what it was."""
+        log, other = self.pair()
+        self.assertTrue(log.take('a', A, EMPTY, self.LONG))
+        end = add(log, ['recover,1', 'start,1'])
+        be_idle(log, ('a', A))
+        for here in (Promise(1, 3), Promise(2, 0), Promise(2, 1)):
+            calls: List[Callable[[], object]] = [
+                lambda: other.look(here.epoch, here.place), lambda: other.append(here.epoch, here.place, ['recover,1']),
+                lambda: other.finish(here.epoch, here.place, OPENING.next(None, ())),
+            ]  # fmt: skip
+            for number, call in enumerate(calls):
+                with self.subTest(here=here, call=number), self.assertRaises(DamagedLog):
+                    call()
+            other.wait(here.epoch, here.place, {'a': A}, Until.NEWS, PATIENCE)  # which is over at once
+        with self.assertRaises(DamagedLog):
+            other.read(1, 3)
+        self.assertEqual((end_of(log), list(log.read(1, 2)), log.look(1, 2).rows[:]), (end, [], []))
 
     def test_rows_that_are_none(self) -> None:
         log, _ = self.pair()
@@ -286,7 +321,7 @@ class Laws(Tests):
             add(log, more)
             rows += more
             if number % self.PAGE in (0, 1, self.PAGE - 1) or number < 5:
-                for place in {0, 1, len(rows) - 1, len(rows), len(rows) + 1, len(rows) - len(more), choice.randrange(len(rows))}:
+                for place in {0, 1, len(rows) - 1, len(rows), len(rows) - len(more), choice.randrange(len(rows))}:
                     self.assertEqual(list(other.read(1, place)), rows[place:], place)
                     self.assertEqual(list(other.look(1, place).rows), rows[place:], place)
         self.assertEqual(len(other.read(1, 0)), len(rows))
@@ -323,6 +358,41 @@ class Laws(Tests):
             thread.join()
         return counts[0], counts[1]
 
+    # Orders, and times.
+
+    def test_orders(self) -> None:
+        """They stand until others are given by who knows them, and belong to no epoch."""
+        log, other = self.pair()
+        one, two = Orders(frozenset(['b', 'größer']), {'a': A, "'": Life(0, 0)}), Orders(frozenset('a'))
+        self.assertEqual(log.look(1, 0).orders, Orders())
+        self.assertFalse(log.order(one, two))
+        self.assertTrue(log.order(one, Orders()))
+        self.assertFalse(other.order(two, Orders()), 'others were given')
+        self.assertEqual((log.look(1, 0).orders, other.look(1, 0).orders), (one, one))
+        self.assertTrue(other.order(two, one))
+        self.assertTrue(log.take('a', A, EMPTY, self.LONG))
+        self.assertTrue(log.finish(1, 0, OPENING.next(None, ())))
+        self.assertEqual((log.look(2, 0).orders, other.look(2, 0).orders), (two, two))
+        self.assertTrue(other.order(one, None), 'whatever they were')
+        self.assertTrue(log.order(Orders(), one))
+        self.assertEqual(other.look(2, 0).orders, Orders())
+        self.assertTrue(other.order(two, Orders()))
+
+    def test_times(self) -> None:
+        """When each append was done, by the wall clock, which may be set back."""
+        log, other = self.pair()
+        self.assertTrue(log.take('a', A, EMPTY, self.LONG))
+        moments = [1_000_000_000_000, 999_999_999_999, 1_700_000_000_123] + [1_700_000_000_123 + number for number in range(self.PAGE)]
+        for number, moment in enumerate(moments):
+            with mock.patch.object(time, 'time_ns', lambda: moment * 1_000_000 + 999_999):
+                add((log, other)[number % 2], ['start,1', 'move,1'])
+        self.assertEqual((log.times(1), other.times(2)), ({2 * number: moment for number, moment in enumerate(moments)}, {}))
+        here = be_idle(log, ('a', A))
+        self.assertTrue(log.finish(1, here.place, OPENING.next(None, ())))
+        self.assertEqual(len(other.times(1)), len(moments))
+        log.prune(2)
+        self.assertEqual((other.times(1), log.times(2)), ({}, {}))
+
     # Whatever is asked.
 
     def test_as_in_memory(self) -> None:
@@ -352,7 +422,7 @@ class Calls:
 
     def __init__(self, choice: random.Random, memory: MemoryLog) -> None:
         self.choice, self.memory = choice, memory
-        self.done = dict.fromkeys(('take', 'promise', 'append', 'finish', 'ask'), 0)
+        self.done = dict.fromkeys(('take', 'promise', 'append', 'finish', 'ask', 'order'), 0)
 
     def choose(self) -> Tuple[str, Callable[[Log], object]]:
         """The name of a call, and the call."""
@@ -379,6 +449,8 @@ class Calls:
         promise, rows = Promise(epoch, place), [f'{name},{number}' for number in range(choice.randint(1, 4))]
         wish = Opening(epoch + 1, 'bully,1,3,6', choice.choice([('a', 'b', 'c'), ('c', 'd', 'e')]), choice.choice([66, 500]))
         opening = self._opening().next(choice.choice([memory.wish, memory.wish, None, wish]), (1, 2, 3, 1, 2, 0))
+        orders, before = (Orders(frozenset(choice.sample('abc', 1)), choice.choice([None, {'a': life}])) for _ in range(2))
+        known = choice.choice([memory.orders, memory.orders, before, None])
         many, some = 8, 4
         asked: List[Tuple[int, str, Callable[[Log], object]]] = [
             (some, f'take {name} {life} {promise}', lambda log: log.take(name, life, promise, self.TTL)),
@@ -389,6 +461,7 @@ class Calls:
             (some, f'finish {promise} {opening}', lambda log: log.finish(epoch, place, opening)),
             (some, f'look {promise}', lambda log: looked(log, epoch, place)), (1, f'read {promise}', lambda log: list(log.read(epoch, place))),
             (1, f'ask {wish} {epoch}', lambda log: log.ask(wish, epoch)), (1, f'cancel {epoch}', lambda log: log.cancel(epoch)),
+            (2, f'order {orders} {known}', lambda log: log.order(orders, known)), (1, f'times {epoch}', lambda log: sorted(log.times(epoch))),
             (1, 'epochs', lambda log: log.epochs()), (1, f'opening {epoch}', lambda log: log.opening(epoch)),
             (1, 'opening', lambda log: log.opening()), (1, f'prune {epoch - 1}', lambda log: log.prune(epoch - 1)),
         ]  # fmt: skip
@@ -436,6 +509,7 @@ class Waits(Tests):
             lambda: other.take('1', A, EMPTY, self.LONG), lambda: other.take('2', B, EMPTY, self.SHORT), lambda: None,
             lambda: other.append(1, 0, ['recover,1']), lambda: other.release('1', A), lambda: other.take('1', B, Promise(1, 1), self.LONG),
             lambda: other.ask(wish, 1), lambda: other.cancel(1), lambda: other.promise('1', B, Promise(1, 1)) and other.append(1, 1, ['x', 'y']),
+            lambda: other.order(Orders(frozenset('2')), Orders()), lambda: other.order(Orders(lives={}), None),
             lambda: other.promise('1', B, Promise(1, 3)) and other.finish(1, 3, wish),
         ]  # fmt: skip
         for number, act in enumerate(acts):
@@ -499,9 +573,10 @@ class Waits(Tests):
             later.join()
 
     def test_a_wish_that_is_known(self) -> None:
-        """What the last look found to be wished for is no news, as long as it stands."""
+        """What the last look found to be wished for and ordered is no news, as long as it stands."""
         log, other = self.pair()
         self.assertTrue(other.ask(OPENING.after(None), 1))
+        self.assertTrue(other.order(Orders(frozenset('2'), {'1': A}), None))
         lives = log.look(1, 0).lives
         begun = time.monotonic()
         log.wait(1, 0, lives, Until.NEWS, 0.3)

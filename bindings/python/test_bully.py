@@ -6,10 +6,14 @@ import os
 import pickle
 import random
 import re
+import signal
+import shutil
 import subprocess
 import sys
+import tempfile
 import textwrap
 import threading
+import time
 import unittest
 from pathlib import Path
 from types import ModuleType
@@ -19,11 +23,14 @@ import bully
 from bully import Agent, Answer, Call, CallKind, NotLearned, Refused, Replica, Setup, State, Status, Verdict, VerdictKind, Want
 from bully import check, plan_table
 from bully.faults import FAULTS
+from bully.header import functions
 from bully.values import Event
 
 ROOT = Path(__file__).resolve().parents[2]
 EXAMPLES = sorted((ROOT / 'examples').glob('*.csv'))
 TWO = Setup(2, 3)
+IDLE_MAX, LEAST_USED = 60, 3.0  # seconds for which a test may wait, and how many of a processor one takes meanwhile that does something
+CLEANUP_MAX = 5  # seconds for each clean-up of a test that hung
 LARGEST = Setup(bully.NODES_MAX, bully.PARTITIONS_MAX, keeps=True)
 
 # What `docs/FORMATS.md` says of these texts.
@@ -117,19 +124,30 @@ class Headers(unittest.TestCase):
         named = re.findall(r'\bBULLY_([A-Z_]+)(?: =)? (\d+)\b', self.text)
         return {name: int(number) for name, number in named}
 
+    def statuses(self) -> Dict[int, str]:
+        """The names of the statuses, which stand in the header up to the functions that tell of them."""
+        listed = self.text[self.text.index('    BULLY_OK = 0') : self.text.index('bully_status_name(')]
+        return {int(number): name for name, number in re.findall(r'^ +BULLY_([A-Z_]+) = (\d+)', listed, re.MULTILINE)}
+
+    def test_functions(self) -> None:
+        """Each function of the header is known, with as many parameters as it has there."""
+        told = dict(re.findall(r'^\w.*\b(bully_\w+)\(([^)]*)\);$', self.text, re.MULTILINE))
+        self.assertGreater(len(told), 50)
+        wanted = {name: 0 if taken == 'void' else 1 + taken.count(',') for name, taken in told.items()}
+        self.assertEqual({name: len(takes) for name, _, takes in functions()}, wanted)
+
     def test_statuses(self) -> None:
-        named = self.numbers()
+        """Each status of the header has its exception, which has its name, and no other number has a name."""
+        statuses = self.statuses()
+        self.assertEqual(set(FAULTS), set(statuses) - {0})
+        for number in (*range(300), 0xFFFF_FFFF):
+            with self.subTest(number=number):
+                self.assertEqual(bully.status_name(number), statuses.get(number, '?'))
         for number, fault in FAULTS.items():
             with self.subTest(fault=fault.__name__):
-                name = re.sub(r'(?<!^)(?=[A-Z])', '_', fault.__name__).upper()
-                self.assertEqual(named[name], number)
-                self.assertEqual(bully.status_name(number), name)
-        self.assertEqual(len(FAULTS), 40)
-
-    def test_other_names(self) -> None:
-        self.assertEqual(bully.status_name(0), 'OK')
-        for number in (13, 19, 36, 39, 47, 49, 55, 0xFFFF_FFFF):
-            self.assertEqual(bully.status_name(number), '?')
+                self.assertEqual(re.sub(r'(?<!^)(?=[A-Z])', '_', fault.__name__).upper(), statuses[number])
+                self.assertIn(fault.__name__, bully.__all__)
+                self.assertIs(getattr(bully, fault.__name__), fault)
 
     def test_limits(self) -> None:
         named = self.numbers()
@@ -1426,13 +1444,13 @@ class Memory(unittest.TestCase):
 class Loading(unittest.TestCase):
     """How the library is found."""
 
-    def run_with(self, library: Optional[str], program: str) -> 'subprocess.CompletedProcess[str]':
+    def run_with(self, library: Optional[str], program: str, place: Path = Path(__file__).parent) -> 'subprocess.CompletedProcess[str]':
         environment = {name: value for name, value in os.environ.items() if name != 'BULLY_LIBRARY'}
         if library is not None:
             environment['BULLY_LIBRARY'] = library
-        environment['PYTHONPATH'] = str(Path(__file__).parent)
+        environment['PYTHONPATH'] = str(place)
         words = [sys.executable, '-c', program]
-        return subprocess.run(words, env=environment, stdout=subprocess.PIPE, stderr=subprocess.PIPE, universal_newlines=True)
+        return subprocess.run(words, env=environment, cwd=place, stdout=subprocess.PIPE, stderr=subprocess.PIPE, universal_newlines=True)
 
     def test_ways(self) -> None:
         folder = os.environ['BULLY_LIBRARY']
@@ -1453,11 +1471,38 @@ class Loading(unittest.TestCase):
                 self.assertEqual(ran.returncode, 1)
                 self.assertIn('OSError', ran.stderr)
 
+    def test_a_package_alone(self) -> None:
+        """One that was copied out of its tree takes the header that lies with the library, and says so if there is none."""
+        name = 'import bully; print(bully.status_name(0))'
+        with tempfile.TemporaryDirectory() as room:
+            shutil.copytree(Path(__file__).parent / 'bully', Path(room) / 'bully', ignore=shutil.ignore_patterns('__pycache__'))
+            self.assertEqual(self.run_with(os.environ['BULLY_LIBRARY'], name, Path(room)).stdout, 'OK\n')
+            self.assertIn('ImportError: bully.h is in none of its places', self.run_with(None, name, Path(room)).stderr)
+
 
 class CountingResult(unittest.TextTestResult):
-    """Counts what was tried: each part of a test by itself, and the rest of the test as one more."""
+    """Counts what was tried: each part of a test by itself, and the rest of the test as one more. A test that hangs fails, and
+    is the last one of its module: what it hangs by others may hang by, too."""
 
     passed = 0
+
+    def startTest(self, test: unittest.TestCase) -> None:
+        super().startTest(test)
+        self.used = time.process_time()
+        signal.signal(signal.SIGALRM, self.look)
+        signal.setitimer(signal.ITIMER_REAL, IDLE_MAX, IDLE_MAX)
+
+    def look(self, number: int, frame: object) -> None:
+        """Ends a test, or its clean-up, that only waits. The traceback tells for what."""
+        used, self.used = time.process_time() - self.used, time.process_time()
+        if used < LEAST_USED or self.shouldStop:
+            self.stop()
+            signal.setitimer(signal.ITIMER_REAL, CLEANUP_MAX, CLEANUP_MAX)
+            raise AssertionError(f'it does not end, and only waits, for {IDLE_MAX} s')
+
+    def stopTest(self, test: unittest.TestCase) -> None:
+        signal.setitimer(signal.ITIMER_REAL, 0)
+        super().stopTest(test)
 
     def addSuccess(self, test: unittest.TestCase) -> None:
         super().addSuccess(test)

@@ -1,13 +1,18 @@
 #!/usr/bin/env python3
 """Tests of logs in etcd, over servers of their own. `try` runs them; without the program `etcd` on the path they are skipped."""
 import contextlib
+import os
 import random
+import shutil
 import socket
+import subprocess
 import sys
+import tempfile
 import threading
 import time
 import unittest
 from base64 import b64decode, b64encode
+from pathlib import Path
 from typing import Any, Callable, Dict, List, Optional, Sequence, Tuple, Type
 from unittest import mock
 
@@ -17,6 +22,8 @@ from bully.etcd import EtcdLog
 from bully.gateway import Address, Client, Denied, Endpoint, one, read_address, value_of
 from bully.logs import SECOND, DamagedLog, ForeignLog, Holder, Log, LogError, LogExists, NoEpoch, NoLog, Unanswered
 from bully.member import Life, Promise, Until
+from bully.orders import Orders
+from bully.repairing import damage_of, repair
 from bully.stores import EtcdStore
 from epoch_laws import EpochLaws
 from etcd_servers import (
@@ -24,7 +31,7 @@ from etcd_servers import (
     prune_in_part, put_older,
 )  # fmt: skip
 from laws import EMPTY, OPENING, PATIENCE, A, B, C, Laws, Waits, add, be_idle, present, wait_until
-from test_stores import has_failed, race
+from test_stores import environment, has_failed, race
 
 LONG = 1000 * SECOND
 
@@ -100,6 +107,26 @@ class Proxy:
         self.lost.set()
 
 
+# Opens logs where no names are told. It says what came of that, and how many threads wait still.
+SILENT_NAMES = '''
+import socket, threading, time
+silent = socket.socket(socket.AF_INET, socket.SOCK_DGRAM)
+silent.bind(('127.0.0.1', 53))
+from bully.gateway import Client, read_address
+from bully.logs import Unanswered
+client = Client(read_address('etcd://nowhere.test,elsewhere.test/x'), 0.5, None, '', '')
+begun = time.monotonic()
+for _ in range(3):
+    client.begin()
+    try:
+        client.transact([], [])
+    except Unanswered as unanswered:
+        print(unanswered)
+took = time.monotonic() - begun
+print('asked' if b'nowhere' in silent.recv(512) else 'not asked')
+print('in time' if took < 5.0 else took)
+print(threading.active_count() > 3)
+'''
 TXN, GRANT, KEEPALIVE = b'POST /v3/kv/txn ', b'POST /v3/lease/grant ', b'POST /v3/lease/keepalive '
 PUT = b'request_put'
 
@@ -215,16 +242,20 @@ class Keys(InEtcd):
     def test_keys(self) -> None:
         log = self.created()
         self.assertTrue(log.take('größer', Life(17, 3), EMPTY, 2 * SECOND))
-        self.assertTrue(log.append(1, 0, ['recover,1', 'größer']))
+        with mock.patch.object(time, 'time_ns', lambda: 1_700_000_000_007_000_000):
+            self.assertTrue(log.append(1, 0, ['recover,1', 'größer']))
+        self.assertTrue(log.order(Orders(frozenset(['größer', 'a']), {'größer': Life(17, 3)}), Orders()))
         wish = Opening(2, 'bully,1,2,4', ('a', 'b'), 500)
         self.assertTrue(log.ask(wish, 1))
         wanted = {
             'opening/0000000001': OPENING.text().replace('{"epoch"', '{"form": 3, "epoch"'), 'first': '0000000001',
             'place': '0000000001/0000000002', 'log/0000000001/0000000000': 'recover,1\ngrößer\n', 'next': wish.text(), 'presence/life/größer': '17.3',
-            'presence/promise/größer': '0000000001/0000000000',
+            'presence/promise/größer': '0000000001/0000000000', 'time/0000000001/0000000000': '1700000000007',
+            'orders': '{"drained": ["a", "größer"], "paused": {"größer": [17, 3]}}',
         }  # fmt: skip
         pairs = self.server.keys(f'{self.prefix}/')
         found = {key[len(self.prefix) + 1 :]: decoded(pair['value']) for key, pair in pairs.items()}
+        self.assertRegex(found.pop('name'), '^3 [0-9a-f]{16}$')
         self.assertEqual(found, wanted)
         leased = {key for key, pair in pairs.items() if 'lease' in pair}
         self.assertEqual(leased, {f'{self.prefix}/presence/{each}/größer' for each in ('life', 'promise')})
@@ -498,10 +529,21 @@ class Prefixes(InEtcd):
         for words in (
             '', 'etcd', 'etcd:a/x', 'etcd:/a/x', 'http://a/x', 'etcd://a', 'etcd://a/', 'etcd://a//', 'etcd:///x', 'etcd://a,/x',
             'etcd://a:/x', 'etcd://:1/x', 'etcd://a:65536/x', 'etcd://a:b/x', 'etcd://::1/x', 'etcd://[::1/x', 'etcd://a/log',
-            'etcd://a/x/presence/y', 'etcd://a/\udc80',
+            'etcd://a/x/presence/y', 'etcd://a/x/opening/y', 'etcd://a/time/y', 'etcd://a/\udc80',
         ):  # fmt: skip
             with self.subTest(words=words), self.assertRaises(ValueError):
                 read_address(words)
+
+    @unittest.skipIf(os.getuid() != 0, 'only root can have a network of its own')
+    def test_silent_names(self) -> None:
+        """A call doesn't last longer than it is told, where nobody answers which address a name has: the C library waits for 5 s at least."""
+        with tempfile.TemporaryDirectory() as folder:
+            Path(folder, 'resolv.conf').write_text('nameserver 127.0.0.1\n')
+            within = f'ip link set lo up && mount --bind {folder}/resolv.conf /etc/resolv.conf && exec "$@"'
+            words = ['unshare', '--mount', '--net', 'sh', '-c', within, 'sh', sys.executable, '-c', SILENT_NAMES]
+            ran = subprocess.run(words, env=environment(), stdout=subprocess.PIPE, universal_newlines=True, check=True)
+        said = 'nowhere.test:2379: its name was not looked up in time; elsewhere.test:2379: its name was not looked up in time\n'
+        self.assertEqual(ran.stdout, 3 * said + 'asked\nin time\nFalse\n')
 
     def test_ipv6(self) -> None:
         try:
@@ -628,14 +670,14 @@ class Contents(InEtcd):
             lambda: log.read(1, 0), lambda: log.look(1, 0), lambda: log.append(1, 0, ['recover,2']), lambda: log.renew('a', A, LONG),
             lambda: log.take('b', B, EMPTY, LONG), lambda: log.release('a', A), lambda: log.promise('a', A, Promise(1, 1)), log.epochs,
             log.opening, lambda: log.ask(OPENING.after(None), 1), lambda: log.cancel(1), lambda: log.finish(1, 0, OPENING.after(None)),
-            lambda: log.wait(1, 0, {'a': A}, Until.NEWS, PATIENCE),
+            lambda: log.wait(1, 0, {'a': A}, Until.NEWS, PATIENCE), lambda: log.order(Orders(), None), lambda: log.times(1),
         ]  # fmt: skip
 
     def test_removed(self) -> None:
         log = self.begun()
-        self.server.delete(f'{self.prefix}/opening/', f'{self.prefix}/opening0')
+        self.server.delete(f'{self.prefix}/name')
         for call in self.calls(log):
-            self.refused(DamagedLog, call)
+            self.refused(NoLog, call)
         self.refused(DamagedLog, lambda: EtcdLog(self.address))
 
     def test_replaced(self) -> None:
@@ -645,6 +687,82 @@ class Contents(InEtcd):
         for call in self.calls(log):
             self.refused(ForeignLog, call)
         self.assertEqual(len(self.opened().read(1, 0)), 1)
+
+    def test_repaired(self) -> None:
+        """What isn't lawful is cut, also within an append, while nobody is present; and the next epoch begins."""
+        log = self.begun()
+        for rows in (['recover,1', 'recover,2'], ['recover,3', 'x', 'recover,1'], ['start,1']):
+            add(log, rows)
+        damage = damage_of(log)
+        assert damage is not None
+        self.assertEqual((damage.end, damage.place, damage.rows), (Promise(1, 6), 3, ['x', 'recover,1', 'start,1']))
+        self.assertFalse(repair(log, damage), 'a is present')
+        log.release('a', A)
+        self.assertTrue(log.ask(OPENING.after(None), 1))
+        self.assertTrue(repair(log, damage))
+        self.assertFalse(repair(log, damage))
+        self.assertEqual((list(log.read(1, 0)), log.epochs()), (['recover,1', 'recover,2', 'recover,3'], range(1, 3)))
+        self.assertEqual((list(log.look(2, 0).rows), log.look(2, 0).wish, damage_of(log)), ([], None, None))
+        self.assertEqual(list(log.times(1)), [0, 2], 'when the last one was done that stays in part, and none behind that')
+
+    def test_repaired_keys(self) -> None:
+        """What is no append is told, and removed."""
+        for key, count in (('x', 3), ('0000000000x', 2), ('0000000001', 2)):
+            log = self.begun(f'{self.address}/{key}')
+            for rows in (['recover,1', 'recover,2'], ['recover,3']):
+                add(log, rows)
+            log.release('a', A)
+            self.server.put(f'{self.prefix}/{key}/log/0000000001/{key}', 'recover,3\n')
+            with self.subTest(key=key):
+                self.refused_rows(log)
+                damage = damage_of(log)
+                assert damage is not None
+                self.assertEqual((damage.place, damage.why), (count, 'rows are missing, or something else is between them'))
+                self.assertTrue(repair(log, damage))
+                self.assertEqual((log.epochs(), damage_of(log)), (range(1, 3), None))
+                self.assertEqual(list(log.read(1, 0)), ['recover,1', 'recover,2', 'recover,3'][:count])
+
+    def refused_rows(self, log: EtcdLog) -> None:
+        with self.assertRaisesRegex(DamagedLog, 'something else is between them'):
+            log.look(1, 0)
+
+    def test_restored(self) -> None:
+        """An etcd that was restored from a snapshot, or wiped and its log made anew, isn't taken for what it was."""
+        for way in ('restored', 'made anew'):
+            servers = self.servers()
+            server, address, kept = servers.each[0], servers.address('x'), str(servers.each[0].folder / 'kept')
+            log = self.begun(address)
+            self.etcdctl('--endpoints', str(server.place.client), 'snapshot', 'save', kept)
+            add(log, ['recover,1', 'recover,2'])
+            server.kill()
+            shutil.rmtree(server.folder / server.name)
+            peer, folder = f'http://{server.place.peer}', str(server.folder / server.name)
+            if way == 'restored':
+                told = ('--initial-cluster', f'{server.name}={peer}', '--initial-advertise-peer-urls', peer)
+                self.etcdctl('snapshot', 'restore', kept, '--name', server.name, *told, '--data-dir', folder)
+            server.start()
+            wait_until(server.is_up)
+            if way == 'restored':
+                reads: List[Callable[[], object]] = [lambda: log.look(1, 0), log.epochs, lambda: log.renew('a', A, LONG)]
+                self.refuse(reads, DamagedLog, 'it went back, as one does that is restored')
+            else:
+                self.created(address)
+            for _ in range(20):  # so that its revision is higher than it was
+                server.put('x', 'y')
+            if way == 'restored':
+                beyond: List[Callable[[], object]] = [lambda: log.look(1, 2), lambda: log.append(1, 2, ['recover,1'])]
+                self.refuse(beyond, DamagedLog, 'read up to place 2 of epoch 1, and ends at 0 of 1')
+            else:
+                self.refuse(self.calls(log), ForeignLog, 'another log is in its place')
+
+    def refuse(self, calls: List[Callable[[], object]], fault: Type[LogError], why: str) -> None:
+        for number, call in enumerate(calls):
+            with self.subTest(call=number), self.assertRaisesRegex(fault, why):
+                call()
+
+    def etcdctl(self, *words: str) -> None:
+        environment = {**os.environ, 'ETCDCTL_API': '3'}
+        subprocess.run(['etcdctl', *words], env=environment, stdout=subprocess.DEVNULL, stderr=subprocess.DEVNULL, check=True)
 
     def test_compacted(self) -> None:
         """Whatever is compacted while it is read, all rows are read."""
@@ -871,13 +989,25 @@ class Watching(InEtcd):
         self.assertLess(self.wait(1), PATIENCE)
         later.join()
 
+    def test_old_events(self) -> None:
+        """What a watch tells late of what a look has found already is no news, nor does it bring back what is gone."""
+        self.assertTrue(self.direct.take('b', B, EMPTY, LONG))
+        found = self.server.keys(f'{self.prefix}/presence/')
+        self.direct.release('b', B)
+        self.log.look(1, 0)
+        for key, pair in found.items():
+            self.log._news.see({'kv': {**pair, 'key': coded(key)}})
+        self.assertEqual((set(self.log._news.presences()), self.log._news.is_fresh), ({'a'}, True))
+
     def test_begin_of_a_watch(self) -> None:
         """What comes between the look and the watch is seen."""
         watch = Client.watch
         self.assertTrue(self.direct.append(1, 0, ['recover,1']))
         acts: List[Tuple[Callable[[], object], Until]] = [
             (lambda: self.direct.promise('a', A, Promise(1, 1)), Until.ALL_IDLE), (lambda: self.direct.append(1, 1, ['recover,1']), Until.NEWS),
-            (lambda: self.direct.ask(OPENING.after(None), 1), Until.NEWS), (lambda: self.direct.take('b', B, Promise(1, 2), LONG), Until.NEWS),
+            (lambda: self.direct.ask(OPENING.after(None), 1), Until.NEWS),
+            (lambda: self.direct.order(Orders(frozenset('b')), None), Until.NEWS),
+            (lambda: self.direct.take('b', B, Promise(1, 2), LONG), Until.NEWS),
         ]  # fmt: skip
         for act, until in acts:
             self.log._end_watch()
@@ -995,7 +1125,7 @@ class Watching(InEtcd):
         later.start()
         self.assertLess(self.wait(0), PATIENCE)
         later.join()
-        with self.assertRaisesRegex(DamagedLog, 'removed'):
+        with self.assertRaisesRegex(NoLog, 'removed'):
             self.log.look(1, 0)
 
 
@@ -1227,6 +1357,26 @@ class Killed(InEtcd):
             return bool(present(log))
         except Unanswered:
             return True
+
+    def test_a_watch_without_a_leader(self) -> None:
+        """A server that knows no leader hears of nothing, so a watch there is over."""
+        servers = self.servers(3)
+        leader = servers.leader()
+        alone, other = (server for server in servers.each if server is not leader)
+        log = self.begun(servers.address('x', alone))
+        log.look(1, 0)
+        log.wait(1, 0, {'a': A}, Until.NEWS, 0.1)
+        self.assertLess(log._broken, 0, 'there is a watch')
+        for server in (leader, other):
+            server.pause()
+            self.addCleanup(server.resume)
+
+        def is_over() -> bool:
+            with contextlib.suppress(Unanswered):
+                log.wait(1, 0, {'a': A}, Until.NEWS, 0.1)
+            return log._broken > 0
+
+        wait_until(is_over)
 
     def test_late_end_by_a_leader_of_before(self) -> None:
         """A leader that was paused for longer than a lease, and comes back, doesn't end what was renewed meanwhile: nor does it take promises
@@ -1476,8 +1626,8 @@ class Overlooks(EtcdLog):
 
     def _see_all(self, answer: gateway.Answer, since: int) -> bool:
         keys, news = self._keys, self._news
-        for found, prefix, known in zip(answer.ranges[2:4], (keys.lives, keys.promises), (set(news.lives), set(news.promises))):
-            there = {keys.name(pair.key, prefix) for pair in gateway.pairs_of(found)}
+        for found, prefix, known in zip(answer.ranges[3:5], (keys.lives, keys.promises), (set(news.lives), set(news.promises))):
+            there = {keys.node(pair.key, prefix) for pair in gateway.pairs_of(found)}
             found['count'] = str(len(there | known if since else there))
         return super()._see_all(answer, since)
 

@@ -15,14 +15,14 @@ from unittest import mock
 from bully import Setup, settings, sqlite
 from bully.epochs import Opening, Token, setup_of
 from bully.logs import (
-    SECOND, DamagedLog, DiskFull, ForeignLog, Holder, Log, LogBusy, LogError, LogExists, MemoryLog, NoEpoch, NoLog, ReadOnlyLog,
-    rows_text,
+    SECOND, DamagedLog, DiskFull, ForeignLog, Holder, Log, LogBusy, LogError, LogExists, MemoryLog, NoEpoch, NoLog, OtherLog, ReadOnlyLog, Wanted,
+    nanoseconds_of_boot, rows_text,
 )  # fmt: skip
 from bully.member import Life, Promise, Until
 from bully.sqlite import SqliteLog
 from bully.stores import FileStore
 from epoch_laws import EpochLaws
-from laws import EMPTY, HEADER, OPENING, A, B, Clock, Laws, Waits, add, present
+from laws import EMPTY, HEADER, OPENING, PATIENCE, A, B, Clock, Laws, Waits, add, present
 
 LONG = 1000 * SECOND
 
@@ -120,6 +120,39 @@ class EpochsInFile(InFolder, EpochLaws):
         patch = mock.patch.object(sqlite, 'PRUNED_AT_ONCE', 7)
         patch.start()
         self.addCleanup(patch.stop)
+
+
+# Opens a log, and tells what came of it.
+OPENS = '''
+import sys
+from bully.logs import LogError
+from bully.sqlite import SqliteLog
+try:
+    SqliteLog(sys.argv[1]).close()
+    print('used')
+except LogError as fault:
+    print(fault)
+'''
+
+# Takes a presence for so many seconds, and tells what came of it.
+TAKES = '''
+import sys
+from bully.logs import SECOND, LogError
+from bully.member import Life, Promise
+from bully.sqlite import SqliteLog
+try:
+    print(SqliteLog(sys.argv[1]).take('b', Life(1, 1), Promise(1, 0), int(sys.argv[2]) * SECOND))
+except LogError as fault:
+    print(fault)
+'''
+
+
+def in_mounts(test: unittest.TestCase, mounted: str, *words: str) -> str:
+    """What a script of Python says, where this was mounted for it alone."""
+    if os.getuid() != 0:
+        test.skipTest('only root can mount')
+    command = ['unshare', '--mount', 'sh', '-c', f'{mounted} && exec "$@"', 'sh', sys.executable, '-c', *words]
+    return subprocess.run(command, env=environment(), stdout=subprocess.PIPE, universal_newlines=True, check=True).stdout
 
 
 class Files(InFolder):
@@ -273,21 +306,144 @@ except LogError as fault:
             with self.assertRaises(ForeignLog):
                 call()
 
+    def test_beside(self) -> None:
+        """A backup is copied over it, and what was beside it is taken away: who used it doesn't go on in what is in no folder any more."""
+        for ends in (('-wal', '-shm'), ('-wal',), ('-shm',)):
+            log = self.begun()
+            backup = self.path.read_bytes()
+            add(log, ['recover,1'])
+            self.path.write_bytes(backup)
+            for end in ends:
+                Path(f'{self.path}{end}').unlink()
+            calls: List[Callable[[], object]] = [
+                lambda: log.renew('a', A, LONG), lambda: log.take('b', B, EMPTY, LONG), lambda: log.append(1, 1, ['recover,2']),
+                lambda: log.look(1, 1), lambda: log.promise('a', A, Promise(1, 1)), lambda: log.wait(1, 1, {'a': A}, Until.NEWS, PATIENCE),
+            ]  # fmt: skip
+            for call in calls:
+                with self.subTest(ends=ends), self.assertRaisesRegex(OtherLog, 'its -wal or its -shm was taken away'):
+                    call()
+
+    def test_beside_a_link(self) -> None:
+        """The same by a symbolic link, which has nothing beside it; and it is told who keeps the lock."""
+        self.begun().close()
+        link = self.folder / 'link.db'
+        link.symlink_to(self.path)
+        log = self.closing(SqliteLog(link, 0.01))
+        with contextlib.closing(sqlite3.connect(self.path, isolation_level=None)) as other:
+            other.execute('begin immediate')
+            with self.assertRaisesRegex(LogBusy, f'locked by process {os.getpid()}$'):
+                log.renew('a', A, LONG)
+        for end in ('-wal', '-shm'):
+            Path(f'{self.path}{end}').unlink()
+        with self.assertRaisesRegex(OtherLog, 'its -wal or its -shm was taken away'):
+            log.renew('a', A, LONG)
+
+    def test_other_names(self) -> None:
+        """Who has a file by another name has another file beside it, so it isn't used."""
+        self.created().close()
+        other = self.folder / 'other.db'
+        os.link(self.path, other)
+        self.refused(ForeignLog, 'a hard link')
+        other.unlink()
+        other.symlink_to(self.path)
+        self.closing(SqliteLog(other))
+
+    def test_mounted(self) -> None:
+        """A folder may be mounted elsewhere, and no file alone."""
+        self.created().close()
+        elsewhere, alone = self.folder / 'elsewhere', self.folder / 'alone.db'
+        elsewhere.mkdir()
+        alone.touch()
+        said = in_mounts(self, f'mount --bind {self.path} {alone}', OPENS, str(alone))
+        self.assertRegex(said, f'^{alone}: it is mounted alone')
+        self.assertEqual(in_mounts(self, f'mount --bind {self.folder} {elsewhere}', OPENS, str(elsewhere / self.path.name)), 'used\n')
+
     def test_earlier_boot(self) -> None:
-        """What was held before the machine booted isn't held any more, whatever the clock says."""
-        log = self.begun()
+        """What was held before the machine booted isn't held any more, though its end hasn't come by the clock that began again."""
+        self.begun().close()
+        clock = mock.patch.object(sqlite, 'nanoseconds_of_boot', Clock())
+        clock.start()
+        self.addCleanup(clock.stop)
+        self.change('update presence set since = since + 3600 * 1000000000')
         with mock.patch.object(sqlite, 'boot_name', lambda: 'another'):
             later = self.opened()
         self.assertEqual(present(later), {})
         self.assertFalse(later.append(1, 0, ['recover,1']))
         self.assertFalse(later.renew('a', A, LONG))
         self.assertFalse(later.promise('a', A, Promise(1, 5)))
-        self.assertTrue(later.take('a', B, EMPTY, LONG))
-        self.assertFalse(log.renew('a', A, LONG))
+        self.assertTrue(later.take('a', B, EMPTY, 5 * SECOND))
+        self.assertTrue(later.renew('a', B, LONG))
+
+    def test_two_boots(self) -> None:
+        """A machine has one boot at a time: of two over one file the earlier one is refused, also when it comes again. By one clock the later
+        one waits until no presence of the earlier one may be held."""
+        log, clock = self.begun(), Clock()
+        with mock.patch.object(sqlite, 'boot_name', lambda: 'another'):
+            later = self.opened()
+        for ttl in (2 * LONG, SECOND):
+            with self.assertRaisesRegex(LogBusy, 'another boot may still hold presences'):
+                later.take('b', B, EMPTY, ttl)
+            self.assertTrue(log.renew('a', A, LONG))
+        self.assertFalse(later.cut(EMPTY, 0, '', OPENING.next(None, ())), 'somebody is present')
+        clock.now = nanoseconds_of_boot() + 2 * LONG
+        with mock.patch.object(sqlite, 'nanoseconds_of_boot', clock):
+            self.assertTrue(later.take('b', B, EMPTY, LONG))
+        calls: List[Callable[[], object]] = [
+            lambda: log.renew('a', A, LONG), lambda: log.append(1, 0, ['recover,1']), lambda: log.look(1, 0), lambda: SqliteLog(self.path),
+            lambda: log.take('a', A, EMPTY, LONG), lambda: log.wait(1, 0, {'a': A}, Until.NEWS, PATIENCE), lambda: log.ask(OPENING.after(None), 1),
+        ]  # fmt: skip
+        for call in calls:
+            with self.assertRaisesRegex(ForeignLog, 'another boot uses it behind this one'):
+                call()
+        self.assertTrue(later.renew('b', B, LONG))
+
+    def test_two_containers(self) -> None:
+        """Where a container has a boot of its own, as it sees it."""
+        log = self.begun()
+        (self.folder / 'boot').write_text('another\n')
+        seen = f'mount --bind {self.folder}/boot /proc/sys/kernel/random/boot_id'
+        for seconds in ('2000', '5'):
+            self.assertEqual(in_mounts(self, seen, TAKES, str(self.path), seconds), f'{self.path}: another boot may still hold presences\n')
+        log.release('a', A)
+        self.assertEqual(in_mounts(self, seen, TAKES, str(self.path), '5'), 'True\n')
+        with self.assertRaisesRegex(ForeignLog, 'another boot uses it behind this one'):
+            log.renew('a', A, LONG)
+
+    def test_bad_presence(self) -> None:
+        for number, asked in enumerate(("life = 'x'", "life = '1.x'", "epoch = 'x'", "until = 'x'")):
+            log = self.begun()
+            self.change(f'update presence set {asked}')
+            with self.subTest(number=number), self.assertRaisesRegex(DamagedLog, 'the presence of a is none'):
+                log.look(1, 0)
+
+    def test_another_log(self) -> None:
+        """One that was written into the same file has another name."""
+        log = self.begun()
+        self.change("update changes set name = 'another'")
+        calls: List[Callable[[], object]] = [lambda: log.renew('a', A, LONG), lambda: log.append(1, 0, ['recover,1']), lambda: log.look(1, 0)]
+        for call in calls:
+            with self.assertRaisesRegex(ForeignLog, 'another log is in its place'):
+                call()
+
+    def test_restored(self) -> None:
+        """A backup is written over it while it is used: who has read more ends."""
+        log = self.begun()
+        backup = sqlite3.connect(self.folder / 'backup')
+        with contextlib.closing(backup), contextlib.closing(sqlite3.connect(self.path)) as file:
+            file.backup(backup)
+            add(log, ['recover,1', 'start,1'])
+            reader = self.opened()
+            self.assertEqual(len(reader.look(1, 2).rows), 0)
+            backup.backup(file)
+        calls: List[Callable[[], object]] = [lambda: reader.look(1, 2), lambda: log.append(1, 2, ['recover,2']), lambda: log.read(1, 2)]
+        for call in calls:
+            with self.assertRaisesRegex(DamagedLog, 'read up to place 2 of epoch 1, and ends at 0 of 1: its store went back'):
+                call()
 
     def test_what_reaches_the_disk(self) -> None:
         """What is appended does; presences and promises need not."""
         log = self.begun()
+        self.assertEqual(log._one('pragma synchronous'), 1)
         told: List[str] = []
         log._file.set_trace_callback(told.append)
         calls: List[Callable[[], object]] = [
@@ -580,9 +736,9 @@ class ForWhoWasIdle(MemoryLog):
     """A wait ends for who was idle before."""
 
     def has_news(
-        self, epoch: int, place: int, lives: Mapping[str, Life], wish: Optional[Opening], until: Until, before: AbstractSet[str],
+        self, epoch: int, place: int, lives: Mapping[str, Life], wanted: Wanted, until: Until, before: AbstractSet[str],
     ) -> bool:  # fmt: skip
-        return super().has_news(epoch, place, lives, wish, until, frozenset())
+        return super().has_news(epoch, place, lives, wanted, until, frozenset())
 
 
 class SlowSql(SqliteLog):
@@ -594,7 +750,7 @@ class SlowSql(SqliteLog):
         time.sleep(0.01)
         with self._transaction():
             end = self._standing().end.place
-            self._file.execute('insert into log values (?, ?, ?)', (epoch, end, rows_text(rows)))
+            self._file.execute('insert into log values (?, ?, ?, null)', (epoch, end, rows_text(rows)))
             self._file.execute('update epochs set count = ? where epoch = ?', (end + len(rows), epoch))
         return True
 

@@ -5,14 +5,14 @@ answer yet. So it may not change what it begins with before its last answer, and
 """
 from __future__ import annotations
 
-from typing import AbstractSet, Callable, Dict, List, Mapping, NamedTuple, Optional, TypeVar, Union
+from typing import AbstractSet, Callable, Dict, List, Mapping, NamedTuple, Optional, Tuple, TypeVar, Union
 from unittest import mock
 
 from bully import etcd
 from bully.epochs import Opening
 from bully.etcd import EtcdLog, place_text
 from bully.gateway import Address, Client, Json, Refusal, Silent, behind
-from bully.logs import are_idle
+from bully.logs import Wanted, are_idle, orders_of
 from bully.member import Life, Promise, Until
 from bully.sqlite import life_text
 from cluster import SERVERS, Cluster, Outcome
@@ -43,8 +43,8 @@ class Pending(BaseException):
 class Journal:
     """What a call has seen up to now: moments, and what became of its requests."""
 
-    def __init__(self, clock: Callable[[], float], turn: int) -> None:
-        self.turn = turn  # the server that was asked first
+    def __init__(self, clock: Callable[[], float], turn: int, seen: Tuple[int, int]) -> None:
+        self.turn, self.seen = turn, seen  # the server that was asked first, and what was known then
         self._clock = clock
         self._seen: List[Union[float, Outcome]] = []
         self._place = 0
@@ -89,12 +89,12 @@ class Asking(Client):
 
     def begun(self) -> Journal:
         """The journal of a call that begins now."""
-        return Journal(self.cluster.clock, self._turn)
+        return Journal(self.cluster.clock, self._turn, self.seen)
 
     def attempt(self, journal: Journal, call: Callable[[], Told]) -> Told:
         """What comes of the call, as far as the journal goes. Raises Pending, and what the call raises."""
         journal.rewind()
-        self.journal, self._turn = journal, journal.turn
+        self.journal, self._turn, self.seen = journal, journal.turn, journal.seen
         try:
             return call()
         finally:
@@ -138,13 +138,14 @@ class KeptLog(EtcdLog):
         """Nobody waits by this."""
 
     def has_news(
-        self, epoch: int, place: int, lives: Mapping[str, Life], wish: Optional[Opening], until: Until, before: AbstractSet[str],
+        self, epoch: int, place: int, lives: Mapping[str, Life], wanted: Wanted, until: Until, before: AbstractSet[str],
     ) -> bool:  # fmt: skip
-        """Whether a wait is over before its time behind a look that found this wish, and these idle: of etcd as it is, whatever a server
-        knows."""
+        """Whether a wait is over before its time behind a look that found this wish and these orders, and these idle: of etcd as it is, whatever
+        a server knows."""
         there, here = self.client.cluster.keys, place_text(Promise(epoch, place)).encode()
         end, wished = there.get(self._keys.place).value, there.get(self._keys.next).value
-        if end != here or (None if wished is None else Opening.parse(wished.decode())) != wish:
+        orders = orders_of(self.address, there.get(self._keys.orders).value)
+        if end != here or (None if wished is None else Opening.parse(wished.decode()), orders) != wanted:
             return True
         told = {name.encode(): life_text(life).encode() for name, life in lives.items()}
         return self._below(self._keys.lives) != told or are_idle(until, self._below(self._keys.promises), here, {name.encode() for name in before})

@@ -2,6 +2,7 @@
 from __future__ import annotations
 
 import random
+from dataclasses import replace
 from typing import AbstractSet, Dict, List, Mapping, NamedTuple, Optional, Sequence, Type
 
 import planted
@@ -9,12 +10,13 @@ from asking import KeptLog
 from bully.epochs import Opening
 from bully.etcd import Held, place_text, same
 from bully.gateway import Json, Pair, number_is, one, pairs_of, put, value_is, value_of
-from bully.logs import Holder, MemoryLog, Unanswered, rows_text
-from bully.member import Core, Life, Promise, Request, Until
+from bully.logs import Found, Holder, MemoryLog, Unanswered, Wanted, rows_text
+from bully.member import Core, Life, Promise, Request, Seen, Until
+from bully.orders import Orders
 from bully.sqlite import life_text
 from over_etcd import OverEtcd
 from over_memory import MemoryStore, OverMemory
-from settling import Maker, Simulation, Trouble, Wrong
+from settling import Maker, Ordered, Simulation, Trouble
 
 
 # ---- Logs in memory.
@@ -151,9 +153,55 @@ class WakesForTheIdle(BrokenLog):
     """A wait is over if one is idle, also who was so before."""
 
     def has_news(
-        self, epoch: int, place: int, lives: Mapping[str, Life], wish: Optional[Opening], until: Until, before: AbstractSet[str],
+        self, epoch: int, place: int, lives: Mapping[str, Life], wanted: Wanted, until: Until, before: AbstractSet[str],
     ) -> bool:  # fmt: skip
-        return super().has_news(epoch, place, lives, wish, until, frozenset())
+        return super().has_news(epoch, place, lives, wanted, until, frozenset())
+
+
+class ToldOtherwise(BrokenLog):
+    """Members are told of other orders than there are."""
+
+    def told(self, found: Found) -> Orders:
+        raise NotImplementedError
+
+    def look(self, epoch: int, place: int) -> Found:
+        found = super().look(epoch, place)
+        return found._replace(orders=self.told(found)) if epoch else found  # who gives orders looks at no epoch
+
+    def has_news(
+        self, epoch: int, place: int, lives: Mapping[str, Life], wanted: Wanted, until: Until, before: AbstractSet[str],
+    ) -> bool:  # fmt: skip
+        return super().has_news(epoch, place, lives, (wanted[0], self.orders), until, before)
+
+
+class TellsNoPause(ToldOtherwise):
+    """Looks tell of no pause."""
+
+    def told(self, found: Found) -> Orders:
+        return replace(found.orders, lives=None)
+
+
+class PausesAnew(ToldOtherwise):
+    """Whoever is present now counts as one that was when the group was paused."""
+
+    def told(self, found: Found) -> Orders:
+        return replace(found.orders, lives=found.lives) if found.orders.is_paused else found.orders
+
+
+class ForgetsDrains(BrokenLog):
+    """No node is drained once an epoch has ended."""
+
+    def finish(self, epoch: int, place: int, opening: Opening) -> bool:
+        done = super().finish(epoch, place, opening)
+        self.orders = replace(self.orders, drained=frozenset()) if done else self.orders
+        return done
+
+
+class MeetsNoStranger(Core):
+    """It doesn't wait for strangers, and is told of one in each pause."""
+
+    def looked(self, now: int, seen: Seen) -> None:
+        super().looked(now, replace(seen, has_strangers=False))
 
 
 # ---- Logs in etcd.
@@ -410,6 +458,10 @@ BUGS: Dict[str, Bug] = {
     'a promise that was not answered is forgotten': Bug(MemoryLog, 366, 'is present and works at', planted.ForgetsPromise),
     'at rest whoever is present': Bug(MemoryLog, 3, 'no rest', planted.RestsWithAnybody),
     'always room': Bug(MemoryLog, 1, 'rows of', planted.HasAlwaysRoom),
+    'a pause is told to nobody': Bug(TellsNoPause, 1, 'in a pause', trouble=Ordered),
+    'who comes in a pause counts as there before': Bug(PausesAnew, 2, 'in a pause', trouble=Ordered),
+    'nobody meets a stranger in a pause': Bug(MemoryLog, 4, 'in a pause', MeetsNoStranger, Ordered),
+    'no node is drained behind an end': Bug(ForgetsDrains, 19, 'no rest: orders are', trouble=Ordered),
     # In etcd.
     'etcd: a promise names a lease': Bug(PromisesUnderLease, 198, 'a presence is none', trouble=SlowPromises),
     'etcd: a life moves to a new lease alone': Bug(MovesLifeAlone, 1, 'a presence is none'),
@@ -420,7 +472,7 @@ BUGS: Dict[str, Bug] = {
     'etcd: any life is released': Bug(ReleasesAnyLifeThere, 15, 'works on what'),
     'etcd: rows are appended at any place': Bug(AppendsAnyPlaceThere, 1, 'rows stand at'),
     'etcd: rows are appended while not all are idle': Bug(AppendsAnywayThere, 1, 'is present and works at', planted.AppendsAnyway),
-    'etcd: reads are serializable': Bug(ReadsAlone, 6, 'does not let time go on'),
+    'etcd: reads are serializable': Bug(ReadsAlone, 1, 'it went back'),
     'etcd: a renewal counts whoever tells it': Bug(TrustsRenewals, 9, 'and it is sure for'),
     'etcd: a lease is kept under another leader': Bug(KeepsLease, 1, 'and it is sure for'),
     'etcd: a move that was not answered is forgotten': Bug(ForgetsMoves, 1474, 'and it is sure for'),
@@ -452,20 +504,3 @@ def group_of(bug: Bug, seed: int) -> Simulation:
         log_type = log
 
     return OverMemory(seed, bug.make, Broken, bug.trouble)
-
-
-def shown(bug: Bug, seed: int) -> Optional[str]:
-    """What the seed shows of the bug, if it shows it."""
-    simulation = group_of(bug, seed)
-    try:
-        simulation.run()
-    except Wrong as wrong:
-        return str(wrong)
-    finally:
-        simulation.close()
-    return None
-
-
-def first_seed(bug: Bug, last: int) -> int:
-    """The first seed that shows it, if one up to the last does; else 0."""
-    return next((seed for seed in range(1, last + 1) if shown(bug, seed) is not None), 0)

@@ -8,7 +8,7 @@ from typing import Callable, Dict, List, Optional, Sequence
 
 from bully.gateway import Endpoint
 from etcd_servers import Place, Server, Servers
-from groups import NAMES, Group
+from groups import NAMES, PATIENCE, Group
 from laws import wait_until
 from namespaces import CLIENTS, PEERS, Network
 
@@ -133,7 +133,7 @@ class Faults:
         self.send_servers(Server.pause)
         member = self.group.members.pop(name)
         member.kill()
-        member.wait()
+        member.wait(PATIENCE)
         self.group.begin(name)
         wait_until(lambda: 'in time' in said.read_text()[before:])
         self.come_to_rest('the end of a pause of all servers, in which a member began', partial(self.send_servers, Server.resume))

@@ -16,7 +16,7 @@ from bully.command import parser
 from bully.logs import Log, Unanswered
 from bully.stores import store_of
 from bully.view import GroupView, LogView
-from processes import children, own_memory, processor_seconds, send_all, worker_descriptors
+from processes import children, close_all, own_memory, processor_seconds, send_all, workers_of
 from tables import kept, most_kept, owners_by_name
 
 ROOT = Path(__file__).resolve().parents[2]
@@ -30,7 +30,7 @@ events = 1000
 turns = 1
 names = %s
 """
-PATIENCE = 120.0  # seconds that anything may take
+PATIENCE = 60.0  # seconds that anything may take: who comes again and again counts only behind a third of that
 ROW = 64  # bytes that a row of a worker has at most
 MEMORY = 24.0  # MiB that an idle member and its guard have of their own
 
@@ -63,6 +63,7 @@ class Work:
 
     def __init__(self, folder: Path, partitions: int) -> None:
         self.folder, self.partitions = folder, partitions
+        self.worker = [sys.executable, '-I', '-S', str(HERE / 'worker.py'), str(folder)]  # its words
         folder.mkdir()
 
     def sizes(self) -> List[int]:
@@ -98,15 +99,15 @@ class Group:
 
     def __init__(
         self, folder: Path, stores: Dict[str, str], ttl: float, within: Callable[[str], Sequence[str]] = lambda _: (),
-        names: Sequence[str] = NAMES, partitions: int = PARTITIONS, words: Sequence[str] = (),
+        names: Sequence[str] = NAMES, partitions: int = PARTITIONS, words: Sequence[str] = (), work: Callable[[Path, int], Work] = Work,
     ) -> None:  # fmt: skip
         """A new group. The store is told for each member, and for who looks at them (''). `within` has the words by which a process is
-        begun where a member is; `words` are more ones for each member."""
+        begun where a member is; `words` are more ones for each member; and `work` makes what has the work, in a folder."""
         self.folder, self.ttl, self.words = folder, ttl, list(words)
         self.stores, self.within = stores, within
         self.configs = 0
         self.config = self.configured(names, partitions)
-        self.work = Work(folder / 'work', partitions)
+        self.work = work(folder / 'work', partitions)
         self.members: Dict[str, 'subprocess.Popen[bytes]'] = {}
         self.passed = self.failed = 0
         self.times: Dict[str, Times] = {}
@@ -141,8 +142,7 @@ class Group:
 
     def begin(self, name: str) -> None:
         """A process for the node."""
-        worker = [sys.executable, '-I', '-S', str(HERE / 'worker.py'), str(self.work.folder)]
-        more = ['--config', str(self.config), '--node', name, '--ttl', str(self.ttl), *self.words, '--', *worker]
+        more = ['--config', str(self.config), '--node', name, '--ttl', str(self.ttl), *self.words, '--', *self.work.worker]
         self.members[name] = self.command('run', *more, member=name)
 
     def begin_all(self, names: Sequence[str] = NAMES) -> None:
@@ -201,13 +201,14 @@ class Group:
             time.sleep(0.01)
         return None
 
-    def goes_on(self, end: float) -> Optional[float]:
-        """Waits until one more unit is done on each partition, by the token of the table. When that was."""
+    def goes_on(self, end: float, but: str = '') -> Optional[float]:
+        """Waits until one more unit is done on each partition, but those of that node, by the token of the table. When that was."""
         before = self.work.sizes()
         while time.monotonic() < end:
-            shown = self.look()
-            are_done = all(size > earlier for size, earlier in zip(self.work.sizes(), before))
-            if shown is not None and are_done and set(self.work.last_tokens()) == {shown.token}:
+            shown, sizes, tokens = self.look(), self.work.sizes(), self.work.last_tokens()
+            others = [partition for partition, owner in enumerate(shown.owners) if owner != but] if shown is not None else []
+            are_done = all(sizes[partition] > before[partition] for partition in others)
+            if shown is not None and are_done and {tokens[partition] for partition in others} == {shown.token}:
                 return time.monotonic()
             time.sleep(0.01)
         return None
@@ -255,13 +256,53 @@ class Group:
         """The member is killed, and then another process comes for its node."""
         member = self.members.pop(name)
         self.come_to_rest('a death', member.kill)
-        member.wait()
+        member.wait(PATIENCE)
         self.come_to_rest('a return', lambda: self.begin(name))
+
+    def order(self, *words: str) -> None:
+        """An order is given."""
+        self.count(self.command(*words).wait(PATIENCE) == 0, f'{" ".join(words)} failed')
+
+    def drain(self, name: str) -> None:
+        """The node is drained, and taken back. Its process stays."""
+        drained, given = self.members.pop(name), []
+        self.come_to_rest('a drain', lambda: given.append(self.command('drain', name)))
+        self.count(given[0].wait(PATIENCE) == 0, 'a drain failed')
+        self.count(drained.poll() is None, f'{name} was drained, and ended with status {drained.returncode}')
+        self.members[name] = drained
+        self.come_to_rest('the end of a drain', lambda: self.order('undrain', name))
+
+    def halt(self, name: str) -> None:
+        """In a pause of the group the member is killed, and another process comes for its node: the others work on, and nothing is appended."""
+        self.order('pause')
+        before, member = self.show(), self.members.pop(name)
+        member.kill()
+        member.wait()
+        for is_present in (False, True):
+            if is_present:
+                self.begin(name)
+            self.count(self.sees(name, is_present), f'{name} is {"not " if is_present else ""}present')
+            for _ in range(3):
+                self.count(self.goes_on(time.monotonic() + PATIENCE, name) is not None, 'the others do not work on in a pause')
+            after = self.show()
+            same = (after.epoch, after.rows, after.token) == (before.epoch, before.rows, before.token)
+            self.count(same and after.is_paused, f'in a pause the group has {after.rows} rows, and had {before.rows}')
+        self.come_to_rest('the end of a pause of the group', lambda: self.order('resume'))
+
+    def sees(self, name: str, is_present: bool) -> bool:
+        """Waits until the node is present, or isn't. Whether that came."""
+        end = time.monotonic() + PATIENCE
+        while (name in present_in(self.show())) != is_present:
+            if time.monotonic() > end:
+                return False
+            time.sleep(0.01)
+        return True
 
     def pause(self, name: str, seconds: float, whom: str) -> None:
         """The member, its worker or both are stopped for so long; a member for more than the ttl until the others are at rest."""
         paused = self.members[name]
-        workers = [] if whom == 'member' else worker_descriptors(paused.pid)
+        workers = [] if whom == 'member' else workers_of(paused.pid)
+        self.count(whom == 'member' or bool(workers), f'{name} has no worker to pause')
 
         def send(number: int) -> None:
             if whom != 'worker':
@@ -276,8 +317,7 @@ class Group:
             else:
                 self.pause_for_long(name, whom, send)
         finally:
-            for worker in workers:
-                os.close(worker)
+            close_all(workers)
 
     def pause_for_long(self, name: str, whom: str, send: Callable[[int], None]) -> None:
         """The member is stopped until the others are at rest without it."""
@@ -328,7 +368,7 @@ class Group:
             trace = '\n'.join([log.opening(epoch).header, *log.read(epoch, 0), '']).encode()
             self.judge_trace(trace, f'the log of epoch {epoch}')
             if program is not None:
-                annotated = subprocess.run([program, 'annotate'], input=trace, stdout=subprocess.PIPE, check=False)
+                annotated = subprocess.run([program, 'annotate'], input=trace, stdout=subprocess.PIPE, timeout=PATIENCE, check=False)
                 self.count(annotated.returncode == 0, f'`bully annotate` ends with status {annotated.returncode}')
                 self.judge_trace(annotated.stdout, f'the same with everything said, {annotated.stdout.count(10) - 1} rows')
         log.close()
@@ -371,7 +411,7 @@ class Group:
         """Whatever is left is ended."""
         for member in self.members.values():
             member.kill()
-            member.wait()
+            member.wait(PATIENCE)
         self.view.close()
 
 

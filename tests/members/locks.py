@@ -12,7 +12,7 @@ from typing import List, Sequence
 from etcd_servers import Servers
 from laws import wait_until
 
-PATIENCE = 60.0
+PATIENCE = 30.0
 
 
 class Contender:

@@ -14,36 +14,36 @@ from bully import logs
 from bully.epochs import FIRST, Opening
 from bully.etcd import AGAIN, FEW, place_of
 from bully.gateway import Json, Silent, behind
-from bully.logs import SECOND, LogError, NoEpoch, Unanswered
-from bully.member import Ask, Life, Promise, Until, Wait
+from bully.logs import SECOND, LogError, NoEpoch, Unanswered, orders_of
+from bully.member import Ask, Promise, Until, Wait
 from bully.member import Request as Asked
+from bully.orders import Orders
 from bully.settings import Settings
 from bully.sqlite import life_of
 from cluster import SERVERS, Cluster, Outcome, Version, Weather, interval, pair_told, weather_of
-from over_memory import FoundInLog, LogMember, OverMemory, epoch_of
+from over_memory import FoundInLog, LogMember, LogStore, OverMemory, epoch_of
 from settling import GONE, Maker, Member, Trouble, Wrong
-from store import Epoch, Found, Lease
+from store import Epoch, Lease
 
 SHORTEST = 10_000_000  # nanoseconds until somebody asks again
 TROUBLES_OF_ETCD = ('a leader is lost', 'a presence ends with its lease', 'a watch tells nothing')
 
 
-class EtcdStore:
-    """What is judged of a log in etcd, and what whoever resizes a group asks of it, which is answered at once."""
+class EtcdStore(LogStore):
+    """What is judged of a log in etcd."""
 
-    kept_from = 0
+    log: KeptLog
 
     def __init__(self, cluster: Cluster, settings: Settings, limit: int) -> None:
         self.cluster = cluster
-        self.epochs: List[Epoch] = []
+        self._epochs: List[Epoch] = []
         self.leases: Dict[str, Lease] = {}
         self.log = made(cluster, Opening.first(settings.setup.header(), settings.names, limit))
         self.see([self.log._keys.opening(FIRST)])
 
     @property
-    def epoch(self) -> Epoch:
-        """The current one."""
-        return self.epochs[-1]
+    def epochs(self) -> List[Epoch]:
+        return self._epochs
 
     def below(self, prefix: bytes) -> Dict[str, bytes]:
         """The values of all keys that begin so, by what is behind that."""
@@ -77,35 +77,15 @@ class EtcdStore:
         return what
 
     def held(self) -> Dict[str, Lease]:
-        """Who is present, by name."""
         return self.leases
 
-    def holds(self, name: str, life: Life) -> bool:
-        lease = self.leases.get(name)
-        return lease is not None and lease.life == life
-
-    def has_news(self, epoch: int, found: Found, until: Until) -> bool:
-        assert isinstance(found, FoundInLog)
-        return self.log.has_news(epoch, found.standing.place, found.lives, found.told.wish, until, found.idle)
-
     @property
-    def wish(self) -> Optional[Settings]:
-        wished = self.cluster.keys.get(self.log._keys.next).value
-        return None if wished is None else Opening.parse(wished.decode()).settings
-
-    @wish.setter
-    def wish(self, settings: Optional[Settings]) -> None:
-        opening = self.log.opening()
-        if settings is None or opening.is_of(settings):
-            self.log.cancel(opening.epoch)
-        else:
-            self.log.ask(opening.wish(settings), opening.epoch)
+    def orders(self) -> Orders:
+        return orders_of(self.log.address, self.cluster.keys.get(self.log._keys.orders).value)
 
     def wished(self) -> Optional[Settings]:
-        return self.wish
-
-    def prune(self) -> None:
-        self.log.prune(self.epoch.number)
+        wished = self.cluster.keys.get(self.log._keys.next).value
+        return None if wished is None else Opening.parse(wished.decode()).settings
 
 
 class Call:
@@ -308,7 +288,7 @@ class Watched(EtcdMember):
         here = Promise(self.epoch, self.place)
         known, idle = log._told_idle
         before = idle if known == here else frozenset()
-        return log._news.awaited(here, found.lives, wait.until, log._told_wish, before)()
+        return log._news.awaited(here, found.lives, wait.until, log._told_wanted, before)()
 
     def hear(self, wait: Wait) -> bool:
         """Whether there is what it waits for, once what is due has been told."""

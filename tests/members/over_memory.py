@@ -4,18 +4,32 @@ A member asks the log as `bully.running` does. What is judged is read from the l
 """
 from __future__ import annotations
 
-from dataclasses import dataclass
+from contextlib import suppress
+from dataclasses import dataclass, replace
 from functools import cached_property, partial
-from typing import Callable, Dict, List, Optional, Tuple, Type
+from typing import AbstractSet, Callable, Dict, List, Mapping, Optional, Protocol, Sequence, Set, Tuple, Type, cast
 
-from bully import logs
+from bully import Status, logs, ordering
+from bully.asks import Asker
 from bully.epochs import FIRST, Opening
 from bully.logs import MemoryLog
-from bully.member import Ask, Life, Presence, Promise, Request, Seen, Until
+from bully.looks import awaited, seen_of
+from bully.member import Ask, Core, Ending, Life, Promise, Request, Seen, Until, Wait
 from bully.member import Opening as Terms
+from bully.orders import Orders
 from bully.settings import Settings
-from settling import Maker, Member, Simulation, StoreMaker, Trouble
+from bully.stores import BadWords
+from plain import Plain
+from settling import Maker, Member, Simulation, StoreMaker, Trouble, Wrong
 from store import Epoch, Found, Lease, Standing, table_of
+
+
+CHANGES = {Request.APPEND: 'an append', Request.FINISH: 'the end of an epoch'}
+NEVER = 2**63  # nanoseconds
+TROUBLES_OF_ORDERS = [
+    'a node is drained', 'a drained node comes back', 'a group is paused', 'members work on in a pause beside one that is gone',
+    'a change is finished in a pause',
+]  # fmt: skip
 
 
 @dataclass(frozen=True)
@@ -42,47 +56,54 @@ def terms_of(opening: Opening, name: str) -> Optional[Terms]:
     return Terms(opening.header, opening.epoch, opening.names.index(name) + 1, opening.limit, opening.table or None)
 
 
-class MemoryStore:
-    """What is judged of a log in memory, and what whoever resizes a group asks of it."""
+class Watchable(logs.Log, Protocol):
+    """A log that tells whether a wait is over."""
 
-    log_type: Type[MemoryLog] = MemoryLog
+    def has_news(self, epoch: int, place: int, lives: Mapping[str, Life], wanted: logs.Wanted, until: Until, before: AbstractSet[str]) -> bool:
+        """Behind a look that found this to be wanted, and these idle up to that place."""
+
+
+class LogStore:
+    """What is judged of a log of the package, and what whoever resizes a group asks of it, which is answered at once."""
+
+    log: Watchable
     kept_from = 0  # no member is told that an epoch was taken away: looks tell of the current one
-
-    def __init__(self, settings: Settings, limit: Callable[[int], int], clock: Callable[[], int]) -> None:
-        self.log = self.log_type(Opening.first(settings.setup.header(), settings.names, limit(settings.setup.nodes)), clock)
-        self._epochs: List[Epoch] = []
 
     @property
     def epochs(self) -> List[Epoch]:
         """All that there were."""
-        while len(self._epochs) < self.log.epoch:
-            number = len(self._epochs) + FIRST
-            self._epochs.append(epoch_of(self.log.opening(number), self.log._rows[number]))
-        return self._epochs
+        raise NotImplementedError
 
     @property
     def epoch(self) -> Epoch:
+        """The current one."""
         return self.epochs[-1]
 
     def held(self) -> Dict[str, Lease]:
         """Who is present, by name."""
-        there = self.log.presences
-        return {name: Lease(holder.life, holder.promise, self.log.leases[name].until) for name, holder in there.items()}
+        raise NotImplementedError
 
     def holds(self, name: str, life: Life) -> bool:
-        holder = self.log.presences.get(name)
-        return holder is not None and holder.life == life
+        lease = self.held().get(name)
+        return lease is not None and lease.life == life
 
     def has_news(self, epoch: int, found: Found, until: Until) -> bool:
         assert isinstance(found, FoundInLog)
         told = found.told
-        return self.log.has_news(epoch, found.standing.place, found.lives, told.wish, until, found.idle)
+        return self.log.has_news(epoch, found.standing.place, found.lives, told.wanted, until, found.idle)
 
-    # What is wished for, and old epochs.
+    # What is wished for and ordered, and old epochs.
+
+    @property
+    def orders(self) -> Orders:
+        raise NotImplementedError
+
+    def wished(self) -> Optional[Settings]:
+        raise NotImplementedError
 
     @property
     def wish(self) -> Optional[Settings]:
-        return None if self.log.wish is None else self.log.wish.settings
+        return self.wished()
 
     @wish.setter
     def wish(self, settings: Optional[Settings]) -> None:
@@ -92,15 +113,46 @@ class MemoryStore:
         else:
             self.log.ask(opening.wish(settings), opening.epoch)
 
-    def wished(self) -> Optional[Settings]:
-        return self.wish
-
     def prune(self) -> None:
         self.log.prune(self.epoch.number)
 
 
+class MemoryStore(LogStore):
+    """The same of a log in memory."""
+
+    log: MemoryLog
+    log_type: Type[MemoryLog] = MemoryLog
+
+    def __init__(self, settings: Settings, limit: Callable[[int], int], clock: Callable[[], int]) -> None:
+        self.log = self.log_type(Opening.first(settings.setup.header(), settings.names, limit(settings.setup.nodes)), clock)
+        self._epochs: List[Epoch] = []
+
+    @property
+    def epochs(self) -> List[Epoch]:
+        while len(self._epochs) < self.log.epoch:
+            number = len(self._epochs) + FIRST
+            self._epochs.append(epoch_of(self.log.opening(number), self.log._rows[number]))
+        return self._epochs
+
+    def held(self) -> Dict[str, Lease]:
+        there = self.log.presences
+        return {name: Lease(holder.life, holder.promise, self.log.leases[name].until) for name, holder in there.items()}
+
+    @property
+    def orders(self) -> Orders:
+        return self.log.orders
+
+    def wished(self) -> Optional[Settings]:
+        return None if self.log.wish is None else self.log.wish.settings
+
+
 class LogMember(Member):
     """A member that asks a log of the package, as `bully.running.Member` does."""
+
+    simulation: OverMemory
+    seen = Seen(0)  # what it was told last
+    is_frozen = is_drained = has_lost = False
+    look_at = 0  # when it asked for the last look
 
     def __init__(self, simulation: Simulation, name: str, number: int, terms: Terms) -> None:
         super().__init__(simulation, name, number, terms)
@@ -117,30 +169,35 @@ class LogMember(Member):
         return self.simulation.changed(what, done)
 
     def called(self, ask: Ask) -> Callable[[], object]:
-        log, name, epoch, life, place = self.log, self.name, self.epoch, ask.life, ask.place
-        if ask.request is Request.TAKE:
-            return lambda: log.take(name, life, Promise(epoch, place), self.simulation.lease())
-        if ask.request is Request.RENEW:
-            return lambda: log.renew(name, life, self.simulation.lease())
-        if ask.request is Request.RELEASE:
-            return partial(self.released, life)
-        if ask.request is Request.LOOK:
-            behind, opening = self.place, self.opening
-            return lambda: self.found_of(opening, behind, log.look(epoch, behind))
-        if ask.request is Request.FOLLOW:
-            return lambda: (log.opening(),)
-        if ask.request is Request.BE_IDLE:
-            return lambda: log.promise(name, life, Promise(epoch, place))
-        if ask.request is Request.APPEND:
-            rows = tuple(self.rules.settlement())
-            return lambda: self.noted('an append', log.append(epoch, place, rows))
-        assert ask.request is Request.FINISH and isinstance(self.found, FoundInLog)
-        opening = self.opening.next(self.found.told.wish, self.last_table())
-        return lambda: self.noted('the end of an epoch', log.finish(epoch, place, opening))
+        """The call of the package's own driver, and what is noted of it here."""
+        self.note(ask)
+        asker = Asker(self.log, self.name, self.opening, self.place, self.simulation.lease, self.rules.settlement, self.after)
+        call, place = asker.call(ask), self.place
 
-    def released(self, life: Life) -> bool:
-        self.log.release(self.name, life)
-        return True
+        def done() -> object:
+            told = call()
+            if isinstance(told, logs.Found):
+                return self.found_of(place, told)
+            if isinstance(told, Opening):
+                return (told,)
+            return self.noted(CHANGES[ask.request], told) if ask.request in CHANGES else told
+
+        return done
+
+    def note(self, ask: Ask) -> None:
+        """What it asks for, by which it is judged what may be in a pause."""
+        here = Promise(self.epoch, ask.place)
+        if ask.request in (Request.TAKE, Request.BE_IDLE):
+            self.simulation.promised.add((ask.life, here))
+        if ask.request in CHANGES and not self.simulation.halted_at <= self.look_at:
+            self.simulation.asked.add(here)
+        if ask.request is Request.LOOK:
+            self.look_at = self.simulation.now
+
+    def after(self) -> Opening:
+        """With what the next epoch is to begin."""
+        assert isinstance(self.found, FoundInLog)
+        return self.opening.next(self.found.told.wish, self.last_table())
 
     def last_table(self) -> Tuple[int, ...]:
         """The last table that it has learned of."""
@@ -148,15 +205,45 @@ class LogMember(Member):
         plans = [row for row in reversed(rows) if row.startswith('plan,')]
         return table_of(plans[0]) if plans else self.opening.table
 
-    def found_of(self, opening: Opening, place: int, found: logs.Found) -> Found:
-        """What a look found, as the rules are told of it."""
-        numbers = {name: number for number, name in enumerate(opening.names, 1)}
-        there = sorted((numbers[name], holder) for name, holder in found.presences.items() if name in numbers)
-        presences = tuple(Presence(number, holder.life, holder.promise) for number, holder in there)
-        seen = Seen(found.epoch, presences, len(there) < len(found.presences), found.wish is not None)
+    def found_of(self, place: int, found: logs.Found) -> Found:
+        """What a look found."""
         rows = tuple(found.rows)
         standing = Standing(found.epoch, place + len(rows), frozenset(found.lives.items()), found.wish.settings if found.wish else None)
-        return FoundInLog(rows, seen, standing, found.idle(Promise(found.epoch, standing.place)), found._replace(rows=()))
+        idle = found.idle(Promise(found.epoch, standing.place))
+        return FoundInLog(rows, Seen(found.epoch), standing, idle, found._replace(rows=()))
+
+    def see(self, found: Found) -> None:
+        """The rules are told what the package's own driver tells them."""
+        assert isinstance(found, FoundInLog)
+        told, end = found.told, Promise(self.epoch, self.place)
+        numbers = {name: number for number, name in enumerate(self.opening.names, 1)}
+        self.seen = seen_of(told, end, self.name, numbers, self.is_up)
+        self.is_frozen = told.epoch == self.epoch and told.is_frozen(end)
+        super().see(replace(found, seen=self.seen))
+        if told.orders.takes_out(self.name, self.rules.sure_until > 0) and not self.is_leaving:
+            self.is_drained = True
+            self.leave()
+
+    def is_up(self, number: int) -> bool:
+        """Whether the node of this number is up in the log."""
+        replica = self.rules.replica if isinstance(self.rules, Plain) else cast(Core, self.rules)
+        return replica.state(number).status is not Status.DOWN
+
+    def waits(self, wait: Wait) -> Wait:
+        return replace(wait, until=awaited(wait.until, self.seen))
+
+    def begin(self, token: int) -> None:
+        self.has_lost = False
+        super().begin(token)
+
+    def lose(self, token: int) -> None:
+        self.has_lost = True
+        super().lose(token)
+
+    def end(self, ending: Ending) -> None:
+        super().end(ending)
+        if self.is_drained:
+            self.simulation.after(self.simulation.ttl // 4, partial(self.simulation.come_back, self.name))
 
     def follow(self, opening: Optional[object]) -> None:
         assert isinstance(opening, Opening)
@@ -167,9 +254,98 @@ class LogMember(Member):
 
 
 class OverMemory(Simulation):
-    """A group over a log in memory."""
+    """A group over a log in memory, or another one of the package."""
 
     member: Type[Member] = LogMember
 
     def __init__(self, seed: int, make: Maker, store: StoreMaker = MemoryStore, trouble: Type[Trouble] = Trouble) -> None:
+        self.promised: Set[Tuple[Life, Promise]] = set()  # what lives have asked to promise
+        self.asked: Set[Promise] = set()  # where somebody who couldn't know of a pause has asked to append
+        self.halted_at = NEVER  # when the pause began
         super().__init__(seed, make, store, trouble)
+        self.end = Promise(FIRST, 0)  # of the log, behind its last change
+        self.ordered = Orders()  # what was ordered last
+
+    @property
+    def given(self) -> LogStore:
+        """The log to which orders are given."""
+        return cast(LogStore, self.store)
+
+    def changed(self, what: str, done: bool) -> bool:
+        """In a pause a group is settled only if one that was there before has promised to be idle, and can't go on; or if that was asked for
+        before, and comes late."""
+        lives = self.given.orders.lives if done else None
+        if lives is not None and self.end not in self.asked and not any((life, self.end) in self.promised for life in lives.values()):
+            raise Wrong(f'{what} in a pause')
+        self.happened['a change is finished in a pause'] += lives is not None
+        if done:
+            self.end = Promise(self.store.epoch.number, len(self.store.epoch.rows))
+        return super().changed(what, done)
+
+    def stops(self, member: Member) -> None:
+        """In a pause nobody stops work for what others do."""
+        assert isinstance(member, LogMember)
+        if member.is_frozen and self.now < member.rules.sure_until and not (member.is_leaving or member.has_lost):
+            raise Wrong(f'{member} stops work in a pause')
+        super().stops(member)
+
+    # What is ordered.
+
+    def run(self) -> None:
+        self.often('a node is drained', self.trouble.drains, self.drain)
+        self.often('a drained node is taken back', self.trouble.drains, self.undrain)
+        self.often('a group is paused', self.trouble.halts, self.halt)
+        super().run()
+
+    def drain(self) -> None:
+        with suppress(BadWords):  # nobody would work
+            self.ordered = ordering.drain(self.given.log, self.choice.choice(self.store.epoch.settings.names), takes_last=False)
+        self.tell_all()
+
+    def undrain(self) -> None:
+        drained = sorted(self.given.orders.drained & set(self.store.epoch.settings.names))
+        if drained:
+            self.ordered = ordering.undrain(self.given.log, self.choice.choice(drained))
+            self.tell_all()
+
+    def halt(self) -> None:
+        """The group is paused, and goes on some time later."""
+        if not self.given.orders.is_paused:
+            self.ordered, self.halted_at = ordering.pause(self.given.log), self.now
+            self.tell_all()
+            rows = self.end
+            self.after(self.some(self.choice.choice([0.3, 2.0, 6.0])), lambda: self.go_on(rows))
+
+    def go_on(self, end: Promise) -> None:
+        lives, held = self.given.orders.lives or {}, self.store.held()
+        works = any(member.worker.work is not None for member in self.alive())
+        is_gone = any(name not in held or held[name].life != life for name, life in lives.items())
+        self.happened['members work on in a pause beside one that is gone'] += works and is_gone and end == self.end
+        self.ordered, self.halted_at = ordering.resume(self.given.log), NEVER
+        self.tell_all()
+
+    def come_back(self, name: str) -> None:
+        """A process whose node is drained looks whether that is over."""
+        if name in self.given.orders.drained:
+            self.after(self.ttl // 4, partial(self.come_back, name))
+        elif name in self.store.epoch.settings.names:
+            self.happened['a drained node comes back'] += 1
+            self.begin_another(name)
+
+    def rest(self) -> None:
+        """All pauses are over, and some nodes stay drained."""
+        self.ordered, self.halted_at = ordering.resume(self.given.log), NEVER
+        super().rest()
+
+    def startable(self) -> Sequence[str]:
+        names = self.store.epoch.settings.names
+        there = [name for name in names if name not in self.given.orders.drained]
+        if not there:
+            self.ordered = ordering.undrain(self.given.log, names[0])
+        return there or names[:1]
+
+    def unrest(self) -> Optional[str]:
+        orders = self.given.orders
+        if orders != self.ordered or orders.drained & set(self.store.held()):
+            return f'orders are {orders}, and were {self.ordered}; present are {sorted(self.store.held())}'
+        return super().unrest()

@@ -8,7 +8,7 @@ from bully.member import Ask, Life, Presence, Present, Promise, Request, Seen, S
 from bully.settings import Settings
 from plain import Plain, is_at_rest
 from restarting import Restarting
-from settling import Simulation, Wrong
+from settling import Simulation
 from store import Found, Store
 
 
@@ -272,14 +272,7 @@ OTHERS: Dict[str, Type[Plain]] = {
 
 def shown(bug: Bug, seed: int) -> Optional[str]:
     """What the seed shows of the bug, if it shows it."""
-    simulation = bug.tries(seed, bug.rules, bug.store)
-    try:
-        simulation.run()
-    except Wrong as wrong:
-        return str(wrong)
-    finally:
-        simulation.close()
-    return None
+    return bug.tries(seed, bug.rules, bug.store).tried()
 
 
 def first_seed(bug: Bug, last: int) -> int:

@@ -2,10 +2,13 @@
 from __future__ import annotations
 
 import os
+import select
 import signal
 from contextlib import suppress
 from pathlib import Path
-from typing import List
+from typing import Dict, Iterable, List, NamedTuple
+
+from laws import has_stopped
 
 TICK = 1 / os.sysconf('SC_CLK_TCK')
 
@@ -18,17 +21,57 @@ def children(process: int) -> List[int]:
         return []
 
 
-def worker_descriptors(member: int) -> List[int]:
-    """The workers of a member, as descriptors, which never come to be another process's as numbers do."""
-    found = [(guard, worker, os.pidfd_open(worker)) for guard in children(member) for worker in children(guard)]
-    return [descriptor for guard, worker, descriptor in found if worker in children(guard)]
+class Process(NamedTuple):
+    """A process by its number, and by a descriptor, which never comes to be another one's."""
+
+    number: int
+    descriptor: int
+
+    @property
+    def has_ended(self) -> bool:
+        return bool(select.select([self.descriptor], [], [], 0)[0])
+
+    @property
+    def is_stopped(self) -> bool:
+        """Whether it is there, and is stopped by a signal."""
+        with suppress(OSError):  # it ends
+            return has_stopped(self.number) and not self.has_ended
+        return False
 
 
-def send_all(descriptors: List[int], number: int) -> None:
+def workers_of(member: int) -> List[Process]:
+    """The workers of a member."""
+    found = [(guard, Process(worker, os.pidfd_open(worker))) for guard in children(member) for worker in children(guard)]
+    return [worker for guard, worker in found if worker.number in children(guard)]
+
+
+def family(member: int) -> Dict[str, Process]:
+    """A `member` that has not been waited for, its `guard` and its `worker`; nobody, if not all three are there."""
+    guards = children(member)
+    workers = [worker for guard in guards for worker in children(guard)]
+    if len(guards) != 1 or len(workers) != 1:
+        return {}
+    found: Dict[str, Process] = {}
+    with suppress(ProcessLookupError):
+        for name, number in (('member', member), ('guard', guards[0]), ('worker', workers[0])):
+            found[name] = Process(number, os.pidfd_open(number))
+    if len(found) == 3 and children(guards[0]) == workers and not any(each.has_ended for each in found.values()):
+        return found
+    close_all(found.values())
+    return {}
+
+
+def close_all(processes: Iterable[Process]) -> None:
+    """They aren't looked at any more."""
+    for process in processes:
+        os.close(process.descriptor)
+
+
+def send_all(processes: Iterable[Process], number: int) -> None:
     """Sends a signal to processes, as far as they are still there."""
-    for descriptor in descriptors:
+    for process in processes:
         with suppress(ProcessLookupError):
-            signal.pidfd_send_signal(descriptor, number)
+            signal.pidfd_send_signal(process.descriptor, number)
 
 
 def processor_seconds(process: int) -> float:

@@ -90,6 +90,7 @@ class Trouble:
         self.loops = some(0.2)  # of one node that comes and goes again and again
         self.ends = some(0.02)  # units behind which a worker ends by itself
         self.wishes, self.prunes = some(0.3), some(0.5)
+        self.drains = self.halts = 0.0  # nodes that are drained, and groups that are paused
         self.room = choice.choice([22, 22, 26, 40, 10_000])  # rows of an epoch, for each node
         self.late = some(0.3)  # by how much of a ttl a presence ends late at most
         self.trip = choice.choice([0.0, 0.002, 0.002, 0.02, 0.02])
@@ -116,6 +117,14 @@ class Epochs(Trouble):
         self.room = choice.choice([22, 22, 26])
         self.wishes, self.withdrawn = choice.choice([0.5, 1.5]), choice.choice([0.0, 0.3])
         self.prunes = choice.choice([0.3, 1.0])
+
+
+class Ordered(Trouble):
+    """Nodes are drained, and groups are paused."""
+
+    def __init__(self, choice: random.Random) -> None:
+        super().__init__(choice)
+        self.drains, self.halts = choice.choice([0.0, 0.5, 1.0]), choice.choice([0.3, 0.3, 1.0])
 
 
 @dataclass
@@ -255,7 +264,7 @@ class Member:
         if isinstance(step, Ask):
             self.ask(step)
         elif isinstance(step, Wait):
-            self.awaited = step
+            self.awaited = self.waits(step)
             self.later(step.at_most, self.wake)
             self.simulation.tell(self)
         elif isinstance(step, Rest):
@@ -265,6 +274,10 @@ class Member:
         else:
             self.begin(step.token) if isinstance(step, Begin) else self.stop()
             self.go()
+
+    def waits(self, wait: Wait) -> Wait:
+        """What it waits for at the store."""
+        return wait
 
     def wake(self) -> None:
         self.awaited = None
@@ -379,9 +392,8 @@ class Member:
             self.rules.passed()
         elif isinstance(told, Found):
             self.rules.learn(told.rows)
-            self.rules.looked(now, told.seen)
             self.place, self.found = self.place + len(told.rows), told
-            self.simulation.happened['strangers are seen'] += told.seen.has_strangers
+            self.see(told)
         elif isinstance(told, tuple):
             self.follow(told[0])
         else:
@@ -389,6 +401,11 @@ class Member:
             if told and ask.request is Request.TAKE:
                 self.life = ask.life
         self.worker.until = self.rules.sure_until
+
+    def see(self, found: Found) -> None:
+        """What a look found is told to the rules."""
+        self.rules.looked(self.simulation.now, found.seen)
+        self.simulation.happened['strangers are seen'] += found.seen.has_strangers
 
     def follow(self, opening: Optional[Opening]) -> None:
         self.rules.followed(self.simulation.now, opening)
@@ -633,6 +650,16 @@ class Simulation:
         for member in self.alive():
             member.die()
 
+    def tried(self) -> Optional[str]:
+        """Runs it, and closes it. What is wrong with it, if something is."""
+        try:
+            self.run()
+        except Wrong as wrong:
+            return f'{wrong}, at {self.now / self.ttl:.3f} ttl'
+        finally:
+            self.close()
+        return None
+
     # Its end.
 
     def rest(self) -> None:
@@ -641,13 +668,17 @@ class Simulation:
         while self.now < begun + REST_WITHIN * self.ttl:
             self.live(self.now + self.ttl // 20)
             if all(member.is_leaving for member in self.alive()):
-                self.begin(self.choice.choice(self.store.epoch.settings.names))
+                self.begin(self.choice.choice(self.startable()))
             if self.unrest() is None:
                 before = self.store.epoch.number, len(self.store.epoch.rows)
                 self.live(self.now + 3 * self.ttl)
                 if self.unrest() is None and before == (self.store.epoch.number, len(self.store.epoch.rows)):
                     return
         raise Wrong(f'no rest: {self.unrest()}')
+
+    def startable(self) -> Sequence[str]:
+        """The nodes that may take part."""
+        return self.store.epoch.settings.names
 
     def unrest(self) -> Optional[str]:
         epoch, held = self.store.epoch, self.store.held()

@@ -1,23 +1,27 @@
 """A worker that tells when two work on one partition: each unit of work holds the lock of its partition's file.
 
-    worker.py FOLDER
+    worker.py FOLDER [SOCKET]
 
 A unit that finds the lock taken writes `overlap` into FOLDER/faults, and one whose token is below the file's last one is refused there
-and writes `old`. A unit that is done adds `TOKEN NODE` to the file of its partition. With BULLY_ANSWERS in its environment it stays over changes.
+and writes `old`. A unit that is done adds `TOKEN NODE` to the file of its partition. With SOCKET it asks the recorder there for each unit, which
+writes the same (`recorder.py`). With BULLY_ANSWERS in its environment it stays over changes.
 """
 import fcntl
 import json
 import os
 import select
+import socket
 import sys
 import time
 from typing import BinaryIO
 
 ROW = 64  # bytes that a row has at most
+UNIT = 0.002  # seconds that a unit of work takes
 
 folder, node, answers = sys.argv[1], os.environ['BULLY_NODE'], os.environ.get('BULLY_ANSWERS')
 lines = open(0, 'rb', buffering=0, closefd=False)  # so that nothing is read ahead
 token, partitions = int(os.environ.get('BULLY_TOKEN', 0)), os.environ.get('BULLY_PARTITIONS', '').split()
+recorder = socket.socket(socket.AF_UNIX, socket.SOCK_SEQPACKET)
 
 
 def tell(fault: str, partition: str) -> None:
@@ -35,8 +39,8 @@ def last_token(file: BinaryIO) -> int:
     return int(rows[-1].split()[0]) if rows else 0
 
 
-def work(partition: str) -> None:
-    """One unit."""
+def work_by_file(partition: str) -> None:
+    """One unit, by the lock of a file."""
     with open(os.path.join(folder, partition), 'ab+') as file:
         try:
             fcntl.flock(file, fcntl.LOCK_EX | fcntl.LOCK_NB)
@@ -46,8 +50,16 @@ def work(partition: str) -> None:
         if last_token(file) > token:
             tell('old', partition)
             return
-        time.sleep(0.002)
+        time.sleep(UNIT)
         file.write(b'%d %s\n' % (token, node.encode()))
+
+
+def work_by_recorder(partition: str) -> None:
+    """One unit, by leave of the recorder."""
+    recorder.send(f'begin {partition} {token} {node} {time.clock_gettime_ns(time.CLOCK_BOOTTIME)}'.encode())
+    if recorder.recv(ROW) == b'granted':
+        time.sleep(UNIT)
+        recorder.send(b'end %d' % time.clock_gettime_ns(time.CLOCK_BOOTTIME))
 
 
 def hear() -> None:
@@ -63,6 +75,9 @@ def hear() -> None:
             os.write(int(answers), b'stopped\n')
 
 
+work = work_by_recorder if sys.argv[2:] else work_by_file
+if sys.argv[2:]:
+    recorder.connect(sys.argv[2])
 while True:
     hear()
     for each in list(partitions):

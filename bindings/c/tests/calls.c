@@ -1,15 +1,15 @@
-/* Tries each function of bully.h: calls FOLDER VERSION. The folder has the examples, and the version is the one that the program
- * tells as its own. The last line is 'N passed, M failed'. */
+/* Tries each function of bully.h: calls FOLDER VERSION HEADER_FOLDER. The folder has the examples, the version is the one that
+ * the program tells as its own, and the last folder has bully.h. The last line is 'N passed, M failed'. */
 #include "testing.h"
 
 #include <stdio.h>
 
 int main(int count, char **words) {
-    if (count != 3) {
-        fprintf(stderr, "usage: calls EXAMPLES_FOLDER VERSION\n");
+    if (count != 4) {
+        fprintf(stderr, "usage: calls EXAMPLES_FOLDER VERSION HEADER_FOLDER\n");
         return 2;
     }
-    try_names(words[2]);
+    try_names(words[2], words[3]);
     try_arguments();
     try_headers();
     try_traces(words[1]);

@@ -1,38 +1,58 @@
-/* The statuses: each has its name, and no other number has one. And the version. */
+/* The statuses: each has the name that the header gives it, and no other number has one. And the version. */
 #include "testing.h"
 
+#include <ctype.h>
+#include <stdio.h>
+#include <stdlib.h>
 #include <string.h>
 
-#define NAMED(status) { BULLY_##status, #status }
-
-static const struct {
-    bully_status status;
-    const char *name;
-} named[] = {
-    NAMED(OK), NAMED(FULL), NAMED(BAD_NODE), NAMED(IS_DOWN), NAMED(IS_UP), NAMED(BUSY), NAMED(NO_STEP), NAMED(SLOT_BUSY),
-    NAMED(NO_CALL), NAMED(CALLEE_DOWN), NAMED(CALLEE_UP), NAMED(BAD_TABLE), NAMED(NOT_ORPHAN), NAMED(NULL), NAMED(CLOSED),
-    NAMED(OPEN), NAMED(OUT_OF_MEMORY), NAMED(SHORT), NAMED(BAD_NODES), NAMED(BAD_PARTITIONS), NAMED(BAD_LIMIT),
-    NAMED(BAD_WEIGHTS), NAMED(TABLE_LENGTH), NAMED(TABLE_OWNER), NAMED(NO_MEMBER), NAMED(BAD_EVENT), NAMED(BAD_ROWS_MAX),
-    NAMED(BAD_TTL), NAMED(BAD_ANSWER), NAMED(LINE_WORD),
-    NAMED(LINE_CALLER), NAMED(LINE_NUMBER), NAMED(LINE_CALLEE), NAMED(LINE_KIND), NAMED(LINE_TABLE), NAMED(LINE_ANSWER),
-    NAMED(BAD_HEADER), NAMED(BAD_ROW), NAMED(TOO_MANY_ROWS), NAMED(ROW_DIFFERS), NAMED(ROW_END),
-};
-
-static const char *name_of(bully_status status) {
-    size_t at;
-    for (at = 0; at < COUNT(named); at++) {
-        if (named[at].status == status) {
-            return named[at].name;
+/* Whether this stands in the text, with no digit behind it. */
+static int stands_in(const char *text, const char *told) {
+    const char *at;
+    for (at = strstr(text, told); at != NULL; at = strstr(at + 1, told)) {
+        if (!isdigit((unsigned char)at[strlen(told)])) {
+            return 1;
         }
     }
-    return "?";
+    return 0;
 }
 
-void try_names(const char *version) {
-    bully_status status;
-    for (status = 0; status < 300; status++) {
-        EXPECT(strcmp(bully_status_name(status), name_of(status)) == 0);
+/* Whether the library names this number as the header does: `?` if it is none of the statuses there. */
+static int is_named(const char *statuses, bully_status status) {
+    const char *name = bully_status_name(status);
+    char told[100];
+    snprintf(told, sizeof told, " = %u", (unsigned)status);
+    if (!stands_in(statuses, told)) {
+        return strcmp(name, "?") == 0;
     }
+    snprintf(told, sizeof told, " BULLY_%s = %u", name, (unsigned)status);
+    return stands_in(statuses, told);
+}
+
+/* The header's statuses alone, cut out of its text. */
+static char *statuses_in(char *header) {
+    char *begin = strstr(header, "typedef uint32_t bully_status;"), *end = begin == NULL ? NULL : strstr(begin, "};");
+    EXPECT(end != NULL);
+    if (end == NULL) {
+        abort();
+    }
+    *end = 0;
+    return begin;
+}
+
+static void try_statuses(const char *statuses) {
+    bully_status status;
+    EXPECT(stands_in(statuses, " BULLY_OK = 0"));
+    for (status = 0; status < 300; status++) {
+        EXPECT(is_named(statuses, status));
+    }
+}
+
+void try_names(const char *version, const char *header_folder) {
+    size_t length;
+    char *header = read_file(header_folder, "bully", "h", &length);
+    try_statuses(statuses_in(header));
+    free(header);
     EXPECT(strcmp(bully_status_name(UINT32_MAX), "?") == 0);
     EXPECT(strcmp(bully_status_name(0x80000000), "?") == 0);
     /* (the numbers are a part of the interface) */

@@ -69,7 +69,7 @@ void come_back(bully_agent *caller, bully_agent *callee, uint32_t answer);
 extern const uint16_t two_owners[2];
 
 /* The tests of each file. `folder` has the examples, and `version` is the library's. */
-void try_names(const char *version);
+void try_names(const char *version, const char *header_folder);
 void try_arguments(void);
 void try_headers(void);
 void try_traces(const char *folder);

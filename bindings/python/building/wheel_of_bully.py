@@ -1,8 +1,9 @@
 """Builds the wheel of the package `bully` for pip, by the standard library alone.
 
 The wheel takes libbully.so with it from the folder BULLY_LIBRARY; or else from `lib` of an archive; or else from out/library at the top
-of the repository, where `bin/library` puts it. Without any it has none, and whoever uses it sets BULLY_LIBRARY. The same files make the
-same bytes; SOURCE_DATE_EPOCH, where it is set, is the time of each.
+of the repository, where `bin/library` puts it. Without any it has none, and whoever uses it sets BULLY_LIBRARY. It always has bully.h, which
+the package reads: that of the archive or the repository. The same files make the same bytes; SOURCE_DATE_EPOCH, where it is set, is the
+time of each.
 """
 from __future__ import annotations
 
@@ -47,6 +48,7 @@ def build_wheel(wheel_directory: str, config_settings: Settings = None, metadata
     library = find_library()
     tag = f'py3-none-{platform()}' if library else 'py3-none-any'
     files = {f'{NAME}/{each.name}': each.read_bytes() for each in sorted((HERE / NAME).glob('*')) if is_source(each)}
+    files[f'{NAME}/bully.h'] = find_header(library).read_bytes()
     if library:
         files[f'{NAME}/libbully.so'] = library.read_bytes()
     files[f'{SAID}/METADATA'] = METADATA.encode()
@@ -78,6 +80,15 @@ def find_library() -> Optional[Path]:
     file = next(filter(Path.is_file, files), None)
     if named and not file:
         raise SystemExit(f'BULLY_LIBRARY is {named}, and there is no libbully.so')
+    return file
+
+
+def find_header(library: Optional[Path]) -> Path:
+    """The header: that of this tree; or else, if pip took the package out of it, the one with the library."""
+    places = [HERE.parents[1] / 'include', *([library.parent, library.parents[1] / 'include'] if library else [])]
+    file = next(filter(Path.is_file, (place / 'bully.h' for place in places)), None)
+    if not file:
+        raise SystemExit('there is no bully.h: build the wheel in the archive or in the repository, or set BULLY_LIBRARY')
     return file
 
 

@@ -12,7 +12,8 @@ proved rules of one alone.
     BULLY_LIBRARY=FOLDER python3 .. # the same, where `load` wasn't called
 
 or else in the folder of this package, where `pip install` puts it; in an archive in `lib`, and at the top of the repository in
-`out/library`.
+`out/library`. It reads `bully.h`, too, which stands in that folder, in `include` of an archive or of the repository, or with the library
+that BULLY_LIBRARY names.
 
 One call of a node, which a program sends from process to process:
 
@@ -38,23 +39,21 @@ What isn't even a number of the kind that the library takes, as 70000 partitions
 """
 from typing import TYPE_CHECKING, Any
 
-from .agent import Agent
-from .faults import (
-    BullyError, Refused, BadArgument, LineFault, TraceFault, NotLearned, Full, BadNode, IsDown, IsUp, Busy, NoStep, SlotBusy, NoCall, CalleeDown,
-    CalleeUp, BadTable, NotOrphan, Null, Closed, Open, OutOfMemory, Short, BadNodes, BadPartitions, BadLimit, BadWeights, TableLength, TableOwner,
-    NoMember, BadEvent, BadRowsMax, BadTtl, BadAnswer, LineWord, LineCaller, LineNumber, LineCallee, LineKind, LineTable, LineAnswer, BadHeader,
-    BadRow, TooManyRows, RowDiffers, RowEnd,
-)  # fmt: skip
-from .group import Setup, check, plan_table, status_name, version
-from .library import load
-from .replica import Replica
+# What is imported by its own name, or by a star, is the package's for a type checker, too.
+from . import faults
+from .agent import Agent as Agent
+from .faults import *
+from .group import Setup as Setup, check as check, plan_table as plan_table, status_name as status_name, version as version
+from .library import load as load
+from .replica import Replica as Replica
 from .values import (
-    EVENTS_MAX, NODES_MAX, PARTITIONS_MAX, WEIGHT_MAX, Answer, Call, CallKind, Line, Owned, Rows, State, Status, TablePlan, Verdict, VerdictKind,
-    Want,
+    EVENTS_MAX as EVENTS_MAX, NODES_MAX as NODES_MAX, PARTITIONS_MAX as PARTITIONS_MAX, WEIGHT_MAX as WEIGHT_MAX, Answer as Answer,
+    Call as Call, CallKind as CallKind, Line as Line, Owned as Owned, Rows as Rows, State as State, Status as Status, TablePlan as TablePlan,
+    Verdict as Verdict, VerdictKind as VerdictKind, Want as Want,
 )  # fmt: skip
 
 if TYPE_CHECKING:
-    from .running import Member
+    from .running import Member as Member
 
 __version__ = '0.5.0'  # that of the library, which `version` tells
 
@@ -68,12 +67,9 @@ def __getattr__(name: str) -> Any:
     raise AttributeError(f'module {__name__!r} has no attribute {name!r}')
 
 
-__all__ = [
-    'Agent', 'Answer', 'BadAnswer', 'BadArgument', 'BadEvent', 'BadHeader', 'BadLimit', 'BadNode', 'BadNodes', 'BadPartitions', 'BadRow',
-    'BadRowsMax', 'BadTable', 'BadTtl', 'BadWeights', 'BullyError', 'Busy', 'Call', 'CallKind', 'CalleeDown', 'CalleeUp', 'Closed', 'EVENTS_MAX',
-    'Full', 'IsDown', 'IsUp', 'Line', 'LineAnswer', 'LineCallee', 'LineCaller', 'LineFault', 'LineKind', 'LineNumber', 'LineTable', 'LineWord',
-    'Member', 'NODES_MAX', 'NoCall', 'NoMember', 'NoStep', 'NotLearned', 'NotOrphan', 'Null', 'Open', 'OutOfMemory', 'Owned', 'PARTITIONS_MAX',
-    'Refused', 'Replica', 'RowDiffers', 'RowEnd', 'Rows', 'Setup', 'Short', 'SlotBusy', 'State', 'Status', 'TableLength', 'TableOwner',
-    'TablePlan', 'TooManyRows', 'TraceFault', 'Verdict', 'VerdictKind', 'WEIGHT_MAX', 'Want', 'check', 'load', 'plan_table', 'status_name',
-    'version',
-]  # fmt: skip
+if not TYPE_CHECKING:
+    __all__ = [
+        *faults.__all__,
+        'Agent', 'Answer', 'Call', 'CallKind', 'EVENTS_MAX', 'Line', 'Member', 'NODES_MAX', 'Owned', 'PARTITIONS_MAX', 'Replica', 'Rows', 'Setup',
+        'State', 'Status', 'TablePlan', 'Verdict', 'VerdictKind', 'WEIGHT_MAX', 'Want', 'check', 'load', 'plan_table', 'status_name', 'version',
+    ]  # fmt: skip

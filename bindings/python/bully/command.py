@@ -1,11 +1,18 @@
 """The command `bully-member`: a member of a group for a worker in any language.
 
-    bully-member init --config group.toml --log sqlite:group.db
+    bully-member init --config group.toml --log sqlite:group.db [--ttl 5] [--epoch 1]
     bully-member run --node b --log sqlite:group.db [--config group.toml] [--ttl 5] [--listen 127.0.0.1:8081] -- WORKER ARGS..
     bully-member status --log sqlite:group.db [--json]
-    bully-member history --log sqlite:group.db [--epoch 1] | bully check
+    bully-member history --log sqlite:group.db [--epoch 1] [--times] | bully check
     bully-member resize --config new.toml --log sqlite:group.db [--seconds 60]
+    bully-member resize --cancel --log sqlite:group.db
+    bully-member switchover --node b --log sqlite:group.db
+    bully-member drain b --log sqlite:group.db [--all]
+    bully-member undrain b --log sqlite:group.db
+    bully-member pause --log sqlite:group.db
+    bully-member resume --log sqlite:group.db
     bully-member prune --keep 3 --log sqlite:group.db
+    bully-member repair --log sqlite:group.db [--cut PLACE]
 
 `run` starts the worker while its node owns partitions, with BULLY_NODE, BULLY_TOKEN, BULLY_PARTITIONS, BULLY_COORDINATOR and
 BULLY_SETTINGS in its environment, and ends it before anything is appended by which the node owns them no more. The settings of the
@@ -18,22 +25,30 @@ import argparse
 import contextlib
 import json
 import logging
+import os
 import signal
 import sys
+import threading
 import time
 from typing import Callable, List, Optional, Tuple, Type, TypeVar
 
-from .epochs import Opening
+from .epochs import FIRST, LATEST, Opening
 from .faults import BullyError
-from .logs import LogError, Unanswered, seconds_of_boot
-from .resizing import NotEnded, resize
+from .logs import DamagedLog, Log, LogError, OtherLog, Unanswered, found_in, seconds_of_boot
+from .member import Ending
+from .messages import FORMATS, LAST_SECONDS, JsonLines, Messages
+from .ordering import drain, has_left, pause, resume, undrain
+from .repairing import damage_of, repair, takes_back
+from .resizing import NotEnded, Pruning, lead, resize
 from .running import Member, NotInGroup, OtherGroup
+from .service import Service
 from .settings import ConfigFault, Settings, read_settings, shown_name
-from .stores import BadWords, FileStore, add_words, store_of
+from .stores import BadWords, EtcdStore, FileStore, add_words, store_of
 from .view import GroupView, LogView
-from .worker import GuardLost, WorkerEnded, Workers
+from .worker import GuardLost, WorkerEnded, Workers, WorkerStuck
 
-OK, FAILED, BAD_WORDS, BAD_INPUT, NO_STORE = range(5)
+OK, FAILED, BAD_WORDS, BAD_INPUT, NO_STORE, NO_NODE = range(6)
+TTL = 5.0  # seconds, if none is told
 LOOK = 1.0  # seconds for which it is looked who isn't idle, if somebody isn't
 AGAIN = 0.1  # seconds before a log that didn't answer is asked again
 
@@ -51,22 +66,55 @@ def parser() -> argparse.ArgumentParser:
     history = commands.add_parser('history', help='write the log of an epoch as a trace')
     resize = commands.add_parser('resize', help='give the group other settings, in a new epoch')
     prune = commands.add_parser('prune', help='take old epochs away')
-    for command in (init, run, status, history, resize, prune):
+    switchover = commands.add_parser('switchover', help='have another node lead, in a new epoch')
+    repair = commands.add_parser('repair', help='tell what of a log is damaged, and cut it')
+    for command in (init, run, status, history, resize, switchover, prune, repair):
         add_words(command)
-    for command in (init, run, resize):
-        command.add_argument('--config', required=command is not run, metavar='FILE')
-    run.add_argument('--node', required=True, metavar='NAME')
-    run.add_argument('--ttl', type=seconds, default=5.0, metavar='SECONDS', help='how long the node stays present without a renewal')
+    for command in (init, run):
+        command.add_argument('--config', required=command is init, metavar='FILE')
+        command.add_argument('--ttl', type=seconds, metavar='SECONDS', help='how long a node stays present without a renewal')
+    init.add_argument('--epoch', type=count, default=FIRST, metavar='NUMBER', help='with which it begins: behind those of a log before it')
+    for command in (run, switchover):
+        command.add_argument('--node', required=True, metavar='NAME')
+    for command in (resize, switchover):
+        command.add_argument('--seconds', type=seconds, default=60.0, metavar='SECONDS', help='how long to wait until the new epoch has begun')
+    add_words_of_run(run)
+    status.add_argument('--json', action='store_true')
+    history.add_argument('--epoch', type=count, metavar='NUMBER', help='which one; else the current one')
+    history.add_argument('--times', action='store_true', help='write TIME,ROW, so no trace, with the time of UTC at which a row was appended')
+    wanted = resize.add_mutually_exclusive_group(required=True)
+    wanted.add_argument('--config', metavar='FILE')
+    wanted.add_argument('--cancel', action='store_true', help='nothing is wished for any more')
+    resize.add_argument('--all-new', action='store_true', help='also if no member that is there is in it, so that all end')
+    prune.add_argument('--keep', type=count, required=True, metavar='COUNT', help='how many epochs stay, the current one too')
+    add_orders(commands)
+    repair.add_argument('--cut', type=int, metavar='PLACE', help='cut what is told to be damaged from this place on; all members have to have ended')
+    return words
+
+
+def add_orders(commands: 'argparse._SubParsersAction[argparse.ArgumentParser]') -> None:
+    """The command takes the words of an operator's orders."""
+    drain = commands.add_parser('drain', help='have a node take no part, up to undrain, also if its process begins again')
+    undrain = commands.add_parser('undrain', help='have it take part again')
+    pause = commands.add_parser('pause', help='have nobody settle the group: who works goes on, up to resume')
+    resume = commands.add_parser('resume', help='end a pause')
+    for command in (drain, undrain, pause, resume):
+        add_words(command)
+    for command in (drain, undrain):
+        command.add_argument('node', metavar='NODE')
+    drain.add_argument('--seconds', type=seconds, default=60.0, metavar='SECONDS', help='how long to wait until it has left')
+    drain.add_argument('--all', action='store_true', help='also if nobody would work then')
+
+
+def add_words_of_run(run: argparse.ArgumentParser) -> None:
+    """The command takes the words of a member."""
     run.add_argument('--stop-seconds', type=seconds, default=10.0, metavar='SECONDS', help='from SIGTERM to SIGKILL of the worker')
     run.add_argument('--talk', action='store_true', help='the worker stays over changes, and is told of them by lines')
     run.add_argument('--listen', metavar='HOST:PORT', help='tell the group over HTTP')
-    run.add_argument('--quiet', action='store_true', help='say nothing of what happens')
+    run.add_argument('--quiet', action='store_true', help='say only what goes wrong')
+    run.add_argument('--log-format', choices=FORMATS, default='text', help='of what is said on standard error')
+    run.add_argument('--keep', type=count, metavar='COUNT', help='how many epochs stay: whoever has partition 0 takes older ones away')
     run.add_argument('worker', nargs='+', metavar='WORKER ARGS', help='the command of the worker, behind --')
-    status.add_argument('--json', action='store_true')
-    history.add_argument('--epoch', type=count, metavar='NUMBER', help='which one; else the current one')
-    resize.add_argument('--seconds', type=seconds, default=60.0, metavar='SECONDS', help='how long to wait until the new epoch has begun')
-    prune.add_argument('--keep', type=count, required=True, metavar='COUNT', help='how many epochs stay, the current one too')
-    return words
 
 
 def seconds(word: str) -> float:
@@ -103,22 +151,71 @@ def settings_of(path: str) -> Settings:
 def init(options: argparse.Namespace) -> int:
     """Makes the log."""
     settings = settings_of(options.config)
-    store_of(options).create(Opening.first(settings.setup.header(), settings.names)).close()
+    if options.epoch > LATEST:
+        raise BadWords(f'--epoch is {options.epoch}, and may be {LATEST} at most')
+    store_of(options).create(Opening.first(settings.setup.header(), settings.names, epoch=options.epoch, ttl=options.ttl)).close()
     return OK
 
 
 def history(options: argparse.Namespace) -> int:
-    """Writes the log of an epoch as a trace."""
-    sys.stdout.writelines(f'{row}\n' for row in store_of(options).history(options.epoch))
+    """Writes the log of an epoch as a trace, or its rows with times."""
+    sys.stdout.writelines(f'{row}\n' for row in store_of(options).history(options.epoch, options.times))
     return OK
 
 
 def change(options: argparse.Namespace) -> int:
     """Gives the group other settings."""
-    settings = settings_of(options.config)
+    settings = None if options.cancel else settings_of(options.config)
     with contextlib.closing(store_of(options).open()) as log:
+        if settings is None:
+            return cancel(log)
+        present = found_in(log).lives
+        if present and not set(present) & set(settings.names) and not options.all_new:
+            raise ConfigFault(f'none of those present ({", ".join(present)}) is in it, so all would end; --all-new takes it')
         opening = resize(log, settings, options.seconds)
     print(f'epoch {opening.epoch}: {settings.setup.nodes} nodes, {settings.setup.partitions} partitions')
+    return OK
+
+
+def cancel(log: Log) -> int:
+    """Nothing is wished for any more."""
+    epoch = log.epochs()[-1]
+    log.cancel(epoch)
+    print(f'epoch {epoch}: nothing else is wished for')
+    return OK
+
+
+def switch_over(options: argparse.Namespace) -> int:
+    """Has another node lead."""
+    with contextlib.closing(store_of(options).open()) as log:
+        opening = lead(log, options.node, options.seconds)
+    print(f'epoch {opening.epoch}: {shown_name(options.node)} leads')
+    return OK
+
+
+def take_out(options: argparse.Namespace) -> int:
+    """Drains a node, and waits until it has left."""
+    with contextlib.closing(store_of(options).open()) as log:
+        orders, name = drain(log, options.node, options.all), shown_name(options.node)
+        if orders.is_paused:
+            print(f'{name} is drained, and leaves once the group is not paused any more')
+        elif not has_left(log, options.node, options.seconds):
+            print(f'bully-member: {name} is drained, and has not left yet', file=sys.stderr)
+            return FAILED
+        else:
+            print(f'{name} is drained')
+    return OK
+
+
+def give_order(options: argparse.Namespace) -> int:
+    """Has a drained node take part again, or the group pause or go on."""
+    with contextlib.closing(store_of(options).open()) as log:
+        if options.command == 'undrain':
+            undrain(log, options.node)
+            print(f'{shown_name(options.node)} is not drained')
+        else:
+            orders = pause(log) if options.command == 'pause' else resume(log)
+            print(f'the group is {"paused" if orders.is_paused else "not paused"}')
     return OK
 
 
@@ -131,15 +228,32 @@ def prune(options: argparse.Namespace) -> int:
     return OK
 
 
+def mend(options: argparse.Namespace) -> int:
+    """Tells what of a log is damaged, with the rows that are to be cut; and cuts it, if it is told to."""
+    with contextlib.closing(store_of(options).open()) as log:
+        damage, epoch = damage_of(log), log.epochs()[-1]
+        if damage is None and takes_back(log):
+            print(f'epoch {epoch}: what was wished for or ordered could not be read, and is taken back')
+        elif damage is None:
+            print(f'epoch {epoch}: nothing is damaged')
+        else:
+            print(damage.told, *map(repr, damage.rows), sep='\n')
+            if options.cut != damage.place or not repair(log, damage):
+                why = 'somebody is present' if options.cut == damage.place else f'--cut {damage.place} cuts that, once all members have ended'
+                print(f'bully-member: nothing is cut: {why}', file=sys.stderr)
+                return FAILED
+    return OK
+
+
 def status(options: argparse.Namespace) -> int:
-    """Tells how the group stands."""
+    """Tells how the group stands, and by its status whether it is well."""
     with contextlib.closing(LogView(store_of(options).open(reads=True))) as view:
         end, shown = seconds_of_boot() + LOOK, view.show()
         while shown.behind and seconds_of_boot() < end:
             time.sleep(LOOK / 10)
             shown = view.show()
     print(json.dumps(shown.told(), ensure_ascii=False) if options.json else text_of(shown))
-    return OK
+    return OK if shown.is_well else FAILED
 
 
 def text_of(group: GroupView) -> str:
@@ -147,11 +261,11 @@ def text_of(group: GroupView) -> str:
     about = f'epoch {group.epoch}, events {group.events}, token {group.token or "-"}, coordinator {shown_name(group.coordinator)}'
     rows = [('node', 'status', 'present', 'coordinator', 'partitions')]
     for node in group.nodes:
-        present, partitions = 'yes' if node.is_present else 'no', ' '.join(map(str, node.partitions)) or '-'
-        rows.append((shown_name(node.name), str(node.status), present, shown_name(node.coordinator), partitions))
+        partitions = ' '.join(map(str, node.partitions)) or '-'
+        rows.append((shown_name(node.name), str(node.status), node.told_present, shown_name(node.coordinator), partitions))
     widths = [max(map(len, column)) for column in zip(*rows)]
     table = ['  '.join(word.ljust(width) for word, width in zip(row, widths)).rstrip() for row in rows]
-    return '\n'.join([about + group.told_behind, *table])
+    return '\n'.join([about + group.told_more, *table])
 
 
 def address_of(words: str) -> Tuple[str, int]:
@@ -172,20 +286,37 @@ def answered(ask: Callable[[], _Answer]) -> _Answer:
             time.sleep(AGAIN)
 
 
+def ttl_of(store: 'FileStore | EtcdStore', told: Optional[float]) -> float:
+    """The ttl of all members: that of the log, if it has one. Else each is told its own."""
+    with contextlib.closing(store.open(reads=True)) as log:
+        kept = log.opening().ttl
+    if kept and told and kept != told:
+        raise BadWords(f'--ttl is {told:g}, and the log has {kept:g} for all members')
+    return kept or told or TTL
+
+
+def at_signals(call: Callable[[], object]) -> None:
+    """What is done, if this process is told to end."""
+    for number in (signal.SIGTERM, signal.SIGINT):
+        signal.signal(number, lambda *_: call())
+
+
 def run(options: argparse.Namespace) -> int:
     """Takes part with a worker, until a signal tells it to leave."""
-    if not options.quiet:
-        logging.basicConfig(level=logging.INFO, format='%(asctime)s bully-member: %(message)s')
+    at_signals(lambda: sys.exit(OK))  # it doesn't take part yet
     settings, store = settings_of(options.config) if options.config else None, store_of(options)
     if settings is not None and options.node not in settings.names:
         raise BadWords(f'--node is {options.node}, and the configuration has {", ".join(settings.names)}')
     address = address_of(options.listen) if options.listen else None
     with contextlib.ExitStack() as closing:
-        log = answered(lambda: store.open(patience=min(1.0, options.ttl / 5)))
+        messages = closing.enter_context(contextlib.closing(Messages(FORMATS[options.log_format]())))
+        logging.basicConfig(level=logging.WARNING if options.quiet else logging.INFO, handlers=[messages])
+        ttl = answered(lambda: ttl_of(store, options.ttl))
+        log = answered(lambda: store.open(patience=min(1.0, ttl / 5)))
         closing.callback(log.close)
         workers = Workers(options.worker, options.node, options.stop_seconds, options.talk)
-        callbacks = workers.start, workers.stop
-        member = answered(lambda: Member(log, options.node, *callbacks, options.ttl, settings, sure=workers.hear_until))
+        member = answered(lambda: Member(log, options.node, workers.start, workers.stop, ttl, settings, sure=workers.hear_until))
+        service = Service(member, workers)  # before anything begins that would take its environment
         workers.begin(member, store.path if isinstance(store, FileStore) else '')
         closing.callback(workers.close)
         if address is not None:
@@ -193,28 +324,40 @@ def run(options: argparse.Namespace) -> int:
 
             view = answered(lambda: LogView(store.open(reads=True), member.behind))
             closing.callback(view.close)
-            page = Page(address, view, member)
+            page = Page(address, view, member, workers)
             closing.callback(page.close)
             page.start()
-        for number in (signal.SIGTERM, signal.SIGINT):
-            signal.signal(number, lambda *_: member.leave())
+        if options.keep:
+            pruning = Pruning(answered(store.open), member, options.keep)
+            closing.callback(pruning.close)
+            pruning.start()
+        closing.callback(service.close)
+        service.start()
+        at_signals(member.leave)
         with member:
             member.run()
+            if member.core.ending is Ending.NOT_THERE:
+                raise NotInGroup(f'the group has no node {options.node} any more')
     return OK
 
 
-COMMANDS = {'init': init, 'run': run, 'status': status, 'history': history, 'resize': change, 'prune': prune}
+COMMANDS = {
+    'init': init, 'run': run, 'status': status, 'history': history, 'resize': change, 'switchover': switch_over, 'prune': prune, 'repair': mend,
+    'drain': take_out, 'undrain': give_order, 'pause': give_order, 'resume': give_order,
+}  # fmt: skip
 
 # What ends a command, and its status.
 STATUSES: Tuple[Tuple[Type[Exception], int], ...] = (
-    (BadWords, BAD_WORDS), (ConfigFault, BAD_INPUT), (OtherGroup, BAD_INPUT), (NotInGroup, BAD_INPUT), (BullyError, BAD_INPUT),
-    (LogError, NO_STORE), (OSError, NO_STORE), (WorkerEnded, FAILED), (GuardLost, FAILED), (NotEnded, FAILED),
+    (BadWords, BAD_WORDS), (ConfigFault, BAD_INPUT), (OtherGroup, BAD_INPUT), (NotInGroup, NO_NODE), (BullyError, BAD_INPUT),
+    (DamagedLog, BAD_INPUT), (OtherLog, BAD_INPUT), (LogError, NO_STORE), (OSError, NO_STORE),
+    (WorkerEnded, FAILED), (GuardLost, FAILED), (WorkerStuck, FAILED), (NotEnded, FAILED),
 )  # fmt: skip
 
 
 def main(words: Optional[List[str]] = None) -> int:
-    """Runs the command by these words. Its status: 0; 1, if the worker ended by itself or its guard did, or the epoch didn't end; 2 of bad
-    words; 3 of a fault of the configuration, or a log of another group or without that node; 4, if the log or a file can't be used."""
+    """Runs the command by these words. Its status: 0; 1, if the worker ended by itself or its guard did, or it doesn't end, or the epoch didn't, or
+    the group isn't well; 2 of bad words; 3 of a fault of the configuration, or a log of another group, or damaged; 4, if the log or a file can't be
+    used; 5, if the group has no such node, or none any more."""
     options = parser().parse_args(words)
     try:
         return COMMANDS[options.command](options)
@@ -222,9 +365,19 @@ def main(words: Optional[List[str]] = None) -> int:
         status = next((status for kind, status in STATUSES if isinstance(fault, kind)), None)
         if status is None:
             raise
-        said = f'config: {fault}' if isinstance(fault, ConfigFault) else str(fault)
-        print(f'bully-member: {shown_name(said)}', file=sys.stderr)
+        said = shown_name(f'config: {fault}' if isinstance(fault, ConfigFault) else str(fault))
+        is_json = getattr(options, 'log_format', '') == 'json'
+        say_last(JsonLines().format(logging.makeLogRecord({'levelname': 'ERROR', 'msg': said})) if is_json else f'bully-member: {said}', status)
         return status
+
+
+def say_last(text: str, status: int) -> None:
+    """Says it on standard error. If nobody reads there, the process ends with this status at once."""
+    saying = threading.Thread(target=print, args=[text], kwargs={'file': sys.stderr}, daemon=True)
+    saying.start()
+    saying.join(LAST_SECONDS)
+    if saying.is_alive():
+        os._exit(status)
 
 
 if __name__ == '__main__':

@@ -7,6 +7,7 @@ from __future__ import annotations
 
 import dataclasses
 import json
+import re
 from dataclasses import dataclass
 from typing import Optional, Sequence, Tuple
 
@@ -14,7 +15,8 @@ from .group import Setup
 from .settings import Settings
 from .values import EVENTS_MAX
 
-FIRST = 1
+FIRST, LATEST = 1, 4_000_000_000  # of the epochs with which a log may begin
+HEADER = re.compile('bully,[12],[0-9]+,[0-9]+(,[0-9 ]*,(keep|clear))?')
 LEAST = 22  # rows for each node: fewer than so many an epoch never may have
 SETTLEMENT = 11  # rows for each node: what settles a group has no more
 
@@ -39,7 +41,9 @@ class Token(int):
 
 
 def setup_of(header: str) -> Setup:
-    """The setup that a header tells, as `Setup.header` writes one."""
+    """The setup that a header tells, as `Setup.header` writes one. Raises ValueError."""
+    if HEADER.fullmatch(header) is None:
+        raise ValueError(f'{header} is no header')
     _, _, nodes, partitions, *more = header.split(',')
     weights = tuple(map(int, more[0].split())) if more else ()
     return Setup(int(nodes), int(partitions), weights=weights, keeps=more[1:] == ['keep'])
@@ -52,32 +56,44 @@ def room_of(nodes: int, limit: int) -> int:
 
 @dataclass(frozen=True)
 class Opening:
-    """What an epoch begins with: its header, and the names of its nodes; how many rows it may have; and the last table of the epoch before,
-    by this one's numbers of nodes, with 0 where the owner is none of them."""
+    """What an epoch begins with: its header, and the names of its nodes; how many rows it may have; the last table of the epoch before,
+    by this one's numbers of nodes, with 0 where the owner is none of them; and the ttl of all members, if the log has one."""
 
     epoch: int
     header: str
     names: Tuple[str, ...]
     limit: int
     table: Tuple[int, ...] = ()
+    ttl: Optional[float] = None
 
     @staticmethod
-    def first(header: str, names: Sequence[str] = (), limit: int = EVENTS_MAX) -> Opening:
-        """That of the first epoch. Nodes without names are called by their numbers."""
+    def first(
+        header: str, names: Sequence[str] = (), limit: int = EVENTS_MAX, epoch: int = FIRST, ttl: Optional[float] = None
+    ) -> Opening:  # fmt: skip
+        """That of the first epoch, which has this number. Nodes without names are called by their numbers."""
         nodes = setup_of(header).nodes
         told = tuple(names) or tuple(map(str, range(1, nodes + 1)))
-        return Opening(FIRST, header, told, room_of(nodes, limit))
+        return Opening(epoch, header, told, room_of(nodes, limit), ttl=ttl)
 
     @staticmethod
     def parse(text: str) -> Opening:
-        """The one that `text` told. A ValueError, a KeyError or a TypeError tells that it is none."""
+        """The one that `text` told. A ValueError, a KeyError, a TypeError or a BullyError tells that it is none."""
         told = json.loads(text)
-        lists = {name: tuple(told[name]) for name in ('names', 'table')}
-        return Opening(int(told['epoch']), str(told['header']), limit=int(told['limit']), **lists)
+        names, table, limit = tuple(told['names']), tuple(told['table']), int(told['limit'])
+        ttl = float(told['ttl']) if 'ttl' in told else None
+        opening = Opening(int(told['epoch']), str(told['header']), names, limit, table, ttl)
+        setup = setup_of(opening.header)
+        setup.header()  # which is refused, if there can be no such group
+        if setup.nodes != len(names) or len(table) not in (0, setup.partitions):
+            raise ValueError(f'{opening.header} is told of {len(names)} nodes, with a table of {len(table)} partitions')
+        if not all(isinstance(name, str) for name in names) or not set(table) <= set(range(setup.nodes + 1)) or limit != room_of(setup.nodes, limit):
+            raise ValueError(f'names {names}, owners {table} or limit {limit} are none')
+        return opening
 
     def text(self) -> str:
         """The same as JSON, for a store."""
-        return json.dumps(dataclasses.asdict(self), ensure_ascii=False)
+        told = dataclasses.asdict(self)
+        return json.dumps({key: value for key, value in told.items() if value is not None}, ensure_ascii=False)
 
     @property
     def settings(self) -> Settings:
@@ -95,7 +111,7 @@ class Opening:
 
     def wish(self, settings: Settings) -> Opening:
         """The opening of the next epoch with other settings, but for its table, which is known once this one ends."""
-        return Opening(self.epoch + 1, settings.setup.header(), settings.names, room_of(settings.setup.nodes, self.limit))
+        return Opening(self.epoch + 1, settings.setup.header(), settings.names, room_of(settings.setup.nodes, self.limit), ttl=self.ttl)
 
     def after(self, wish: Optional[Opening]) -> Opening:
         """The opening of the next epoch but for its table: what is wished for, or else as this one."""

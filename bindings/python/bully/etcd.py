@@ -2,10 +2,12 @@
 
 Below a log's prefix stand
 
-- `opening/EPOCH`, with the form of the log in it, and `first`, the first epoch whose rows are there;
+- `name`, which no other log has, with the form of the log; all that is asked is asked of the log of that name;
+- `opening/EPOCH`, and `first`, the first epoch whose rows are there;
 - `place`, the end of the log, which is EPOCH/PLACE of the current epoch; and `log/EPOCH/PLACE`, the rows of one append, each with its line
   end, by where they begin;
-- `next`, what the next epoch is to begin with, if something is wished for;
+- `time/EPOCH/PLACE`, when that append was done, by the wall clock of who appended: milliseconds since 1970;
+- `next`, what the next epoch is to begin with, if something is wished for; and `orders`, if some are given;
 - `presence/life/NAME` and `presence/promise/NAME`, EPOCH/PLACE, under one lease of etcd's.
 
 EPOCH and PLACE have ten digits, so what is later is greater. What a call finds is of one revision, and no read is `serializable`.
@@ -27,16 +29,19 @@ from .gateway import (
     number_is, one, pair_of, pairs_of, put, ranges, read_address, value_is, value_of,
 )  # fmt: skip
 from .logs import (
-    BY_HISTORY, SECOND, DamagedLog, ForeignLog, Found, Holder, LogError, LogExists, NoLog, Unanswered, are_idle, no_epoch, opening_of, rows_text,
-    seconds_of_boot, slept, wish_of,
+    BY_HISTORY, SECOND, BadPresence, DamagedLog, ForeignLog, Found, Holder, LogError, LogExists, NoLog, OtherLog, Unanswered, are_idle,
+    log_name, no_epoch, opening_of, orders_of, rows_of, rows_text, see_end, seconds_of_boot, slept, wall_clock, wish_of,
 )  # fmt: skip
 from .member import Life, Promise, Until
+from .orders import Orders
+from .repairing import NOWHERE, Kept
 from .sqlite import life_of, life_text
 from .values import Rows
 
 FORM = 3
 BEGIN = f'{{"form": {FORM}, '  # of an opening; what an older version doesn't take for one
-OLDER = '{"epoch": '  # of an opening of an older form
+NAMED = f'{FORM} '.encode()  # with which a name begins
+OLDER = b'{"epoch": '  # of an opening of an older form
 PAGE = 500  # appends that are read in one request
 READS = 3  # how often a read is begun, if etcd compacts its revision meanwhile
 AGAIN = 0.2  # seconds from the end of a watch that broke to the next
@@ -59,9 +64,10 @@ class Keys:
 
     def __init__(self, prefix: str) -> None:
         self.root = f'{prefix}/'.encode()
-        self.begun = self.opening(FIRST)  # with which the log was made
-        self.first, self.next, self.place = self.root + b'first', self.root + b'next', self.root + b'place'
-        self.logs, self.presences = self.root + b'log/', self.root + b'presence/'
+        self.older = self.opening(FIRST)  # which a log of an older form has, too
+        words = (b'name', b'first', b'next', b'orders', b'place')
+        self.name, self.first, self.next, self.orders, self.place = (self.root + word for word in words)
+        self.logs, self.times, self.presences = self.root + b'log/', self.root + b'time/', self.root + b'presence/'
         self.lives, self.promises = self.presences + b'life/', self.presences + b'promise/'
 
     def opening(self, epoch: int) -> bytes:
@@ -73,13 +79,17 @@ class Keys:
     def row(self, epoch: int, place: int) -> bytes:
         return self.rows(epoch) + b'%010d' % place
 
+    def time(self, row: bytes) -> bytes:
+        """The key of when an append was done, by the key of its rows, or a part of one."""
+        return self.times + row[len(self.logs) :]
+
     def life(self, name: str) -> bytes:
         return self.lives + name.encode()
 
     def promise(self, name: str) -> bytes:
         return self.promises + name.encode()
 
-    def name(self, key: bytes, prefix: bytes) -> str:
+    def node(self, key: bytes, prefix: bytes) -> str:
         """The name of a key that begins so. Raises ValueError."""
         return key[len(prefix) :].decode()
 
@@ -92,10 +102,11 @@ class Keys:
         """The range of an epoch's appends from one key on that are read together."""
         return one(begin, range_end=coded(behind(self.rows(epoch))), limit=PAGE)
 
-    def standing(self, since: int) -> 'tuple[Json, Json, Json, Json]':
-        """The ranges of all that isn't a row: the end of the log, the wish, and the lives and promises that were put behind a revision."""
+    def standing(self, since: int) -> List[Json]:
+        """The ranges of all that isn't a row: the end of the log, the wish, the orders, and the lives and promises that were put behind a
+        revision."""
         newer = {'min_mod_revision': str(since + 1)}
-        return one(self.place), one(self.next), below(self.lives, **newer), below(self.promises, **newer)
+        return [one(self.place), one(self.next), one(self.orders), below(self.lives, **newer), below(self.promises, **newer)]
 
     def watched(self, is_wide: bool) -> Json:
         """The range of what changes, with promises or without them; rows aren't told, since they are looked for."""
@@ -124,7 +135,7 @@ class EtcdLog:
         self._keys = Keys(read.prefix)
         self._client = Client(read, patience, tls, user, password)
         self._held: Optional[Held] = None
-        self._told_wish: Optional[bytes] = None
+        self._told_wanted: Tuple[Optional[bytes], Optional[bytes]] = None, None
         self._told_idle: Tuple[Promise, FrozenSet[str]] = (Promise(), frozenset())
         self._news = News(self._keys)
         self._watch: Optional[Watch] = None
@@ -132,7 +143,7 @@ class EtcdLog:
         self._broken = float('-inf')  # when a watch broke
         self._woken: Optional[int] = None  # that ends a wait
         try:
-            self._created = self._open()
+            self._name = self._open()
         except BaseException:
             self._client.close()
             raise
@@ -150,21 +161,21 @@ class EtcdLog:
             make(client, address, Keys(read.prefix), opening)
         return EtcdLog(address, patience, tls, user, password)
 
-    def _open(self) -> int:
-        """Sees that there is a log. The revision in which it was made."""
+    def _open(self) -> bytes:
+        """Sees that there is a log. Its name."""
         self._client.begin()
         keys = self._keys
-        opening = pairs_of(self._client.ask(KV_RANGE, one(keys.begun), repeats=True))
-        if opening and opening[0].value.startswith(BEGIN.encode()):
-            return opening[0].created
-        first = pairs_of(self._client.ask(KV_RANGE, below(keys.root, limit=1, keys_only=True), repeats=True))
-        if not first:
+        named, older, first = self._client.transact([], ranges(one(keys.name), one(keys.older), below(keys.root, limit=1))).ranges
+        name, opening = value_of(named), value_of(older) or b''
+        if name is not None and name.startswith(NAMED):
+            return name
+        if not pairs_of(first):
             raise NoLog(f'{self.address}: there is none; bully-member init makes a log')
-        if opening and opening[0].value.startswith(OLDER.encode()):
+        if name is None and opening.startswith(OLDER):
             raise ForeignLog(f'{self.address}: a log by an older version, and not of form {FORM}{BY_HISTORY}')
-        if opening or not first[0].key.startswith((keys.first, keys.logs, keys.presences)):
-            raise ForeignLog(f'{self.address}: something else than a log of form {FORM} is below its prefix')
-        raise DamagedLog(f'{self.address}: the log has no opening')
+        if name is None and (opening.startswith(BEGIN.encode()) or pairs_of(first)[0].key.startswith((keys.first, keys.logs, keys.presences))):
+            raise DamagedLog(f'{self.address}: the log has no name')
+        raise ForeignLog(f'{self.address}: something else than a log of form {FORM} is below its prefix')
 
     # Epochs.
 
@@ -188,12 +199,14 @@ class EtcdLog:
         """What is wished for is looked at first, and has to be the same then."""
         self._client.begin()
         keys = self._keys
-        found, wished = map(pairs_of, self._look(one(keys.opening(epoch)), one(keys.next)).ranges)
+        *asked, there = self._look(one(keys.opening(epoch)), one(keys.next), one(keys.place)).ranges
+        see_end(self.address, self._end_of(there), Promise(epoch, place))
+        found, wished = map(pairs_of, asked)
         wish = wish_of(self.address, epoch, wished[0].value if wished else None)
         if not found or opening.bare != opening_of(self.address, epoch, found[0].value).after(wish):
             return False
         is_same = number_is(keys.next, 'mod_revision', wished[0].modified if wished else 0)
-        return self._change([is_same, *self._are_idle(epoch, place)], [*keys.begin(opening), removed(one(keys.next))]).is_done
+        return self._add(epoch, place, [*keys.begin(opening), removed(one(keys.next))], is_same)
 
     def ask(self, wish: Opening, epoch: int) -> bool:
         self._client.begin()
@@ -203,6 +216,16 @@ class EtcdLog:
     def cancel(self, epoch: int) -> None:
         self._client.begin()
         self._change(self._is_current(epoch), [removed(one(self._keys.next))])
+
+    def order(self, orders: Orders, before: Optional[Orders]) -> bool:
+        """What is ordered is looked at first, and has to be the same then."""
+        self._client.begin()
+        key = self._keys.orders
+        found = pairs_of(self._look(one(key)).ranges[0])
+        if before is not None and before != orders_of(self.address, found[0].value if found else None):
+            return False
+        is_same, text = number_is(key, 'mod_revision', found[0].modified if found else 0), orders.text()
+        return self._change([is_same], [put(key, text) if text else removed(one(key))]).is_done
 
     def prune(self, first: int) -> None:
         """The epochs are gone at once. Their rows follow, a part at a time, so that nobody waits for long."""
@@ -217,7 +240,8 @@ class EtcdLog:
             found = pairs_of(self._look(asked).ranges[0])
             if not found:
                 return
-            self._change([], [removed(one(found[0].key, range_end=coded(found[-1].key + b'\0')))])
+            ends = found[0].key, found[-1].key + b'\0'
+            self._change([], [removed(one(begin, range_end=coded(end))) for begin, end in (ends, tuple(map(keys.time, ends)))])
 
     def _is_current(self, epoch: int) -> List[Json]:
         """That the epoch has begun, and none behind it."""
@@ -309,9 +333,16 @@ class EtcdLog:
         """All that are present are in one comparison, which isn't so if nobody is."""
         text = rows_text(rows)
         self._client.begin()
-        keys, behind_them = self._keys, Promise(epoch, place + len(rows))
-        done = [put(keys.row(epoch, place), text), put(keys.place, place_text(behind_them))]
-        return self._change(self._are_idle(epoch, place), done).is_done
+        keys, behind_them, row = self._keys, Promise(epoch, place + len(rows)), self._keys.row(epoch, place)
+        done = [put(row, text), put(keys.time(row), str(wall_clock())), put(keys.place, place_text(behind_them))]
+        return self._add(epoch, place, done)
+
+    def _add(self, epoch: int, place: int, done: Sequence[Json], *more: Json) -> bool:
+        """Whether this is done at the end of the log, while all are idle, and on more conditions."""
+        answer = self._change([*more, *self._are_idle(epoch, place)], done, one(self._keys.place))
+        if not answer.is_done:
+            see_end(self.address, self._end_of(answer.ranges[0]), Promise(epoch, place))
+        return answer.is_done
 
     def _are_idle(self, epoch: int, place: int) -> List[Json]:
         """That the log ends there, and all promises, of which there is one at least, are of that place."""
@@ -320,10 +351,23 @@ class EtcdLog:
 
     def read(self, epoch: int, place: int) -> Rows:
         keys = self._keys
-        _, rows = self._read_with(epoch, place, lambda answer: epoch in self._there(answer), one(keys.place), one(keys.first))
+        answer, rows = self._read_with(epoch, place, lambda answer: epoch in self._there(answer), one(keys.place), one(keys.first))
         if rows is None:
             raise no_epoch(self.address, epoch, self.epochs())
+        see_end(self.address, self._end_of(answer.ranges[0]), Promise(epoch, place))
         return rows
+
+    def times(self, epoch: int) -> Dict[int, Optional[int]]:
+        begin = self._keys.time(self._keys.rows(epoch))
+        times: Dict[int, Optional[int]] = {}
+        after = begin
+        while True:
+            self._client.begin()
+            found = pairs_of(self._look(one(after, range_end=coded(behind(begin)), limit=PAGE)).ranges[0])
+            times.update({int(pair.key[-10:]): int(pair.value) if pair.value.isdigit() else None for pair in found})
+            if len(found) < PAGE:
+                return times
+            after = found[-1].key + b'\0'
 
     def _read_with(self, epoch: int, place: int, is_there: Callable[[Answer], bool], *more: Json) -> 'tuple[Answer, Optional[Rows]]':
         """The rows behind that place, if they are there by the answer, and the answer with what more was asked for at the same revision: the end
@@ -355,10 +399,7 @@ class EtcdLog:
             at += pair.value.count(b'\n')
         if last not in (None, at):
             raise self._damaged(epoch, at)
-        try:
-            return Rows(b''.join(texts).decode())
-        except ValueError as error:
-            raise DamagedLog(f'{self.address}: a row of epoch {epoch} behind place {place} is no text') from error
+        return rows_of(self.address, epoch, place, b''.join(texts))
 
     def _pages(self, epoch: int, found: Json, revision: int) -> Iterator[Pair]:
         """The appends of an epoch, part by part, as they stand at one revision; the first part was found. Raises Compacted."""
@@ -385,6 +426,24 @@ class EtcdLog:
     def _damaged(self, epoch: int, place: int) -> DamagedLog:
         return DamagedLog(f'{self.address}: rows of epoch {epoch} are missing behind place {place}, or something else is between them')
 
+    def kept(self) -> Kept:
+        self._client.begin()
+        place = self._look(one(self._keys.place))
+        end, keys = self._end_of(place.ranges[0]), self._keys
+        found = self._pages(end.epoch, self._more(keys.page(keys.row(end.epoch, 0), end.epoch), place.revision), place.revision)
+        begins = [(pair.key[len(keys.rows(end.epoch)) :], pair.value) for pair in found]
+        return Kept(end, [(int(begin) if begin.isdigit() and len(begin) == 10 else NOWHERE, text) for begin, text in begins])
+
+    def cut(self, end: Promise, append: int, text: str, opening: Opening) -> bool:
+        self._client.begin()
+        keys = self._keys
+        nobody = {**below(keys.presences), **number_is(keys.presences, 'version', 0)}
+        begin, behind_all = keys.row(end.epoch, append), behind(keys.rows(end.epoch))
+        rest = begin + b'\0' * bool(text), behind_all
+        gone = [removed(one(first, range_end=coded(last))) for first, last in (rest, tuple(map(keys.time, rest)))]
+        done = [*gone, *([put(begin, text)] if text else []), removed(one(keys.next)), *keys.begin(opening)]
+        return self._change([nobody, value_is(keys.place, place_text(end).encode())], done).is_done
+
     # Looks and waits.
 
     def look(self, epoch: int, place: int) -> Found:
@@ -393,11 +452,12 @@ class EtcdLog:
         for since in (self._news.known, 0):
             answer, rows = self._read_with(epoch, place, lambda answer: self._end_of(answer.ranges[0]).epoch == epoch, *self._keys.standing(since))
             end = self._end_of(answer.ranges[0])
+            see_end(self.address, end, Promise(epoch, place))
             if self._see_all(answer, since):
                 break
-        wish = wish_of(self.address, end.epoch, self._news.wish)
-        found = Found(end.epoch, rows or Rows(''), self._news.presences(), wish)
-        self._told_wish, self._told_idle = self._news.wish, (end, found.idle(end))
+        wish, orders = wish_of(self.address, end.epoch, self._news.wish), orders_of(self.address, self._news.orders)
+        found = Found(end.epoch, rows or Rows(''), self._news.presences(), wish, orders)
+        self._told_wanted, self._told_idle = self._news.wanted, (end, found.idle(end))
         return found
 
     def _see_all(self, answer: Answer, since: int) -> bool:
@@ -405,14 +465,14 @@ class EtcdLog:
         try:
             return self._news.see_all(answer, since)
         except (ValueError, KeyError) as fault:
-            raise DamagedLog(f'{self.address}: a presence is none: {fault}') from fault
+            raise BadPresence(f'{self.address}: a presence is none: {fault}') from fault
 
     def wait(self, epoch: int, place: int, lives: Mapping[str, Life], until: Until, seconds: float, woken: Optional[int] = None) -> None:
         """By a watch. While many are present it tells of promises only where they are waited for: else each of them would be told to all."""
         end = seconds_of_boot() + seconds
         known, idle = self._told_idle
         here = Promise(epoch, place)
-        is_news = self._news.awaited(here, lives, until, self._told_wish, idle if known == here else frozenset())
+        is_news = self._news.awaited(here, lives, until, self._told_wanted, idle if known == here else frozenset())
         is_wide = until is not Until.NEWS or len(lives) <= FEW
         self._woken = woken
         while not self._hear(is_news, is_wide, max(0.0, end - seconds_of_boot())):
@@ -466,23 +526,22 @@ class EtcdLog:
 
     def _look(self, *asked: Json) -> Answer:
         """What these ranges find, at one revision, in the log that was opened."""
-        return self._checked(self._client.transact([], ranges(one(self._keys.begun, keys_only=True), *asked)))
+        return self._checked(self._client.transact([], ranges(one(self._keys.name), *asked)))
 
     def _change(self, conditions: Sequence[Json], done: Sequence[Json], *refused: Json) -> Answer:
         """What is done if the conditions are so, and else what is found, in the log that was opened."""
-        first = self._keys.begun
-        is_same = number_is(first, 'create_revision', self._created)
-        answer = self._client.transact([is_same, *conditions], done, [one(first, keys_only=True), *refused])
+        named = self._keys.name
+        answer = self._client.transact([value_is(named, self._name), *conditions], done, [one(named), *refused])
         return answer if answer.is_done else self._checked(answer)
 
     def _checked(self, answer: Answer) -> Answer:
-        """The answer, without the range of the key that was made first. Raises DamagedLog, ForeignLog, if the log isn't the one that was opened."""
-        first, *others = answer.ranges
-        made = [pair.created for pair in pairs_of(first)]
-        if not made:
-            raise DamagedLog(f'{self.address}: the log was removed')
-        if made != [self._created]:
-            raise ForeignLog(f'{self.address}: another log is in its place')
+        """The answer, without the range of the name. Raises NoLog, OtherLog, if the log isn't the one that was opened."""
+        named, *others = answer.ranges
+        name = value_of(named)
+        if name is None:
+            raise NoLog(f'{self.address}: the log was removed')
+        if name != self._name:
+            raise OtherLog(f'{self.address}: another log is in its place')
         return answer._replace(ranges=others)
 
     def _end_of(self, found: Json) -> Promise:
@@ -501,6 +560,7 @@ class News:
         self.is_fresh = False  # whether a watch told nothing since, and none broke
         self.end: Optional[bytes] = None
         self.wish: Optional[bytes] = None
+        self.orders: Optional[bytes] = None
         self.lives: Dict[str, Life] = {}
         self.promises: Dict[str, Promise] = {}
         self._keys = keys
@@ -511,19 +571,24 @@ class News:
         """The revision up to which lives and promises are known."""
         return 0 if self._is_odd else self.revision
 
+    @property
+    def wanted(self) -> Tuple[Optional[bytes], Optional[bytes]]:
+        return self.wish, self.orders
+
     def see_all(self, answer: Answer, since: int) -> bool:
         """What the ranges of `standing` found, behind a revision up to which all is known. Whether that tells all: what is gone can't be
         found. Else nothing changes. Raises ValueError, KeyError of what is no presence."""
-        keys, (place, wish, *found) = self._keys, answer.ranges[:4]
+        keys, (place, wish, orders, *found) = self._keys, answer.ranges[:5]
         lives, promises = (dict(self.lives), dict(self.promises)) if since else ({}, {})
-        lives.update((keys.name(pair.key, keys.lives), life_of(pair.value.decode())) for pair in pairs_of(found[0]))
-        promises.update((keys.name(pair.key, keys.promises), place_of(pair.value.decode())) for pair in pairs_of(found[1]))
+        lives.update((keys.node(pair.key, keys.lives), life_of(pair.value.decode())) for pair in pairs_of(found[0]))
+        promises.update((keys.node(pair.key, keys.promises), place_of(pair.value.decode())) for pair in pairs_of(found[1]))
         if [len(lives), len(promises)] != [int(each.get('count', 0)) for each in found]:
             return False
         for name in lives:
             promises[name]
         self.lives, self.promises, self._is_odd = lives, promises, False
-        self.end, self.wish, self.revision, self.is_fresh = value_of(place), value_of(wish), answer.revision, True
+        self.end, self.wish, self.orders = value_of(place), value_of(wish), value_of(orders)
+        self.revision, self.is_fresh = answer.revision, True
         return True
 
     def presences(self) -> Dict[str, Holder]:
@@ -541,26 +606,29 @@ class News:
                 self.end = pair.value if is_put else None
             elif key == keys.next:
                 self.wish = pair.value if is_put else None
+            elif key == keys.orders:
+                self.orders = pair.value if is_put else None
             elif key.startswith(keys.lives) and is_put:
-                self.lives[keys.name(key, keys.lives)] = life_of(pair.value.decode())
+                self.lives[keys.node(key, keys.lives)] = life_of(pair.value.decode())
             elif key.startswith(keys.lives):
-                name = keys.name(key, keys.lives)
+                name = keys.node(key, keys.lives)
                 self.lives.pop(name, None)
                 self.promises.pop(name, None)
             elif key.startswith(keys.promises) and is_put:
-                self.promises[keys.name(key, keys.promises)] = place_of(pair.value.decode())
+                self.promises[keys.node(key, keys.promises)] = place_of(pair.value.decode())
             elif key.startswith(keys.promises):
-                self.promises.pop(keys.name(key, keys.promises), None)
-            self._is_odd |= key == keys.begun
+                self.promises.pop(keys.node(key, keys.promises), None)
         except ValueError:
             self._is_odd = True
 
-    def awaited(self, here: Promise, lives: Mapping[str, Life], until: Until, wish: Optional[bytes], before: AbstractSet[str]) -> Callable[[], bool]:
-        """What tells whether there is what is waited for, by who was idle before."""
+    def awaited(
+        self, here: Promise, lives: Mapping[str, Life], until: Until, wanted: Tuple[Optional[bytes], Optional[bytes]], before: AbstractSet[str],
+    ) -> Callable[[], bool]:  # fmt: skip
+        """What tells whether there is what is waited for, by what was wanted and who was idle before."""
         end = place_text(here).encode()
 
         def is_news() -> bool:
-            if self._is_odd or self.end != end or self.wish != wish or self.lives != lives:
+            if self._is_odd or self.end != end or self.wanted != wanted or self.lives != lives:
                 return True
             return are_idle(until, self.promises, here, before)
 
@@ -584,13 +652,14 @@ def removed(asked: Json) -> Json:
 
 def make(client: Client, address: str, keys: Keys, opening: Opening) -> None:
     """Makes a log. Raises LogExists, ForeignLog."""
-    there = [one(keys.begun, keys_only=True), below(keys.root, limit=1, keys_only=True)]
-    answer = client.transact([exists(keys.begun)], [], there)  # so that the keys of a long log aren't compared
-    if not answer.is_done and not answer.ranges[1].get('kvs'):
+    there = [one(keys.name, keys_only=True), one(keys.older, keys_only=True), below(keys.root, limit=1, keys_only=True)]
+    answer = client.transact([exists(keys.name)], [], there)  # so that the keys of a long log aren't compared
+    if not answer.is_done and not answer.ranges[-1].get('kvs'):
         is_empty = {**below(keys.root), **number_is(keys.root, 'version', 0)}
-        answer = client.transact([is_empty], [*keys.begin(opening), put(keys.first, f'{opening.epoch:010}')], there)
+        named = put(keys.name, NAMED.decode() + log_name())
+        answer = client.transact([is_empty], [named, *keys.begin(opening), put(keys.first, f'{opening.epoch:010}')], there)
         if answer.is_done:
             return
-    if answer.is_done or answer.ranges[0].get('kvs'):
+    if answer.is_done or any(found.get('kvs') for found in answer.ranges[:2]):
         raise LogExists(f'{address}: there is a log already')
     raise ForeignLog(f'{address}: something else is below its prefix already')

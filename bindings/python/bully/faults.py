@@ -1,8 +1,11 @@
 """What the library refuses: an exception for each of its statuses."""
 from __future__ import annotations
 
-from typing import Dict, Type
+from typing import TYPE_CHECKING, Dict, Type
 
+from .header import statuses
+
+_STATUSES = statuses()
 FAULTS: Dict[int, Type[BullyError]] = {}  # by their statuses
 
 
@@ -11,11 +14,12 @@ class BullyError(Exception):
 
     status: int = 0
 
-    def __init_subclass__(cls, status: int = 0) -> None:
-        """A class that is of a status by itself."""
+    def __init_subclass__(cls, status: str = '') -> None:
+        """A class that is of a status by itself, the one that `bully.h` has by this name."""
         super().__init_subclass__()
         if status:
-            cls.status, FAULTS[status] = status, cls
+            cls.status = _STATUSES[status]
+            FAULTS[cls.status] = cls
 
     def __init__(self, message: str = '') -> None:
         super().__init__(message or (type(self).__doc__ or '').rstrip('.'))
@@ -49,163 +53,163 @@ class NotLearned(BullyError):
     cause: Type[BullyError] = BullyError
 
 
-class Full(Refused, status=1):
+class Full(Refused, status='FULL'):
     """As many events as the setup bounds were told."""
 
 
-class BadNode(Refused, status=2):
+class BadNode(Refused, status='BAD_NODE'):
     """A node is none of the setup's."""
 
 
-class IsDown(Refused, status=3):
+class IsDown(Refused, status='IS_DOWN'):
     """The node is Down."""
 
 
-class IsUp(Refused, status=4):
+class IsUp(Refused, status='IS_UP'):
     """The node recovers and isn't Down."""
 
 
-class Busy(Refused, status=5):
+class Busy(Refused, status='BUSY'):
     """A check or a timeout of a node that isn't idle."""
 
 
-class NoStep(Refused, status=6):
+class NoStep(Refused, status='NO_STEP'):
     """The node doesn't want to do that next."""
 
 
-class SlotBusy(Refused, status=7):
+class SlotBusy(Refused, status='SLOT_BUSY'):
     """The node has a call under way."""
 
 
-class NoCall(Refused, status=8):
+class NoCall(Refused, status='NO_CALL'):
     """There is no such call."""
 
 
-class CalleeDown(Refused, status=9):
+class CalleeDown(Refused, status='CALLEE_DOWN'):
     """The request comes to a node that is Down."""
 
 
-class CalleeUp(Refused, status=10):
+class CalleeUp(Refused, status='CALLEE_UP'):
     """A call of a trace is lost whose callee is up."""
 
 
-class BadTable(Refused, status=11):
+class BadTable(Refused, status='BAD_TABLE'):
     """A planned table isn't balanced over the node and its up set."""
 
 
-class NotOrphan(Refused, status=12):
+class NotOrphan(Refused, status='NOT_ORPHAN'):
     """The call isn't an orphan."""
 
 
-class Null(BadArgument, status=20):
+class Null(BadArgument, status='NULL'):
     """A pointer is null that must not be. This module hands none on."""
 
 
-class Closed(BadArgument, status=21):
+class Closed(BadArgument, status='CLOSED'):
     """The agent, the replica or the member is closed."""
 
 
-class Open(BadArgument, status=22):
+class Open(BadArgument, status='OPEN'):
     """The handle is open already. This module opens none twice."""
 
 
-class OutOfMemory(BullyError, status=23):
+class OutOfMemory(BullyError, status='OUT_OF_MEMORY'):
     """An allocation failed."""
 
 
-class Short(BullyError, status=24):
+class Short(BullyError, status='SHORT'):
     """The room is too small. This module makes more room by itself."""
 
 
-class BadNodes(BadArgument, status=25):
+class BadNodes(BadArgument, status='BAD_NODES'):
     """A setup has no nodes, or more than NODES_MAX."""
 
 
-class BadPartitions(BadArgument, status=26):
+class BadPartitions(BadArgument, status='BAD_PARTITIONS'):
     """A setup has no partitions, or more than PARTITIONS_MAX."""
 
 
-class BadLimit(BadArgument, status=27):
+class BadLimit(BadArgument, status='BAD_LIMIT'):
     """A setup bounds no events, or more than EVENTS_MAX."""
 
 
-class BadWeights(BadArgument, status=28):
+class BadWeights(BadArgument, status='BAD_WEIGHTS'):
     """There are as many weights as nodes, each from 1 to WEIGHT_MAX."""
 
 
-class TableLength(BadArgument, status=29):
+class TableLength(BadArgument, status='TABLE_LENGTH'):
     """A table has another number of owners than there are partitions."""
 
 
-class TableOwner(BadArgument, status=30):
+class TableOwner(BadArgument, status='TABLE_OWNER'):
     """An owner is no node of the setup."""
 
 
-class NoMember(BadArgument, status=31):
+class NoMember(BadArgument, status='NO_MEMBER'):
     """A table over no members."""
 
 
-class BadEvent(BadArgument, status=32):
+class BadEvent(BadArgument, status='BAD_EVENT'):
     """No number of a kind of event. This module hands none on."""
 
 
-class BadRowsMax(BadArgument, status=33):
+class BadRowsMax(BadArgument, status='BAD_ROWS_MAX'):
     """A member's log has room for fewer than 22 rows for each node, or for more than EVENTS_MAX."""
 
 
-class BadTtl(BadArgument, status=34):
+class BadTtl(BadArgument, status='BAD_TTL'):
     """A member's ttl is below a millisecond or above a day."""
 
 
-class BadAnswer(BadArgument, status=35):
+class BadAnswer(BadArgument, status='BAD_ANSWER'):
     """No number of an answer of a store. This module hands none on."""
 
 
-class LineWord(LineFault, status=40):
+class LineWord(LineFault, status='LINE_WORD'):
     """The line doesn't begin with `ask`, or with `tell`, or isn't UTF-8."""
 
 
-class LineCaller(LineFault, status=41):
+class LineCaller(LineFault, status='LINE_CALLER'):
     """The line names no node of the setup as the caller."""
 
 
-class LineNumber(LineFault, status=42):
+class LineNumber(LineFault, status='LINE_NUMBER'):
     """The line has no number of a call below the bound on events."""
 
 
-class LineCallee(LineFault, status=43):
+class LineCallee(LineFault, status='LINE_CALLEE'):
     """The line names no node of the setup as the callee."""
 
 
-class LineKind(LineFault, status=44):
+class LineKind(LineFault, status='LINE_KIND'):
     """The line has no word of a call, or a table behind another call than Ready."""
 
 
-class LineTable(LineFault, status=45):
+class LineTable(LineFault, status='LINE_TABLE'):
     """The line of a Ready has no table of the setup."""
 
 
-class LineAnswer(LineFault, status=46):
+class LineAnswer(LineFault, status='LINE_ANSWER'):
     """The line has neither `yes` nor `no` as its answer."""
 
 
-class BadHeader(TraceFault, status=50):
+class BadHeader(TraceFault, status='BAD_HEADER'):
     """The first row is no header of a trace, or there is none."""
 
 
-class BadRow(TraceFault, status=51):
+class BadRow(TraceFault, status='BAD_ROW'):
     """A row has no form of a row."""
 
 
-class TooManyRows(TraceFault, status=52):
+class TooManyRows(TraceFault, status='TOO_MANY_ROWS'):
     """More than 1,000,000 rows stand behind the header."""
 
 
-class RowDiffers(BullyError, status=53):
+class RowDiffers(BullyError, status='ROW_DIFFERS'):
     """What the row says beside its event, or claims, isn't so."""
 
 
-class RowEnd(BadArgument, status=54):
+class RowEnd(BadArgument, status='ROW_END'):
     """The last line has no line end. This module ends each row."""
 
 
@@ -224,3 +228,7 @@ def fault_of(status: int, row: int = 0) -> BullyError:
 def expect_ok(status: int, row: int = 0) -> None:
     if status:
         raise fault_of(status, row)
+
+
+if not TYPE_CHECKING:  # the package hands on each exception
+    __all__ = [name for name, each in list(vars().items()) if isinstance(each, type) and issubclass(each, BullyError)]

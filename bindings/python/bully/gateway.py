@@ -3,13 +3,15 @@ from __future__ import annotations
 
 import http.client
 import json
+import queue
 import re
 import socket
 import ssl
+import threading
 from base64 import b64decode, b64encode
-from typing import Any, Dict, List, NamedTuple, NoReturn, Optional, Sequence, Tuple
+from typing import Any, Dict, List, NamedTuple, NoReturn, Optional, Sequence, Tuple, Union
 
-from .logs import ForeignLog, LogError, Unanswered, seconds_of_boot, slept
+from .logs import DamagedLog, ForeignLog, LogError, Unanswered, seconds_of_boot, slept
 
 PORT = 2379
 LEAST_LIMIT = 0.01  # seconds that a request is given at least
@@ -61,8 +63,8 @@ def read_address(words: str) -> Address:
     prefix = prefix.rstrip('/')
     if kind not in ('etcd', 'etcds') or not mark or not prefix:
         raise ValueError(f'{words} has to be etcd://HOST:PORT,HOST:PORT/PREFIX')
-    if not {'log', 'presence'}.isdisjoint(prefix.split('/')):
-        raise ValueError(f'{words}: no part of a prefix may be `log` or `presence`, which stand below another one')
+    if not {'log', 'opening', 'presence', 'time'}.isdisjoint(prefix.split('/')):
+        raise ValueError(f'{words}: no part of a prefix may be `log`, `opening`, `presence` or `time`, which stand below another one')
     prefix.encode()
     return Address(tuple(map(read_endpoint, servers.split(','))), prefix, kind == 'etcds')
 
@@ -238,6 +240,52 @@ class Answer(NamedTuple):
     term: int
 
 
+class Names:
+    """Looks up where servers are, in threads, since no time-out bounds that."""
+
+    def __init__(self) -> None:
+        self._asked: Dict[Endpoint, 'queue.SimpleQueue[Union[List[Any], OSError]]'] = {}
+
+    def places(self, endpoint: Endpoint, seconds: float) -> List[Any]:
+        """What `getaddrinfo` tells of it. What isn't told in time is waited for by the next call. Raises Silent."""
+        if endpoint not in self._asked:
+            self._asked[endpoint] = queue.SimpleQueue()
+            threading.Thread(target=look_up, args=[endpoint, self._asked[endpoint]], name='bully names', daemon=True).start()
+        try:
+            found = self._asked[endpoint].get(timeout=seconds)
+        except queue.Empty:
+            raise Silent(endpoint, 'its name was not looked up in time', may_be_done=False) from None
+        del self._asked[endpoint]
+        if isinstance(found, OSError):
+            raise silent_of(endpoint, found, may_be_done=False) from found
+        return found
+
+
+def look_up(endpoint: Endpoint, told: 'queue.SimpleQueue[Union[List[Any], OSError]]') -> None:
+    try:
+        told.put(socket.getaddrinfo(endpoint.host, endpoint.port, type=socket.SOCK_STREAM))
+    except OSError as error:
+        told.put(error)
+    except UnicodeError as error:
+        told.put(OSError(str(error)))
+
+
+def reached(places: Sequence[Any], end: float) -> socket.socket:
+    """A connection to the first of these places that answers. Raises OSError."""
+    fault = OSError('it has no address')
+    for family, kind, protocol, _, place in places:
+        there = socket.socket(family, kind, protocol)
+        try:
+            there.settimeout(max(LEAST_LIMIT, end - seconds_of_boot()))
+            there.setsockopt(socket.IPPROTO_TCP, socket.TCP_NODELAY, 1)
+            there.connect(place)
+            return there
+        except OSError as error:
+            there.close()
+            fault = error
+    raise fault
+
+
 class Client:
     """Asks the servers of an etcd, one request at a time, and the next server if one doesn't answer."""
 
@@ -253,6 +301,8 @@ class Client:
         self._end = 0.0
         self._connection: Optional[http.client.HTTPConnection] = None
         self._cluster: Optional[str] = None
+        self._names = Names()
+        self.seen = 0, 0  # the highest revision and term of a transaction
 
     @property
     def endpoint(self) -> Endpoint:
@@ -273,8 +323,12 @@ class Client:
         changes = any('request_range' not in each for each in done)
         answer = self.ask(KV_TXN, told, repeats=not changes)
         found = [each['response_range'] for each in answer.get('responses', ()) if 'response_range' in each]
-        header = answer['header']
-        return Answer(bool(answer.get('succeeded')), found, int(header['revision']), int(header['raft_term']))
+        revision, term = int(answer['header']['revision']), int(answer['header']['raft_term'])
+        if revision < self.seen[0] or term < self.seen[1]:
+            raise DamagedLog(f'{self.endpoint}: etcd was at revision {self.seen[0]} and term {self.seen[1]}, and is at {revision} and {term}: '
+                             'it went back, as one does that is restored')  # fmt: skip
+        self.seen = revision, term
+        return Answer(bool(answer.get('succeeded')), found, revision, term)
 
     def ask(self, path: str, told: Json, repeats: bool = False) -> Json:
         """What etcd answers. If a server doesn't answer, the next one is asked: also of what may have been done, if that `repeats`.
@@ -360,13 +414,14 @@ class Client:
 
     def _connect(self, end: float) -> http.client.HTTPConnection:
         """A new connection to this server. Raises Silent."""
-        (host, port), seconds = self.endpoint, max(LEAST_LIMIT, end - seconds_of_boot())
-        if self._tls is None:
-            connection = http.client.HTTPConnection(host, port, timeout=seconds)
-        else:
-            connection = http.client.HTTPSConnection(host, port, timeout=seconds, context=self._tls)
+        places = self._names.places(self.endpoint, max(LEAST_LIMIT, end - seconds_of_boot()))
+        connection = http.client.HTTPConnection(*self.endpoint)
+        connection.auto_open = 0  # by itself it would look up the name, and without TLS
         try:
-            connection.connect()
+            connection.sock = reached(places, end)
+            if self._tls is not None:
+                limit(connection, end)
+                connection.sock = self._tls.wrap_socket(connection.sock, server_hostname=self.endpoint.host)
         except OSError as error:
             connection.close()
             raise silent_of(self.endpoint, error, may_be_done=False) from error

@@ -1,22 +1,24 @@
 """The guard: the one small process beside a member, for as long as that is there. It starts, ends and kills the member's workers.
 
-    guard.py CHANNEL PATIENCE KIND FILE SECONDS WORKER ARGS..
+    guard.py CHANNEL PATIENCE KIND FILE TTL WORKER ARGS..
 
 CHANNEL is a socket to the member, by its number. The member says
 
     until NS         until when its work is sure, in nanoseconds of CLOCK_BOOTTIME
+    part WORDS       words that stand before those of the next begin: a message has no room for all
     begin WORDS      a worker begins, by these words: NAME=VALUE for its environment, parted by zero bytes
     stop             the worker has to end: by SIGTERM, and after PATIENCE seconds by SIGKILL
 
-and the guard says `stopped` behind a stop, once nothing of the worker is left; `lost`, if it has killed the worker since its time was
-over; `ended STATUS`, if that ended by itself. It kills a worker with all that it started, also while the member is stopped or dead, and
-behind a sleep of the machine. If the member is gone, that is as if it had said stop.
+and the guard says `begun`; `stopped` behind a stop, once nothing of the worker is left; `lost`, if it has killed the worker since its time
+was over; `ended STATUS`, if that ended by itself; and before these `held PROCESSES`, if these are still there a twentieth of the ttl behind
+SIGKILL, as one of another user is. It kills a worker with all that it started, also while the member is stopped or dead, and behind a sleep of
+the machine. If the member is gone, that is as if it had said stop.
 
 If KIND is `talks`, a worker stays over changes: WORDS is then a line for its standard input, and so is {"stop": true}. It answers such a stop by
 a line `stopped` on the descriptor BULLY_ANSWERS, or it ends. What it answered before isn't heard.
 
-The guard also kills a member that stays stopped for SECONDS in the middle of a write to FILE, the one with the end `-shm` of a file of SQLite,
-on which whoever writes has a lock: else that would be kept from all others. It imports nothing of its package.
+The guard also kills a member that stays stopped in the middle of a write to FILE, the one with the end `-shm` of a file of SQLite, on which
+whoever writes has a lock, within two fifths of the ttl: else others couldn't renew before theirs is over. It imports nothing of its package.
 """
 import contextlib
 import ctypes
@@ -28,18 +30,22 @@ import struct
 import sys
 import time
 from pathlib import Path
-from typing import List, Optional, Sequence, Set
+from typing import AbstractSet, Callable, Dict, List, Optional, Sequence, Set
 
 CLOCK_BOOTTIME = 7
 TIMER_ABSOLUTE = 1
 PR_SET_PDEATHSIG, PR_SET_CHILD_SUBREAPER = 1, 36
-NANOSECONDS = 1_000_000_000
+NANOSECONDS, MILLISECOND = 1_000_000_000, 1_000_000
 QUIET = (signal.SIGTERM, signal.SIGINT, signal.SIGHUP)  # its member ends it, and no signal that all processes get
 MESSAGE_MAX = 1 << 20  # bytes
 ANSWERS = 3  # the descriptor for a worker that talks
 STOP, STOPPED = b'{"stop": true}', b'stopped'
 WRITER_BYTE = '120'  # of the file, on which whoever writes has a lock
 TIMES = 5  # how often the locks are looked at: while others come and go, a line may be left out
+BEATS = 20  # of a ttl, one of which a guard may be late
+LOOKS = 5  # of a ttl, from one look at a member to the next, for which it may be stopped in a write, too
+TOLD = 20  # processes that are told at most
+LONGEST_SLEEP = 0.02  # seconds between two looks at what was killed
 
 _libc = ctypes.CDLL(None, use_errno=True)
 
@@ -55,10 +61,55 @@ def now() -> int:
     return time.clock_gettime_ns(CLOCK_BOOTTIME)
 
 
-def children() -> List[int]:
+def children() -> Set[int]:
     """The processes that this one has to wait for."""
-    with open(f'/proc/self/task/{os.getpid()}/children', encoding='ascii') as listed:
-        return [int(word) for word in listed.read().split()]
+    found: List[str] = []
+    for task in os.listdir('/proc/self/task'):
+        with contextlib.suppress(OSError):  # the thread has ended
+            found += Path(f'/proc/self/task/{task}/children').read_text(encoding='ascii').split()
+    return set(map(int, found))
+
+
+def adopt() -> None:
+    """What the processes below this one leave is left to it."""
+    checked(_libc.prctl(PR_SET_CHILD_SUBREAPER, 1, 0, 0, 0))
+
+
+def end_children(spared: AbstractSet[int], seconds: float, tell: Callable[[List[int]], object]) -> Dict[int, int]:
+    """Kills the children of this process but these, with all that they leave, and waits for that. Which are still there in so many seconds
+    is told, those that may work on first, and once more if others come. Their statuses."""
+    statuses: Dict[int, int] = {}
+    told: Set[int] = set()
+    end, sleep = now() + int(seconds * NANOSECONDS), LONGEST_SLEEP / 16
+    while left := children() - spared:
+        for child in left:
+            statuses.update(killed(child))
+        if now() >= end and not left <= told:
+            tell(sorted(left, key=may_kill))
+            told = left
+        time.sleep(sleep)
+        sleep = min(2 * sleep, LONGEST_SLEEP)
+    return statuses
+
+
+def killed(child: int) -> Dict[int, int]:
+    """Kills a child, if it may. Its status, if it has ended."""
+    with contextlib.suppress(PermissionError):  # nobody else waits for children meanwhile, so the number is the child's
+        os.kill(child, signal.SIGKILL)
+    with contextlib.suppress(ChildProcessError):
+        ended, how = os.waitpid(child, os.WNOHANG)
+        return {child: os.waitstatus_to_exitcode(how)} if ended else {}
+    return {}
+
+
+def may_kill(process: int) -> bool:
+    """Whether this process may kill that one. One of another user it may not."""
+    with contextlib.suppress(ProcessLookupError):
+        try:
+            os.kill(process, 0)
+        except PermissionError:
+            return False
+    return True
 
 
 # ---- Who writes to a file
@@ -90,13 +141,28 @@ def is_stopped(process: int) -> bool:
     return False
 
 
+def say(text: str) -> None:
+    """Says it, if standard error takes it at once."""
+    poll = select.poll()
+    poll.register(2, select.POLLOUT)
+    with contextlib.suppress(OSError):  # nobody reads any more
+        if poll.poll(0):
+            os.write(2, text.encode())
+
+
 class Watch:
     """Looks after a member, which may not stay stopped in the middle of a write."""
 
-    def __init__(self, file: str, seconds: float) -> None:
-        self.member, self.file, self.span = os.getppid(), file, int(seconds * NANOSECONDS)
+    def __init__(self, file: str, ttl: float) -> None:
+        self.member, self.file, self.span = os.getppid(), file, int(ttl / LOOKS * NANOSECONDS)
         self.stopped_at: Optional[int] = None
-        self.beat = int(1000 * seconds / 4) if file else None  # milliseconds from one look to the next
+
+    def pause(self) -> Optional[int]:
+        """For how many milliseconds it needn't look, at most."""
+        if not self.file:
+            return None
+        left = self.span if self.stopped_at is None else max(0, self.stopped_at + self.span - now())
+        return left // MILLISECOND + 1
 
     def look(self) -> None:
         if not self.file or not is_stopped(self.member) or writer_of(self.file) != self.member:
@@ -104,8 +170,8 @@ class Watch:
         elif self.stopped_at is None:
             self.stopped_at = now()
         elif now() >= self.stopped_at + self.span and os.getppid() == self.member:
-            sys.stderr.write(f'bully: process {self.member} was stopped in the middle of a write, and is killed\n')
             os.kill(self.member, signal.SIGKILL)
+            say(f'bully: process {self.member} was stopped in the middle of a write, and is killed\n')
 
 
 # ---- A worker
@@ -136,10 +202,13 @@ class Worker:
             os.set_blocking(self.answers, False)
 
     def tell(self, line: bytes) -> None:
-        """A line for one that talks."""
+        """A line for one that talks. If there is no room for all of it, it is killed."""
         if self.lines is not None:
-            with contextlib.suppress(OSError):  # it doesn't read any more
-                self.lines.send(line + b'\n', socket.MSG_DONTWAIT)
+            with contextlib.suppress(BrokenPipeError, ConnectionResetError):  # it doesn't read any more
+                if not has_room(self.lines, line + b'\n'):
+                    say(f'bully: there is no room for a line of {len(line)} bytes to the worker, and it is killed\n')
+                    with contextlib.suppress(PermissionError):
+                        os.kill(self.process, signal.SIGKILL)
 
     def heard(self) -> List[bytes]:
         """The lines that it has answered. One read takes all that a pipe holds: more may come without end."""
@@ -154,28 +223,32 @@ class Worker:
         """It has so many nanoseconds from now on to stop, and to end, if it doesn't talk or that is for good."""
         self.stop_by = self.stop_by or now() + patience
         if self.lines is None or for_good:
-            os.killpg(self.process, signal.SIGTERM)  # the group of a worker that wasn't waited for
+            terminate(self.process)
             return
         if self.answers >= 0:
             self.heard()  # no answer to this stop
         self.tell(STOP)
 
-    def end_all(self) -> int:
-        """Kills all that is left of it, and waits for that. Its status."""
+    def end_all(self, seconds: float, tell: Callable[[List[int]], object]) -> int:
+        """Kills all that is left of it, and waits for that. Which processes are still there in so many seconds is told. Its status."""
         closed(self.end)
         closed(self.answers)
         if self.lines is not None:
             self.lines.close()
-        status = 0
-        while True:
-            for child in children():
-                os.kill(child, signal.SIGKILL)
-            try:
-                ended, how = os.waitpid(-1, 0)
-            except ChildProcessError:
-                return status
-            if ended == self.process:
-                status = os.waitstatus_to_exitcode(how)
+        return end_children(frozenset(), seconds, tell).get(self.process, 0)
+
+
+def has_room(lines: socket.socket, line: bytes) -> bool:
+    """Whether all of the line is sent at once."""
+    with contextlib.suppress(BlockingIOError):
+        return lines.send(line, socket.MSG_DONTWAIT) == len(line)
+    return False
+
+
+def terminate(process: int) -> None:
+    """SIGTERM for the process group of a worker that wasn't waited for; for it alone, if it has left that."""
+    with contextlib.suppress(PermissionError, ProcessLookupError):  # it is another user's, or its group has ended just now
+        (os.killpg if os.getpgid(process) == process else os.kill)(process, signal.SIGTERM)
 
 
 def closed(descriptor: int) -> int:
@@ -210,10 +283,11 @@ def become(words: List[str], environment: List[bytes], pipes: Sequence[int], par
 class Guard:
     """The guard of a member."""
 
-    def __init__(self, channel: socket.socket, patience: float, talks: bool, watch: Watch, words: List[str]) -> None:
-        self.channel, self.watch, self.words, self.talks = channel, watch, words, talks
+    def __init__(self, channel: socket.socket, patience: float, talks: bool, ttl: float, watch: Watch, words: List[str]) -> None:
+        self.channel, self.watch, self.words, self.talks, self.ttl = channel, watch, words, talks, ttl
         self.patience = int(patience * NANOSECONDS)
         self.until = 0
+        self.parts = b''  # of the words of the next begin
         self.timer = checked(_libc.timerfd_create(CLOCK_BOOTTIME, os.O_CLOEXEC | os.O_NONBLOCK))
         self.worker: Optional[Worker] = None
         self.is_alone = False  # whether the member is gone
@@ -239,7 +313,7 @@ class Guard:
         for descriptor in there:
             if descriptor >= 0:
                 poll.register(descriptor, select.POLLIN)
-        return {descriptor for descriptor, _ in poll.poll(self.watch.beat)}
+        return {descriptor for descriptor, _ in poll.poll(self.watch.pause())}
 
     def last_moment(self) -> Optional[int]:
         """When the worker is killed, if it is at work, or has to end."""
@@ -250,12 +324,12 @@ class Guard:
 
     def see(self, worker: Worker, ready: Set[int]) -> None:
         """What has become of the worker, and of what that left to this process."""
-        for child in {*children()} - {worker.process}:
+        for child in children() - {worker.process}:
             os.waitpid(child, os.WNOHANG)
         moment, is_told = self.last_moment(), worker.stop_by is not None
         if moment is not None and now() >= moment or worker.end in ready:
             by_itself = moment is None or now() < moment
-            status = worker.end_all()
+            status = worker.end_all(self.ttl / BEATS, lambda left: self.say(f'held {" ".join(map(str, left[:TOLD]))}'))
             self.worker = None
             self.say('stopped' if is_told else f'ended {status}' if by_itself else 'lost')
         elif worker.answers in ready and STOPPED in worker.heard() and is_told and not self.is_alone:
@@ -268,18 +342,27 @@ class Guard:
         self.is_alone = not message
         if word == b'until':
             self.until = int(more)
-        elif word == b'begin' and now() >= self.until:
-            self.say('lost')
+        elif word == b'part':
+            self.parts += more
         elif word == b'begin':
-            if self.worker is None:
-                environment = [b'BULLY_ANSWERS=%d' % ANSWERS] if self.talks else more.split(b'\0')
-                self.worker = Worker(self.words, environment, self.talks)
-            self.worker.is_busy = True
-            self.worker.tell(more)
+            words, self.parts = self.parts + more, b''
+            self.begin(words)
         elif self.worker is not None:
             self.worker.stop(self.patience, self.is_alone)
         else:
             self.say('stopped')
+
+    def begin(self, words: bytes) -> None:
+        """A worker begins, or goes on, by these words."""
+        if now() >= self.until:
+            self.say('lost')
+            return
+        if self.worker is None:
+            environment = [b'BULLY_ANSWERS=%d' % ANSWERS] if self.talks else words.split(b'\0')
+            self.worker = Worker(self.words, environment, self.talks)
+        self.worker.is_busy = True
+        self.worker.tell(words)
+        self.say('begun')
 
     def say(self, message: str) -> None:
         with contextlib.suppress(OSError):  # the member may be gone
@@ -287,13 +370,13 @@ class Guard:
 
 
 def main() -> None:
-    number, patience, kind, file, seconds, *words = sys.argv[1:]
+    number, patience, kind, file, ttl, *words = sys.argv[1:]
     channel = socket.socket(fileno=int(number))
     channel.set_inheritable(False)
     for quiet in QUIET:
         signal.signal(quiet, signal.SIG_IGN)
-    checked(_libc.prctl(PR_SET_CHILD_SUBREAPER, 1, 0, 0, 0))
-    Guard(channel, float(patience), kind == 'talks', Watch(file, float(seconds)), words).go_on()
+    adopt()
+    Guard(channel, float(patience), kind == 'talks', float(ttl), Watch(file, float(ttl)), words).go_on()
 
 
 if __name__ == '__main__':

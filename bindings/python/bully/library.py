@@ -5,9 +5,10 @@ import ctypes
 import functools
 import operator
 import os
-from typing import Any, Callable, Dict, Iterable, Iterator, List, NoReturn, Optional, Sequence, Tuple, TypeVar, Union
+from typing import Any, Callable, Iterable, Iterator, List, NoReturn, Optional, Sequence, Tuple, TypeVar, Union
 
 from .faults import Short, TableLength, expect_ok
+from .header import HERE, fields, functions, top_of_tree, type_of
 from .values import Call, CallKind, Line, Owned, Rows, State, Status, Want
 
 FILE = 'libbully.so'
@@ -18,121 +19,67 @@ UINT32_MAX = 0xFFFF_FFFF
 UINT64_MAX = 0xFFFF_FFFF_FFFF_FFFF
 
 
-def fields(**names: str) -> List[Tuple[str, Any]]:
-    """The fields of a structure, in their order: their names, by the types that they have."""
-    return [(name, getattr(ctypes, f'c_{kind}')) for kind, told in names.items() for name in told.split()]
-
-
 class RawSetup(ctypes.Structure):
-    _fields_ = fields(uint16='nodes partitions', uint32='events_max keeps')
+    _fields_ = fields('bully_setup')
 
 
 class RawVerdict(ctypes.Structure):
-    _fields_ = fields(uint32='kind number cause')
+    _fields_ = fields('bully_verdict')
 
 
 class RawHandle(ctypes.Structure):
-    _fields_ = fields(void_p='held')
+    """A handle, of whichever kind."""
+
+    _fields_ = fields('bully_agent')
 
 
 class RawState(ctypes.Structure):
-    _fields_ = fields(uint32='status wants events generation call orphan number', uint16='node coordinator halter callee')
+    _fields_ = fields('bully_state')
 
 
 class RawGroup(ctypes.Structure):
-    _fields_ = fields(uint32='rows events token', uint16='planner nodes partitions keeps')
+    _fields_ = fields('bully_group')
 
 
 class RawStep(ctypes.Structure):
-    _fields_ = fields(uint64='at_most process number', uint32='kind request until place token ending')
+    _fields_ = fields('bully_step')
 
 
 class RawPresence(ctypes.Structure):
-    _fields_ = fields(uint64='process number', uint32='epoch place', uint16='node')
+    _fields_ = fields('bully_presence')
 
 
 class RawMember(ctypes.Structure):
-    _fields_ = fields(uint64='process number since sure_left', uint32='life promised work token ending epoch place', uint16='node is_wished')
+    _fields_ = fields('bully_member_state')
 
 
-_SIZE = ctypes.c_size_t
-_SIZE_OUT = ctypes.POINTER(ctypes.c_size_t)
-_UINT32, _UINT64 = ctypes.c_uint32, ctypes.c_uint64
-_UINT32_OUT = ctypes.POINTER(ctypes.c_uint32)
-_NODE = ctypes.c_uint16
-_NUMBERS = (ctypes.POINTER(ctypes.c_uint16), _SIZE)
-_NUMBERS_OUT = (*_NUMBERS, _SIZE_OUT)
-_SETUP = (ctypes.POINTER(RawSetup), *_NUMBERS)
-_LINE = (ctypes.c_char_p, _SIZE)
-_TEXT_OUT = (*_LINE, _SIZE_OUT)
-_OWNED_OUT = (_UINT32_OUT, *_NUMBERS_OUT)
-_STATE_OUT = ctypes.POINTER(RawState)
-_EPOCH = (*_LINE, _UINT32, _NODE, _UINT32, *_NUMBERS)
-
-# What functions of the library take.
-_PARAMETERS: Dict[str, Tuple[Any, ...]] = {
-    'check': (*_LINE, ctypes.POINTER(RawVerdict)),
-    'header': (*_SETUP, *_TEXT_OUT),
-    'table': (*_SETUP, *_NUMBERS, *_NUMBERS, *_NUMBERS, ctypes.POINTER(ctypes.c_uint16)),
-}
-
-# What functions of a handle take behind that.
-_BEHIND_HANDLE: Dict[str, Tuple[Any, ...]] = {
-    'agent_open': (*_SETUP, _NODE, _UINT32, *_NUMBERS),
-    'agent_recover agent_crash agent_check agent_timeout agent_start agent_advance agent_drop_orphan agent_close': (),
-    'replica_close member_passed member_not_there member_woke member_leave member_stopped member_close': (),
-    'agent_plan': _NUMBERS,
-    'agent_prepare': (*_NUMBERS, *_NUMBERS),
-    'agent_request agent_rows agent_claim member_settlement': _TEXT_OUT,
-    'agent_serve': (*_LINE, *_TEXT_OUT),
-    'agent_replied': (*_LINE, _UINT32_OUT),
-    'agent_failed': (_UINT32, _UINT32_OUT),
-    'agent_show': (_STATE_OUT,),
-    'agent_up agent_task replica_planned member_planned': _NUMBERS_OUT,
-    'replica_open': _LINE,
-    'replica_learn member_learn': (*_LINE, _SIZE_OUT),
-    'replica_next': (_NODE, *_TEXT_OUT),
-    'replica_event': (_NODE, _UINT32, *_TEXT_OUT),
-    'replica_show member_node': (_NODE, _STATE_OUT),
-    'replica_up replica_task': (_NODE, *_NUMBERS_OUT),
-    'replica_group member_group': (ctypes.POINTER(RawGroup),),
-    'replica_settle': (*_NUMBERS, *_NUMBERS, *_TEXT_OUT),
-    'replica_is_at_rest': (*_NUMBERS, _UINT32, _UINT32_OUT),
-    'replica_owned': (_NODE, _UINT32, *_OWNED_OUT),
-    'member_open': (*_EPOCH, _UINT64, _UINT64),
-    'member_next': (_UINT64, ctypes.POINTER(RawStep)),
-    'member_answered': (_UINT64, _UINT32),
-    'member_looked': (_UINT64, _UINT32, ctypes.POINTER(RawPresence), _SIZE, _UINT32, _UINT32),
-    'member_followed': (_UINT64, *_EPOCH),
-    'member_lost': (_UINT32,),
-    'member_owned': _OWNED_OUT,
-    'member_show': (_UINT64, ctypes.POINTER(RawMember)),
-}
+_STRUCTURES = {
+    'bully_setup': RawSetup, 'bully_verdict': RawVerdict, 'bully_state': RawState, 'bully_group': RawGroup, 'bully_step': RawStep,
+    'bully_presence': RawPresence, 'bully_member_state': RawMember,
+    **dict.fromkeys(('bully_agent', 'bully_replica', 'bully_member'), RawHandle),
+}  # fmt: skip
 
 # The library twice. Calls of a handle keep Python's lock, so that no two threads are in one; a check of a long trace gives it away.
 _loaded: List[ctypes.CDLL] = []
 
 
-def _declared(library: ctypes.CDLL) -> ctypes.CDLL:
+def _prototypes() -> List[Tuple[str, Any, List[Any]]]:
+    """The functions of the library, with the types of what they give and take."""
+    return [(name, type_of(gives, _STRUCTURES), [type_of(kind, _STRUCTURES) for kind in takes]) for name, gives, takes in functions()]
+
+
+def _declared(library: ctypes.CDLL, prototypes: List[Tuple[str, Any, List[Any]]]) -> ctypes.CDLL:
     """The library, with the types of its functions told to ctypes."""
-    library.bully_status_name.argtypes = (ctypes.c_uint32,)
-    library.bully_status_name.restype = ctypes.c_char_p
-    library.bully_version.argtypes = ()
-    library.bully_version.restype = ctypes.c_char_p
-    of_handles = {names: (ctypes.POINTER(RawHandle), *behind) for names, behind in _BEHIND_HANDLE.items()}
-    for names, parameters in {**_PARAMETERS, **of_handles}.items():
-        for name in names.split():
-            function = getattr(library, f'bully_{name}')
-            function.argtypes, function.restype = parameters, ctypes.c_uint32
+    for name, gives, takes in prototypes:
+        function = getattr(library, name)
+        function.restype, function.argtypes = gives, takes
     return library
 
 
 def _own_places() -> Iterator[str]:
     """Where the library stands that came with this package: beside it, in an archive, or at the top of the repository."""
-    here = os.path.dirname(os.path.abspath(__file__))
-    yield here
-    if here.endswith(os.path.join(os.sep, 'bindings', 'python', 'bully')):
-        top = os.path.join(here, *[os.pardir] * 3)
+    yield HERE
+    for top in top_of_tree():
         yield os.path.join(top, 'lib')
         yield os.path.join(top, 'out', 'library')
 
@@ -150,9 +97,9 @@ def load(path: Union[str, 'os.PathLike[str]', None] = None) -> None:
     """Loads the library from this path: its file, or the folder that has it. Without a path that is BULLY_LIBRARY of the
     environment, or else libbully.so in the folder of this package, in `lib` of an archive or in `out/library` of the repository, or else
     what the system finds by that name. An OSError tells that it isn't there."""
-    place = _place_of(path)
+    place, prototypes = _place_of(path), _prototypes()
     try:
-        _loaded[:] = [_declared(ctypes.PyDLL(place)), _declared(ctypes.CDLL(place))]
+        _loaded[:] = [_declared(ctypes.PyDLL(place), prototypes), _declared(ctypes.CDLL(place), prototypes)]
     except AttributeError as missing:
         raise OSError(f'{place} is not the library of bully.h: {missing}') from missing
     except OSError as missing:

@@ -12,13 +12,17 @@ A call that fails raises an exception below LogError: below Unanswered if it may
 """
 from __future__ import annotations
 
+import secrets
 import select
 import threading
 import time
-from typing import AbstractSet, Callable, Dict, FrozenSet, List, Mapping, NamedTuple, Optional, Protocol, Sequence, Tuple, TypeVar, Union
+from contextlib import suppress
+from typing import AbstractSet, Callable, Dict, FrozenSet, Iterator, List, Mapping, NamedTuple, Optional, Protocol, Sequence, Tuple, TypeVar, Union
 
 from .epochs import Opening
+from .faults import BullyError
 from .member import Life, Promise, Until
+from .orders import Orders
 from .values import Rows
 
 SECOND = 1_000_000_000  # nanoseconds
@@ -26,6 +30,7 @@ PART = 0.02  # seconds that a wait in memory takes at most, if something else ma
 BY_HISTORY = '; history writes it as a trace, and init makes another log'  # is told of a log by an older version
 
 Name = TypeVar('Name', str, bytes)
+Wanted = Tuple[Optional[Opening], Orders]  # what is wished for, and what is ordered
 
 
 class LogError(Exception):
@@ -44,8 +49,16 @@ class ForeignLog(LogError):
     """There is something else than a log, or one of another form."""
 
 
+class OtherLog(ForeignLog):
+    """Another log, or another file, is in the place of the one that was used."""
+
+
 class DamagedLog(LogError):
     """There was a log, and it can't be read as one any more."""
+
+
+class BadPresence(DamagedLog):
+    """Somebody holds a presence that is none."""
 
 
 class NoEpoch(LogError):
@@ -77,12 +90,17 @@ class Holder(NamedTuple):
 
 class Found(NamedTuple):
     """What a look finds at one moment: which epoch is the current one; the rows that were asked for, if they are of that one; who is present,
-    by name; and what is wished for."""
+    by name; what is wished for; and what is ordered."""
 
     epoch: int
     rows: Sequence[str]
     presences: Mapping[str, Holder]
     wish: Optional[Opening]
+    orders: Orders = Orders()
+
+    @property
+    def wanted(self) -> Wanted:
+        return self.wish, self.orders
 
     @property
     def lives(self) -> Dict[str, Life]:
@@ -92,6 +110,12 @@ class Found(NamedTuple):
     def idle(self, here: Promise) -> FrozenSet[str]:
         """Who had promised that place."""
         return idle_of({name: holder.promise for name, holder in self.presences.items()}, here)
+
+    def is_frozen(self, end: Promise) -> bool:
+        """Whether the group is paused, and nobody settles. Not yet, if one that was present when it was paused has promised the end of the log
+        since or before: it can't work by the last plan any more, so that change is finished first."""
+        lives = self.orders.lives
+        return lives is not None and not any(lives.get(name) == self.presences[name].life for name in self.idle(end))
 
 
 class Log(Protocol):
@@ -126,11 +150,12 @@ class Log(Protocol):
         by what is wished for. Presences and promises stay, and no wish does. Whether it is."""
 
     def look(self, epoch: int, place: int) -> Found:
-        """The rows of that epoch behind that place, if it is the current one, and what else is found at the same moment."""
+        """The rows of that epoch behind that place, if it is the current one, and what else is found at the same moment. Who asks has read up
+        to there, so a log that ends before is damaged; likewise of a read, an append and a finish."""
 
     def wait(self, epoch: int, place: int, lives: Mapping[str, Life], until: Until, seconds: float, woken: Optional[int] = None) -> None:
         """Returns once another epoch is the current one, or rows stand behind that place, or others than these lives are present, or another
-        wish stands than the last look found; or also, by `until`, once one of those present has promised that place of that epoch that
+        wish or other orders stand than the last look found; or also, by `until`, once one of those present has promised that place of that epoch that
         hadn't when the last look found the log to end there, or once all have; or once the descriptor `woken` has something to read; or
         once the time is over. It may return sooner. What was so before the call is never missed."""
 
@@ -139,6 +164,14 @@ class Log(Protocol):
 
     def cancel(self, epoch: int) -> None:
         """Nothing is wished for any more, if the epoch is the current one."""
+
+    def order(self, orders: Orders, before: Optional[Orders]) -> bool:
+        """These are the orders from now on, over all epochs, if those were the ones before; if none are told, whatever they were, also if they
+        can't be read. Whether they are."""
+
+    def times(self, epoch: int) -> Mapping[int, Optional[int]]:
+        """When the appends of an epoch were done, by the places that they stand behind: milliseconds since 1970 by the wall clock of who
+        appended; none of one of which that isn't kept."""
 
     def read(self, epoch: int, place: int) -> Sequence[str]:
         """The rows of an epoch behind that place, without their line ends. Raises NoEpoch."""
@@ -156,6 +189,30 @@ def rows_text(rows: Sequence[str]) -> str:
     if not rows or text.count('\n') != len(rows):
         raise ValueError('an append has one row at least, and no row a line end')
     return text
+
+
+def log_name() -> str:
+    """A name that no other log has."""
+    return secrets.token_hex(8)
+
+
+def see_end(where: str, end: Promise, here: Promise) -> None:
+    """Raises DamagedLog, if the log was read up to here, and ends before."""
+    if here > end:
+        raise DamagedLog(f'{where}: the log was read up to place {here.place} of epoch {here.epoch}, and ends at {end.place} of {end.epoch}: '
+                         'its store went back, as one does that is restored')  # fmt: skip
+
+
+def found_in(log: Log) -> Found:
+    """What is found in the log, but no rows."""
+    return log.look(0, 0)
+
+
+def openings_of(log: Log) -> Iterator[Opening]:
+    """What the epochs of the log began with, the current one first, each read once it is asked for. An earlier log may have had those before."""
+    with suppress(NoEpoch):
+        for epoch in range(log.epochs()[-1], 0, -1):
+            yield log.opening(epoch)
 
 
 def idle_of(promises: Mapping[Name, object], here: object) -> FrozenSet[Name]:
@@ -179,9 +236,32 @@ def no_epoch(where: str, epoch: int, there: range) -> NoEpoch:
 def opening_of(where: str, epoch: int, text: Union[str, bytes]) -> Opening:
     """The opening of an epoch, as a store has it. Raises DamagedLog."""
     try:
-        return Opening.parse(text if isinstance(text, str) else text.decode())
-    except (ValueError, KeyError, TypeError) as fault:
+        opening = Opening.parse(text if isinstance(text, str) else text.decode())
+    except (ValueError, KeyError, TypeError, BullyError) as fault:
         raise DamagedLog(f'{where}: epoch {epoch} has no opening: {fault}') from fault
+    if opening.epoch != epoch:
+        raise DamagedLog(f'{where}: epoch {epoch} has the opening of epoch {opening.epoch}')
+    return opening
+
+
+def rows_of(where: str, epoch: int, place: int, text: Union[str, bytes]) -> Rows:
+    """The rows of an epoch behind that place, each with its line end, as a store has them. Raises DamagedLog."""
+    try:
+        rows = Rows(text if isinstance(text, str) else text.decode())
+    except ValueError as fault:
+        raise DamagedLog(f'{where}: a row of epoch {epoch} behind place {place} is no text') from fault
+    if '\r' in rows.text or '\n\n' in rows.text or rows.text.startswith('\n'):
+        bad = next(number for number, row in enumerate(rows, place) if not row or '\r' in row)
+        raise DamagedLog(f'{where}: what stands at place {bad} of epoch {epoch} is no row: {rows[bad - place]!r}')
+    return rows
+
+
+def orders_of(where: str, text: Union[None, str, bytes]) -> Orders:
+    """What is ordered, as a store has it. Raises DamagedLog."""
+    try:
+        return Orders.parse(text.decode() if isinstance(text, bytes) else text or '')
+    except (ValueError, KeyError, TypeError, AttributeError) as fault:
+        raise DamagedLog(f'{where}: what is ordered can not be read: {fault}') from fault
 
 
 def wish_of(where: str, epoch: int, text: Union[None, str, bytes]) -> Optional[Opening]:
@@ -197,6 +277,11 @@ def seconds_of_boot() -> float:
 def nanoseconds_of_boot() -> int:
     """The same clock in whole nanoseconds."""
     return time.clock_gettime_ns(time.CLOCK_BOOTTIME)
+
+
+def wall_clock() -> int:
+    """Milliseconds since 1970, as far as the machine knows. Nothing depends on it."""
+    return time.time_ns() // 1_000_000
 
 
 def slept(seconds: float, *descriptors: Optional[int]) -> List[int]:
@@ -223,8 +308,10 @@ class MemoryLog:
         self.clock = clock
         self.leases: Dict[str, Lease] = {}
         self.wish: Optional[Opening] = None
+        self.orders = Orders()
         self._openings = {opening.epoch: opening}
         self._rows: Dict[int, List[str]] = {opening.epoch: []}
+        self._times: Dict[int, Dict[int, Optional[int]]] = {opening.epoch: {}}
         self._changed = threading.Condition(threading.RLock())
         self._told = threading.local()
 
@@ -300,6 +387,7 @@ class MemoryLog:
         with self._changed:
             done = self._may_append(Promise(epoch, place))
             if done:
+                self._times[epoch][place] = wall_clock()
                 self.rows.extend(rows)
                 self._changed.notify_all()
             return done
@@ -309,6 +397,7 @@ class MemoryLog:
             done = self._may_append(Promise(epoch, place)) and opening.bare == self.opening().after(self.wish)
             if done:
                 self._openings[opening.epoch], self._rows[opening.epoch], self.wish = opening, [], None
+                self._times[opening.epoch] = {}
                 self._changed.notify_all()
             return done
 
@@ -317,6 +406,7 @@ class MemoryLog:
         return Promise(self.epoch, len(self.rows))
 
     def _may_append(self, here: Promise) -> bool:
+        see_end('the log', self._end(), here)
         return here == self._end() and are_idle(Until.ALL_IDLE, self._promises(), here)
 
     def _promises(self) -> Dict[str, Promise]:
@@ -326,25 +416,31 @@ class MemoryLog:
         with self._changed:
             if epoch not in self._rows:
                 raise no_epoch('the log', epoch, self.epochs())
+            see_end('the log', self._end(), Promise(epoch, place))
             return self._rows[epoch][place:]
+
+    def times(self, epoch: int) -> Dict[int, Optional[int]]:
+        with self._changed:
+            return dict(self._times.get(epoch, {}))
 
     def prune(self, first: int) -> None:
         with self._changed:
             for epoch in range(min(self._rows), min(first, self.epoch)):
-                del self._rows[epoch]
+                del self._rows[epoch], self._times[epoch]
 
     # Looks and waits.
 
     def look(self, epoch: int, place: int) -> Found:
         with self._changed:
-            found = Found(self.epoch, self.rows[place:] if epoch == self.epoch else [], self.presences, self.wish)
-            self._told.wish, self._told.idle = self.wish, (self._end(), found.idle(self._end()))
+            see_end('the log', self._end(), Promise(epoch, place))
+            found = Found(self.epoch, self.rows[place:] if epoch == self.epoch else [], self.presences, self.wish, self.orders)
+            self._told.wanted, self._told.idle = found.wanted, (self._end(), found.idle(self._end()))
             return found
 
     def wait(self, epoch: int, place: int, lives: Mapping[str, Life], until: Until, seconds: float, woken: Optional[int] = None) -> None:
         if woken is not None:  # it is looked at now and then
             seconds = 0.0 if slept(0.0, woken) else min(seconds, PART)
-        end, told = self.clock() + int(seconds * SECOND), getattr(self._told, 'wish', None)
+        end, told = self.clock() + int(seconds * SECOND), getattr(self._told, 'wanted', (None, Orders()))
         known: Tuple[Promise, FrozenSet[str]] = getattr(self._told, 'idle', (Promise(), frozenset()))
         before = known[1] if known[0] == Promise(epoch, place) else frozenset()
         with self._changed:
@@ -352,10 +448,10 @@ class MemoryLog:
                 ends = [lease.until for lease in self.leases.values() if self.clock() < lease.until]
                 self._changed.wait(max(0, min([end, *ends]) - self.clock()) / SECOND)
 
-    def has_news(self, epoch: int, place: int, lives: Mapping[str, Life], wish: Optional[Opening], until: Until, before: AbstractSet[str]) -> bool:
-        """Whether a wait is over before its time behind a look that found this wish, and these idle up to that place."""
+    def has_news(self, epoch: int, place: int, lives: Mapping[str, Life], wanted: Wanted, until: Until, before: AbstractSet[str]) -> bool:
+        """Whether a wait is over before its time behind a look that found this wish and these orders, and these idle up to that place."""
         with self._changed:
-            if epoch != self.epoch or len(self.rows) > place or wish != self.wish:
+            if Promise(epoch, place) != self._end() or wanted != (self.wish, self.orders):
                 return True
             there = {name: holder.life for name, holder in self.presences.items()}
             return there != lives or are_idle(until, self._promises(), Promise(epoch, place), before)
@@ -373,6 +469,14 @@ class MemoryLog:
             if epoch == self.epoch:
                 self.wish = None
                 self._changed.notify_all()
+
+    def order(self, orders: Orders, before: Optional[Orders]) -> bool:
+        with self._changed:
+            done = before is None or before == self.orders
+            if done:
+                self.orders = orders
+                self._changed.notify_all()
+            return done
 
     def close(self) -> None:
         pass

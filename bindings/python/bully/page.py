@@ -12,7 +12,8 @@ import sys
 import threading
 import time
 from http.server import BaseHTTPRequestHandler, ThreadingHTTPServer
-from typing import Any, Callable, Dict, List, Optional, Tuple
+from contextlib import suppress
+from typing import Any, Callable, Dict, List, Optional, Tuple, Union
 from urllib.parse import parse_qs, urlsplit
 
 from .faults import BullyError
@@ -20,12 +21,15 @@ from .logs import LogError, seconds_of_boot
 from .running import Member
 from .values import Status
 from .view import GroupView, LogView, NodeView
+from .worker import Workers
 
 _told = logging.getLogger('bully')
 
 POLL_SECONDS = 25.0  # how long a request waits for news at most
-POLL_PART = 0.1  # so often each of them looks
-REQUESTS_MAX = 64  # at one time
+POLLS_MAX = 64  # requests that wait at one time
+LOOK_SECONDS = 0.1  # the log is looked at no more often, however many ask
+CONNECTIONS_MAX = 100  # at one time; of more the one is closed that hasn't asked for the longest, or the new one, if all have asked
+ASK_SECONDS = 10.0  # that a connection may say nothing, or take nothing
 LOOPBACK = ('127.0.0.1', '::1', 'localhost')  # names of another machine that lead here are refused
 
 STYLE = """
@@ -44,7 +48,8 @@ async function follow() {
   for (;;) {
     try {
       const seen = document.body.dataset;
-      await fetch('/group?after=' + seen.events + '&epoch=' + seen.epoch);
+      const news = await fetch('/group?after=' + seen.events + '&epoch=' + seen.epoch);
+      if (!news.ok) await new Promise(done => setTimeout(done, 2000));
       const text = await (await fetch('/')).text();
       const body = new DOMParser().parseFromString(text, 'text/html').body;
       document.body.innerHTML = body.innerHTML;
@@ -65,8 +70,8 @@ POLICY = f"default-src 'none'; style-src 'unsafe-inline'; script-src 'sha256-{SC
 Answer = Tuple[int, str, str]  # the status, the kind and the text
 
 
-def page_of(name: str, group: GroupView) -> str:
-    """The page of the member of this name."""
+def page_of(name: str, group: GroupView, told_worker: str) -> str:
+    """The page of the member of this name, with what is told of its worker."""
     title = f'{html.escape(name)}: token {group.token or "-"}, coordinator {html.escape(group.coordinator or "-")}'
     return (
         f'<!doctype html><html lang="en"><meta charset="utf-8"><meta name="viewport" content="width=device-width"><title>{title}</title>'
@@ -74,7 +79,7 @@ def page_of(name: str, group: GroupView) -> str:
         f'<body data-events="{group.events}" data-epoch="{group.epoch}"><h1>Group, as {html.escape(name)} sees it</h1>'
         f'<p class="small">coordinator <b>{html.escape(group.coordinator or "none")}</b>, token <b>{group.token or "none"}</b>, '
         f'{group.events} events in epoch {group.epoch}, '
-        f'{sum(node.is_present for node in group.nodes)} of {len(group.nodes)} nodes present{html.escape(group.told_behind)}</p>'
+        f'{sum(node.is_present for node in group.nodes)} of {len(group.nodes)} nodes present{html.escape(group.told_more + told_worker)}</p>'
         f'<h2>Nodes</h2>{nodes_of(group)}<h2>Partitions</h2>{partitions_of(group)}<h2>Last events</h2>{last_of(group)}</body>'
         f'<script>{SCRIPT}</script></html>'
     )
@@ -91,7 +96,7 @@ def row_of(node: NodeView) -> str:
     status = str(node.status)
     owns = ' '.join(map(str, node.partitions)) or '-'
     return (
-        f'<tr><td>{html.escape(node.name)}<td><span class="dot {status}"></span>{status}<td>{"yes" if node.is_present else "no"}'
+        f'<tr><td>{html.escape(node.name)}<td><span class="dot {status}"></span>{status}<td>{node.told_present}'
         f'<td>{html.escape(node.coordinator or "-")}<td>{owns}</tr>'
     )
 
@@ -117,7 +122,7 @@ def label(text: str) -> str:
     return f'"{escaped}"'
 
 
-def metrics_of(group: GroupView, name: str, sure_seconds: float) -> str:
+def metrics_of(group: GroupView, name: str, sure_seconds: float, workers: Workers) -> str:
     """The group and the member, for Prometheus."""
     lines: List[str] = []
 
@@ -129,8 +134,15 @@ def metrics_of(group: GroupView, name: str, sure_seconds: float) -> str:
     tell('bully_epoch', 'gauge', 'The current epoch.', [('', group.epoch)])
     tell('bully_events_total', 'counter', 'Events of the current epoch.', [('', group.events)])
     tell('bully_token', 'gauge', 'The token of the last plan; 0: there is none.', [('', group.token or 0)])
-    tell('bully_sure_seconds', 'gauge', 'For how long what this member owns is sure.', [(f'{{node={label(name)}}}', sure_seconds)])
+    for metric, told, seconds in (
+        ('bully_sure_seconds', 'For how long what this member owns is sure.', sure_seconds),
+        ('bully_stopping_seconds', 'For how long its worker has been told to stop, and has not.', workers.stopping_seconds),
+        ('bully_worker_rest_seconds', 'For how long its worker still rests, since it failed.', workers.rest_seconds),
+    ):  # fmt: skip
+        tell(metric, 'gauge', told, [(f'{{node={label(name)}}}', seconds)])
     tell('bully_node_present', 'gauge', 'Whether the node holds a presence.', [(labels, node.is_present) for labels, node in nodes])
+    tell('bully_drained', 'gauge', 'Whether the node is drained.', [(labels, node.is_drained) for labels, node in nodes])
+    tell('bully_paused', 'gauge', 'Whether the group is paused.', [('', group.is_paused)])
     tell('bully_node_normal', 'gauge', 'Whether the node is Normal.', [(labels, node.status is Status.NORMAL) for labels, node in nodes])
     tell('bully_node_leads', 'gauge', 'Whether the node is the coordinator.', [(labels, group.coordinator == node.name) for labels, node in nodes])
     tell('bully_node_partitions', 'gauge', 'Partitions that the node owns.', [(labels, len(node.partitions)) for labels, node in nodes])
@@ -146,15 +158,76 @@ def number_of(asked: Dict[str, List[str]], name: str) -> Optional[int]:
     return int(word) if word.isdecimal() and len(word) < 10 else None
 
 
+class Reader:
+    """Looks at the log for all that ask. Threads share it."""
+
+    def __init__(self, view: LogView) -> None:
+        self._view, self._lock = view, threading.Lock()
+        self._known: Optional[GroupView] = None
+        self._last: Union[GroupView, LogError, BullyError] = LogError('nobody has looked yet')
+        self._next = 0.0  # when it looks again
+
+    def show(self) -> GroupView:
+        """The group by the last look. Raises what that raised."""
+        with self._lock:
+            if seconds_of_boot() >= self._next:
+                try:
+                    self._last = self._known = self._view.show()
+                except (LogError, BullyError) as error:
+                    self._last = error
+                self._next = seconds_of_boot() + LOOK_SECONDS
+            last = self._last
+        if isinstance(last, GroupView):
+            return last
+        raise last
+
+    def known(self) -> GroupView:
+        """The same; or what was known of the group before, if the log can't be read."""
+        try:
+            return self.show()
+        except (LogError, BullyError):
+            if self._known is None:
+                raise
+            return self._known
+
+
 class Server(ThreadingHTTPServer):
-    """A server whose requests end with it."""
+    """A server whose requests end with it. It has a bound of connections, and whoever asks at once gets through."""
 
     daemon_threads = True
     block_on_close = False
+    request_queue_size = CONNECTIONS_MAX
 
     def __init__(self, address: Tuple[str, int], handler: Callable[..., BaseHTTPRequestHandler]) -> None:
         self.address_family = socket.AF_INET6 if ':' in address[0] else socket.AF_INET
+        self._open: Dict[Any, bool] = {}  # connections, the oldest first, and whether they have asked
+        self._lock = threading.Lock()
         super().__init__(address, handler)
+
+    def process_request(self, request: Any, client_address: Any) -> None:
+        with self._lock:
+            self._open[request] = False
+            silent = (each for each, has_asked in self._open.items() if not has_asked)
+            closed = next(silent) if len(self._open) > CONNECTIONS_MAX else None
+            self._open.pop(closed, None)
+        if closed is request:
+            self.shutdown_request(request)
+            return
+        if closed is not None:
+            with suppress(OSError):
+                closed.shutdown(socket.SHUT_RDWR)  # its thread ends by that
+        super().process_request(request, client_address)
+
+    def asks(self, request: Any) -> None:
+        """The connection has asked, and waits for the answer."""
+        with self._lock:
+            if request in self._open:
+                self._open[request] = True
+
+    def shutdown_request(self, request: Any) -> None:
+        with self._lock:
+            self._open.pop(request, None)
+        super().shutdown_request(request)
 
     def handle_error(self, request: object, client_address: object) -> None:
         """Who asked may be gone before the answer. All else is told."""
@@ -165,12 +238,12 @@ class Server(ThreadingHTTPServer):
 class Page:
     """The server of a member."""
 
-    def __init__(self, address: Tuple[str, int], view: LogView, member: Member) -> None:
+    def __init__(self, address: Tuple[str, int], view: LogView, member: Member, workers: Workers) -> None:
         """It listens at this address from now on. An OSError tells that it can't."""
-        self._view = view
-        self._member = member
+        self._reader = Reader(view)
+        self._member, self._workers = member, workers
         self._is_closed = False
-        self._requests = threading.BoundedSemaphore(REQUESTS_MAX)
+        self._polls = threading.BoundedSemaphore(POLLS_MAX)
         self._server = Server(address, functools.partial(PageHandler, self))
         self._hosts = LOOPBACK if address[0] in LOOPBACK else None
 
@@ -191,42 +264,51 @@ class Page:
         """The answer to a GET of this target at this host."""
         if self._hosts is not None and host.rpartition(':')[0].strip('[]') not in self._hosts:
             return 403, 'text/plain', 'this page is for this machine alone\n'
-        if not self._requests.acquire(blocking=False):
-            return 503, 'text/plain', 'too many requests at one time\n'
         try:
             return self._answer(target)
         except (LogError, BullyError) as error:
             return 503, 'text/plain', f'{error}\n'
-        finally:
-            self._requests.release()
 
     def _answer(self, target: str) -> Answer:
-        parts = urlsplit(target)
+        parts, name = urlsplit(target), self._member.name
+        if parts.path == '/healthz':
+            return self._health()
+        if parts.path == '/metrics':
+            return 200, 'text/plain; version=0.0.4', metrics_of(self._reader.known(), name, self._sure_seconds(), self._workers)
         asked = parse_qs(parts.query)
         events, epoch = number_of(asked, 'after'), number_of(asked, 'epoch')
-        if events is not None:
-            self._wait(events, epoch)
-        group = self._view.show()
+        if events is not None and not self._waited(events, epoch):
+            return 503, 'text/plain', 'too many requests wait at one time\n'
+        group = self._reader.show()
         if parts.path == '/':
-            return 200, 'text/html', page_of(self._member.name, group)
+            return 200, 'text/html', page_of(name, group, self._workers.told)
         if parts.path == '/group':
             return 200, 'application/json', json.dumps(group.told()) + '\n'
         if parts.path == '/assignment':
             return 200, 'application/json', json.dumps(self._assignment(group)) + '\n'
-        if parts.path == '/metrics':
-            return 200, 'text/plain; version=0.0.4', metrics_of(group, self._member.name, self._sure_seconds())
-        if parts.path == '/healthz':
-            return (200, 'text/plain', 'present\n') if self._sure_seconds() > 0 else (503, 'text/plain', 'not present\n')
         return 404, 'text/plain', 'there is no such page\n'
 
-    def _wait(self, events: int, epoch: Optional[int]) -> None:
-        """Waits for more events than these of this epoch, or else of the one that is current now. Those of another one are more."""
-        end = seconds_of_boot() + POLL_SECONDS
-        seen, there = self._view.read_on()
-        epoch = seen if epoch is None else epoch
-        while not self._is_closed and seconds_of_boot() < end and seen == epoch and there <= events:
-            time.sleep(POLL_PART)
-            seen, there = self._view.read_on()
+    def _health(self) -> Answer:
+        """What the member knows, whether or not the store answers."""
+        if self._workers.is_stuck:
+            return 503, 'text/plain', 'its worker does not end\n'
+        if self._member.is_drained:
+            return 200, 'text/plain', 'drained\n'
+        return (200, 'text/plain', 'present\n') if self._sure_seconds() > 0 else (503, 'text/plain', 'not present\n')
+
+    def _waited(self, events: int, epoch: Optional[int]) -> bool:
+        """Waits for more events than these of this epoch, or else of the one that is current now. Those of another one are more. Or too many wait."""
+        if not self._polls.acquire(blocking=False):
+            return False
+        try:
+            end, group = seconds_of_boot() + POLL_SECONDS, self._reader.show()
+            epoch = group.epoch if epoch is None else epoch
+            while not self._is_closed and seconds_of_boot() < end and group.epoch == epoch and group.events <= events:
+                time.sleep(LOOK_SECONDS)
+                group = self._reader.show()
+            return True
+        finally:
+            self._polls.release()
 
     def _sure_seconds(self) -> float:
         return max(0.0, self._member.sure_until - seconds_of_boot())
@@ -244,22 +326,23 @@ class Page:
 
 
 class PageHandler(BaseHTTPRequestHandler):
-    """One request."""
+    """One connection, which has one request."""
 
     protocol_version = 'HTTP/1.1'
     server_version = 'bully-member'
     sys_version = ''
-    timeout = 60
+    timeout = ASK_SECONDS
+    server: Server
 
     def __init__(self, page: Page, *told: Any) -> None:
         self.page = page
         super().__init__(*told)
 
     def do_GET(self) -> None:
+        self.server.asks(self.connection)
         self.send(*self.page.answer(self.path, self.headers.get('Host', '')))
 
     def refuse(self) -> None:
-        self.close_connection = True
         self.send(405, 'text/plain', 'only GET is answered\n', ('Allow', 'GET'))
 
     do_POST = do_PUT = do_DELETE = do_PATCH = do_OPTIONS = do_HEAD = do_TRACE = do_CONNECT = refuse
@@ -268,7 +351,8 @@ class PageHandler(BaseHTTPRequestHandler):
         content = text.encode('utf-8', 'replace')
         told = [
             ('Content-Type', kind if 'version' in kind else f'{kind}; charset=utf-8'), ('Content-Length', str(len(content))),
-            ('Cache-Control', 'no-store'), ('X-Content-Type-Options', 'nosniff'), ('Content-Security-Policy', POLICY), *headers,
+            ('Connection', 'close'), ('Cache-Control', 'no-store'),
+            ('X-Content-Type-Options', 'nosniff'), ('Content-Security-Policy', POLICY), *headers,
         ]  # fmt: skip
         self.send_response(status)
         for header, value in told:

@@ -5,16 +5,23 @@ member is there, whoever wishes does that.
 """
 from __future__ import annotations
 
+import dataclasses
+import logging
 import secrets
+import threading
+from typing import Optional
 
 from .epochs import Opening
-from .logs import SECOND, Log, seconds_of_boot
+from .logs import SECOND, Log, LogError, Unanswered, found_in, seconds_of_boot, slept
 from .member import Life, Promise, Until
 from .replica import Replica
+from .running import Member
 from .settings import Settings
-from .values import EVENTS_MAX
+
+_told = logging.getLogger('bully')
 
 PART = 0.5  # seconds for which it waits at once
+AGAIN = 0.1  # seconds before a log that didn't answer is asked again
 TTL = 5 * SECOND  # of its own presence, where no member is there
 
 
@@ -26,20 +33,79 @@ def resize(log: Log, settings: Settings, seconds: float) -> Opening:
     """The current epoch ends, and the next one begins with these settings, if the group hasn't got them already. The opening of the
     epoch that has them. If that takes longer than so many seconds, the wish stays.
 
-    Raises NotEnded, what the log raises, and what a replica raises."""
+    Raises NotEnded, also if the group is paused, what the log raises, and what a replica raises; Unanswered only once the time is over."""
     end = seconds_of_boot() + seconds
     while True:
-        opening = log.opening()
-        if opening.is_of(settings):
-            if log.look(opening.epoch, EVENTS_MAX).wish is None:
+        try:
+            opening = resized(log, settings, end)
+        except Unanswered:
+            if seconds_of_boot() >= end:
+                raise
+            slept(AGAIN)
+        else:
+            if opening is not None:
                 return opening
-            log.cancel(opening.epoch)
-        elif log.ask(opening.wish(settings), opening.epoch):
-            end_epoch(log, opening, end)
-            after = log.opening(opening.epoch + 1)
-            if after.is_of(settings):
-                return after
-            raise NotEnded(f'epoch {after.epoch} has begun with other settings: {after.header} of {", ".join(after.names)}')
+
+
+def resized(log: Log, settings: Settings, end: float) -> Optional[Opening]:
+    """The opening of the epoch that has these settings; nothing, if that is to be looked for again."""
+    opening, found = log.opening(), found_in(log)
+    if opening.is_of(settings):
+        if found.wish is None:
+            return opening
+        log.cancel(opening.epoch)
+    elif found.orders.is_paused:
+        raise NotEnded('the group is paused, so no epoch ends; bully-member resume has it go on')
+    elif log.ask(opening.wish(settings), opening.epoch):
+        end_epoch(log, opening, end)
+        after = log.opening(opening.epoch + 1)
+        if after.is_of(settings):
+            return after
+        raise NotEnded(f'epoch {after.epoch} has begun with other settings: {after.header} of {", ".join(after.names)}')
+    return None
+
+
+class Pruning(threading.Thread):
+    """Takes old epochs away while the node has partition 0, so that one member does, whoever is there."""
+
+    def __init__(self, log: Log, member: Member, keep: int) -> None:
+        """Over a log of its own, up to `close`. So many epochs stay."""
+        super().__init__(name='bully prune', daemon=True)
+        self._log, self._member, self._keep, self._ends = log, member, keep, threading.Event()
+
+    def run(self) -> None:
+        done = 0  # up to which epoch
+        while not self._ends.wait(self._member.ttl):
+            owned = self._member.assignment()
+            if owned is not None and 0 in owned.partitions and owned.token.epoch > done and self._prunes(owned.token.epoch):
+                done = owned.token.epoch
+
+    def _prunes(self, epoch: int) -> bool:
+        try:
+            self._log.prune(epoch + 1 - self._keep)
+        except LogError as fault:
+            _told.warning('old epochs were not taken away: %s', fault)
+            return False
+        return True
+
+    def close(self) -> None:
+        self._ends.set()
+        self.join()
+        self._log.close()
+
+
+def lead(log: Log, name: str, seconds: float) -> Opening:
+    """The node of this name leads in the next epoch: it gets the highest number, by which the coordinator is found, and all else stays.
+
+    Raises NotEnded, also if it has no member, and what `resize` does."""
+    opening = log.opening()
+    if name not in found_in(log).presences:
+        raise NotEnded(f'{name} is not present, so it would not lead')
+    settings = opening.settings
+    order = sorted(range(len(settings.names)), key=lambda place: settings.names[place] == name)
+    weights = settings.setup.weights and tuple(settings.setup.weights[place] for place in order)
+    setup = dataclasses.replace(settings.setup, weights=weights)
+    return resize(log, Settings(setup, tuple(settings.names[place] for place in order)), seconds)
 
 
 def end_epoch(log: Log, opening: Opening, end: float) -> None:

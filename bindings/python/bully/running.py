@@ -11,12 +11,14 @@ from contextlib import ExitStack, suppress
 from dataclasses import dataclass, field
 from typing import Callable, List, Optional, Tuple, TypeVar, Union
 
-from .epochs import FIRST, Opening, Token
-from .logs import SECOND, DamagedLog, Found, Log, Unanswered, nanoseconds_of_boot, seconds_of_boot, slept
-from .member import Ask, Begin, Core, End, Ending, Presence, Promise, Request, Rest, Seen, Step, Stop, StoreAnswer, Until, Wait
+from .asks import Asker
+from .epochs import Opening, Token
+from .logs import SECOND, DamagedLog, Found, Log, Unanswered, found_in, nanoseconds_of_boot, openings_of, seconds_of_boot, slept
+from .looks import awaited, seen_of
+from .member import Ask, Begin, Core, End, Ending, Life, Promise, Request, Rest, Seen, Step, Stop, StoreAnswer, Until, Wait
 from .member import Opening as Terms
 from .settings import Settings, shown_name
-from .values import EVENTS_MAX
+from .values import Status
 from .view import Behind
 
 ENDINGS = {
@@ -53,10 +55,9 @@ class NotInGroup(Exception):
 
 def is_known(log: Log, settings: Settings) -> bool:
     """Whether the group has these settings, had them in an earlier epoch, or is wished to have them."""
-    epoch = log.epochs()[-1]
-    wish = log.look(epoch, EVENTS_MAX).wish
+    wish = found_in(log).wish
     is_wished = wish is not None and wish.is_of(settings)
-    return is_wished or any(log.opening(each).is_of(settings) for each in range(epoch, FIRST - 1, -1))
+    return is_wished or any(opening.is_of(settings) for opening in openings_of(log))
 
 
 def number_of(opening: Opening, node: Union[int, str]) -> int:
@@ -100,12 +101,12 @@ class Member:
         if settings is not None and not is_known(log, settings):
             raise OtherGroup(f'the log is of another group: {opening.header} of {", ".join(opening.names)}')
         self.ttl, self.margin = ttl, ttl / 5
-        number = number_of(opening, node)
-        self.core = Core(terms_of(opening, number), secrets.randbits(63), int(ttl * SECOND))
-        self.name = opening.names[number - 1]
+        self._other: Optional[Life] = None  # which life of another process was found last for its node
         self.failure: Optional[BaseException] = None
         self.behind = Behind()
-        self._enter(opening)
+        self._take_part(opening, number_of(opening, node))
+        self.name = opening.names[self.core.node - 1]
+        self.is_drained = False  # whether its node is drained, so that it does nothing
         self._start_work, self._stop_work, self._sure = start, stop, sure
         self._is_leaving = False
         self._is_stuck = False  # whether work may go on for good
@@ -118,11 +119,19 @@ class Member:
         self._ended = threading.Event()
         self._ended.set()
         self._shown: Tuple[Optional[Assignment], float] = (None, 0.0)
+        self.stepped = 0.0  # when it took its last step, by `logs.seconds_of_boot`
+
+    def _take_part(self, opening: Opening, number: int) -> None:
+        """It takes part for the node of this number, as a process that no other one was."""
+        self._process = secrets.randbits(63)
+        self.core = Core(terms_of(opening, number), self._process, int(self.ttl * SECOND))
+        self._enter(opening)
 
     def _enter(self, opening: Opening) -> None:
         self.opening = opening
         self._numbers = {name: number for number, name in enumerate(opening.names, 1)}
         self._found = Found(opening.epoch, (), {}, None)  # by the last look
+        self._seen = Seen(opening.epoch)  # what the rules were told then
 
     # What others may call, from any thread.
 
@@ -140,6 +149,11 @@ class Member:
     def sure_until(self) -> float:
         """Until when the node is surely present, by `logs.seconds_of_boot`."""
         return self._shown[1]
+
+    @property
+    def is_leaving(self) -> bool:
+        """Whether it was told to end."""
+        return self._is_leaving
 
     def leave(self) -> None:
         """The member ends in order: its work stops, and its presence is released. A signal may call it, too."""
@@ -170,12 +184,13 @@ class Member:
     # Its life.
 
     def run(self) -> None:
-        """Takes part until it has left. Raises what a callback raised; NotLearned, if a row of the log is refused; and what the log
-        raises, but Unanswered: then it tries again."""
+        """Takes part until it has left, but while its node is drained. Raises what a callback raised; NotLearned, if a row of the log is refused;
+        NotInGroup, if a drained node isn't in the group any more; and what the log raises, but Unanswered: then it tries again."""
         self._ended.clear()
         with ExitStack() as ending:
             ending.callback(self._ended.set)
-            self._woken, self._wakes = map(ending.enter_context, socket.socketpair())
+            woken, wakes = socket.socketpair()
+            self._woken, self._wakes = ending.enter_context(woken), ending.enter_context(wakes)
             caller = threading.Thread(target=self._call_all, name='bully work', daemon=True)
             caller.start()
             try:
@@ -204,15 +219,39 @@ class Member:
         """Takes step after step until the end, or until its work can't be stopped."""
         while not self._is_stuck:
             self._hear()
+            self.stepped = seconds_of_boot()
             step = self.core.next(nanoseconds_of_boot())
-            if isinstance(step, End):
-                level = logging.WARNING if step.ending is Ending.NOT_THERE else logging.INFO
-                _told.log(level, 'node %s: %s', shown_name(self.name), ENDINGS[step.ending])
-                if step.ending is Ending.BROKEN:
-                    self.failure = self.failure or self.core.fault or DamagedLog('the log has a row that is no event')
+            if not isinstance(step, End):
+                self._do(step)
+                self._show()
+            elif not self._comes_back(step.ending):
                 return
-            self._do(step)
-            self._show()
+
+    def _comes_back(self, ending: Ending) -> bool:
+        """It has ended. Whether it takes part again: if it did so since its node was drained, and that is over before it is told to end."""
+        self.is_drained = ending is Ending.LEFT and not self._is_leaving
+        level = logging.WARNING if ending is Ending.NOT_THERE else logging.INFO
+        _told.log(level, 'node %s: %s', shown_name(self.name), 'it is drained, and does nothing' if self.is_drained else ENDINGS[ending])
+        if ending is Ending.BROKEN:
+            self.failure = self.failure or self.core.fault or DamagedLog('the log has a row that is no event')
+        self._show()
+        while self.is_drained and not self._is_leaving:
+            opening, before = self._answer(self._undrained), self.core
+            if opening is not None:
+                self._take_part(opening, number_of(opening, self.name))
+                before.close()
+                self.is_drained = False
+                return True
+            slept(self.ttl / 4, self._woken.fileno())
+            self._hear()
+            self.stepped = seconds_of_boot()
+        return False
+
+    def _undrained(self) -> Optional[Opening]:
+        """With what the current epoch began, if its node isn't drained. Raises NotInGroup."""
+        opening = self.log.opening()
+        number_of(opening, self.name)
+        return None if self.name in found_in(self.log).orders.drained else opening
 
     def _hear(self) -> None:
         """Tells the core what came meanwhile."""
@@ -259,14 +298,15 @@ class Member:
     def _wait(self, step: Wait) -> None:
         """Waits for what is new in the log, or until it hears something."""
         found, epoch, place = self._found, self.opening.epoch, self.core.place
-        until = Until.NEWS if step.until is Until.ALL_IDLE and found.presences.keys() - self._numbers.keys() else step.until  # strangers have to go
-        self.behind.see(Promise(epoch, place), found.presences, step.until is Until.ANY_IDLE or self.core.life is None)
-        self._answer(lambda: self.log.wait(epoch, place, found.lives, until, step.at_most / SECOND, self._woken.fileno()))
+        rests = step.until is Until.ANY_IDLE or self.core.life is None or found.orders.is_paused
+        self.behind.see(Promise(epoch, place), found.presences, rests)
+        until, seconds = awaited(step.until, self._seen), step.at_most / SECOND
+        self._answer(lambda: self.log.wait(epoch, place, found.lives, until, seconds, self._woken.fileno()))
         self.core.woke()
 
     def _ask(self, ask: Ask) -> None:
         """Asks the log, and tells the core what came of it."""
-        told = self._answer(lambda: self._asked(ask))
+        told = self._answer(self._asker().call(ask))
         if isinstance(told, Found):
             self._looked(told)
         elif isinstance(told, Opening):
@@ -279,34 +319,32 @@ class Member:
         if told and ask.request in (Request.TAKE, Request.RENEW) and self._sure is not None:
             self._sure(self.core.sure_until / SECOND)
 
-    def _asked(self, ask: Ask) -> Union[bool, Found, Opening]:
-        """What the log finds, or whether it does that."""
-        log, here, ttl = self.log, Promise(self.opening.epoch, ask.place), int(self.ttl * SECOND)
-        if ask.request is Request.LOOK:
-            return log.look(here.epoch, self.core.place)
-        if ask.request is Request.FOLLOW:
-            return log.opening()
-        if ask.request is Request.TAKE:
-            return log.take(self.name, ask.life, here, ttl)
-        if ask.request is Request.RENEW:
-            return log.renew(self.name, ask.life, ttl)
-        if ask.request is Request.BE_IDLE:
-            return log.promise(self.name, ask.life, here)
-        if ask.request is Request.APPEND:
-            return log.append(here.epoch, here.place, self.core.settlement())
-        if ask.request is Request.FINISH:
-            return log.finish(here.epoch, here.place, self.opening.next(self._found.wish, self.core.last_table or self.opening.table))
-        log.release(self.name, ask.life)
-        return True
+    def _asker(self) -> Asker:
+        return Asker(self.log, self.name, self.opening, self.core.place, lambda: int(self.ttl * SECOND), self.core.settlement, self._after)
+
+    def _after(self) -> Opening:
+        """With what the next epoch is to begin."""
+        return self.opening.next(self._found.wish, self.core.last_table or self.opening.table)
 
     def _looked(self, found: Found) -> None:
         """What a look found."""
         self._found = found
-        there = sorted((self._numbers[name], holder) for name, holder in found.presences.items() if name in self._numbers)
-        presences = tuple(Presence(number, holder.life, holder.promise) for number, holder in there)
+        self._see_other(found.lives.get(self.name))
         self.core.learn(found.rows)
-        seen = Seen(found.epoch, presences, len(there) < len(found.presences), found.wish is not None)
-        self.core.looked(nanoseconds_of_boot(), seen)
+        self._seen = seen_of(found, Promise(self.opening.epoch, self.core.place), self.name, self._numbers, self._is_up)
+        self.core.looked(nanoseconds_of_boot(), self._seen)
+        if found.orders.takes_out(self.name, self.core.sure_until > 0):
+            self.core.leave()
+
+    def _is_up(self, number: int) -> bool:
+        return self.core.state(number).status is not Status.DOWN
+
+    def _see_other(self, life: Optional[Life]) -> None:
+        """Which life has the presence of its node: that it is one of another process is said once."""
+        if life is not None and life.process != self._process and life != self._other:
+            self._other = life
+            who = shown_name(self.name), life.process, life.number
+            _told.warning('node %s: another process is present for it, as %d.%d, and this one waits until that ends', *who)
 
     def _followed(self, opening: Opening) -> None:
         """With what the current epoch begins."""

@@ -12,39 +12,45 @@ import stat
 import time
 from contextlib import closing, contextmanager, suppress
 from pathlib import Path
-from typing import Dict, FrozenSet, Iterator, Mapping, NamedTuple, Optional, Sequence, Tuple, Union
+from typing import Dict, FrozenSet, Iterator, List, Mapping, NamedTuple, Optional, Sequence, Tuple, Union
 from urllib.parse import quote
 
 from .epochs import Opening
 from .guard import is_stopped, writer_of
 from .logs import (
-    BY_HISTORY, SECOND, DamagedLog, DiskFull, ForeignLog, Found, Holder, LogBusy, LogExists, NoLog, ReadOnlyLog, Unanswered, are_idle,
-    nanoseconds_of_boot, no_epoch, opening_of, rows_text, slept, wish_of,
+    BY_HISTORY, SECOND, BadPresence, DamagedLog, DiskFull, ForeignLog, Found, Holder, LogBusy, LogExists, NoLog, OtherLog, ReadOnlyLog, Unanswered,
+    are_idle, log_name, nanoseconds_of_boot, no_epoch, opening_of, orders_of, rows_of, rows_text, see_end, slept, wall_clock, wish_of,
 )  # fmt: skip
 from .member import Life, Promise, Until
+from .orders import Orders
+from .repairing import Kept
 from .values import Rows
 
 APPLICATION = 0x62756C79  # of a file with a log: `buly`
 FORM = 3  # of its tables
 SHORTEST_SLEEP, LONGEST_SLEEP = 0.001, 0.05  # seconds between two looks at a file
+SIGHT = SECOND // 4  # nanoseconds from one look at which files are there to the next, at most
 PRUNED_AT_ONCE = 100  # appends
 NEVER = 2**63 - 1
 
-# A record of the log has the rows of one append, each with its line end, and the place that these stand behind. Of an epoch that was taken
-# away the opening is left, without a count.
+# `changes` has the name of the log and its orders, too, and `boots` which boots of the machine have used it, one behind the other: an earlier
+# one is over. A record of the log has the rows of one append, each with its line end, the place that these stand behind, and when that was
+# done. Of an epoch that was taken away the opening is left, without a count.
 TABLES = """
 create table epochs (epoch integer primary key, opening text not null, wish text, count integer);
-create table log (epoch integer, place integer, rows text not null, primary key (epoch, place));
+create table log (epoch integer, place integer, rows text not null, time integer, primary key (epoch, place));
 create table presence (
-    name text primary key, life text not null, epoch integer not null, place integer not null, boot text not null, until integer not null
+    name text primary key, life text not null, epoch integer not null, place integer not null, boot text not null,
+    since integer not null, until integer not null
 );
-create table changes (lives integer not null, promises integer not null);
-insert into changes values (0, 0);
+create table changes (name text not null, lives integer not null, promises integer not null, orders text not null);
+create table boots (number integer primary key, boot text not null unique);
 """
+OTHER_BOOT = 'another boot uses it behind this one: its members have to see one /proc/sys/kernel/random/boot_id'
 
 # What SQLite says, by a part of its message, and what that means. The first that fits counts.
 MEANINGS = (
-    ('not a database', ForeignLog), ('malformed|no such', DamagedLog), ('read-?only', ReadOnlyLog), ('locked|busy', LogBusy),
+    ('not a database', ForeignLog), ('malformed|no such|decode', DamagedLog), ('read-?only', ReadOnlyLog), ('locked|busy', LogBusy),
     ('is full', DiskFull), ('unable to open', ReadOnlyLog),
 )  # fmt: skip
 
@@ -83,6 +89,33 @@ def identity(path: str) -> Tuple[int, int]:
     return found.st_dev, found.st_ino
 
 
+def beside(path: str) -> List[Tuple[int, int]]:
+    """Which files are beside this one while it is used, as far as they are there."""
+    found = []
+    for end in ('-wal', '-shm'):
+        with suppress(OSError):
+            there = os.stat(path + end)
+            found.append((there.st_dev, there.st_ino))
+    return found
+
+
+def see_alone(path: str) -> None:
+    """Raises ForeignLog, if the file may be reached by another path: who does that has other files beside it."""
+    if os.stat(path).st_nlink > 1:
+        raise ForeignLog(f'{path}: it has another name, a hard link, by which others would have another log of what is written')
+    if mount_of(path) != mount_of(os.path.dirname(os.path.realpath(path))):
+        raise ForeignLog(f'{path}: it is mounted alone, so that others have another log of what is written; mount its folder')
+
+
+def mount_of(path: str) -> str:
+    """The mount in which a path is. (To open a file of SQLite's otherwise, and to close it, would lose its locks.)"""
+    descriptor = os.open(path, os.O_PATH)
+    try:
+        return next(line for line in Path(f'/proc/self/fdinfo/{descriptor}').read_text(encoding='ascii').splitlines() if 'mnt_id' in line)
+    finally:
+        os.close(descriptor)
+
+
 @contextmanager
 def calls(path: str) -> Iterator[None]:
     """Calls of SQLite on this file. Their errors are told as what they mean."""
@@ -91,7 +124,7 @@ def calls(path: str) -> Iterator[None]:
     except sqlite3.Error as error:
         said = str(error)
         meaning = next((meaning for part, meaning in MEANINGS if re.search(part, said)), Unanswered)
-        more = told_holder(f'{path}-shm') if meaning is LogBusy else ''
+        more = told_holder(f'{os.path.realpath(path)}-shm') if meaning is LogBusy else ''
         raise meaning(f'{path}: {said}{more}') from error
 
 
@@ -123,13 +156,30 @@ def life_of(text: str) -> Life:
     return Life(int(process), int(number))
 
 
+def holder_of(where: str, name: str, life: str, epoch: int, place: int, until: int) -> Holder:
+    """Who holds the presence of that name, as a row of a table tells it. Raises BadPresence."""
+    try:
+        if not isinstance(until, int):
+            raise ValueError(f'{until!r} is no time')
+        return Holder(life_of(life), Promise(int(epoch), int(place)))
+    except (ValueError, TypeError) as fault:
+        raise BadPresence(f'{where}: the presence of {name} is none: {fault}') from fault
+
+
 class Standing(NamedTuple):
-    """How a log stands: its end, and what is wished for; and the counts of changes."""
+    """How a log stands: its end, and what is wished for and ordered; its name, and which boot has used it last; and the counts of changes."""
 
     end: Promise
     wish: Optional[str]
+    orders: str
+    name: str
+    boot: Optional[str]
     lives: int
     promises: int
+
+    @property
+    def wanted(self) -> Tuple[Optional[str], str]:
+        return self.wish, self.orders
 
 
 class SqliteLog:
@@ -141,13 +191,19 @@ class SqliteLog:
         Raises NoLog, ForeignLog, DamagedLog, ReadOnlyLog, Unanswered."""
         self.path = os.fspath(path)
         self._identity = identity(self.path)
+        self._real = os.path.realpath(self.path)  # beside which the others are, also if the path is a symbolic link
+        self._beside: Optional[List[Tuple[int, int]]] = None  # once it is used
+        see_alone(self.path)
         self._boot = boot_name()
+        self._sight = 0  # when it is to be looked again which files are there
+        self._name = ''  # of the log, once it is known
         self._told: Dict[str, Life] = {}  # who was present when that was looked at last
-        self._told_wish: Optional[str] = None
+        self._told_wanted: Tuple[Optional[str], str] = None, ''
         self._told_idle: Tuple[Promise, FrozenSet[str]] = (Promise(), frozenset())
         self._lives = -1  # the count of changes then
         self._earliest = 0  # before then none of these presences ends
         self._version = self._promises = -1  # of what a wait saw last
+        self._sleep = SHORTEST_SLEEP  # of a wait, up to its next look
         with calls(self.path):
             self._file = connection(self.path, patience)
         try:
@@ -160,10 +216,11 @@ class SqliteLog:
     def create(path: 'os.PathLike[str] | str', opening: Opening) -> 'SqliteLog':
         """Makes the file, with a log that begins so. The log. Raises LogExists, ReadOnlyLog, DiskFull, Unanswered."""
         name = os.fspath(path)
-        room = f'{name}.{os.getpid()}.new'
+        room = f'{name}.{log_name()}.new'  # processes of two containers may have one number
         try:
             with calls(room), closing(connection(room, 1.0, 'rwc')) as file:
                 file.executescript(f'pragma journal_mode = wal; pragma application_id = {APPLICATION}; pragma user_version = {FORM}; {TABLES}')
+                file.execute("insert into changes values (?, 0, 0, '')", (log_name(),))
                 open_epoch(file, opening)
             os.link(room, name)
         except FileExistsError:
@@ -182,8 +239,9 @@ class SqliteLog:
                 raise ForeignLog(f'{self.path}: a log of form {form}, by {version} version, and not of form {FORM}{more}')
             self._file.execute('pragma journal_mode = wal')
             self._file.execute('pragma synchronous = normal')
-        with self._transaction(kind):
-            self._standing()
+        with self._transaction(kind) as standing:
+            self._name = standing.name
+        self._beside = beside(self._real)
 
     # Epochs.
 
@@ -201,8 +259,7 @@ class SqliteLog:
         return opening_of(self.path, number, found[0])
 
     def finish(self, epoch: int, place: int, opening: Opening) -> bool:
-        with self._syncing():
-            standing = self._standing()
+        with self._syncing() as standing:
             if not self._may_append(standing, Promise(epoch, place)):
                 return False
             if opening.bare != self.opening(epoch).after(wish_of(self.path, epoch, standing.wish)):
@@ -212,8 +269,8 @@ class SqliteLog:
         return True
 
     def ask(self, wish: Opening, epoch: int) -> bool:
-        with self._syncing():
-            if epoch != self._standing().end.epoch or wish.epoch != epoch + 1:
+        with self._syncing() as standing:
+            if epoch != standing.end.epoch or wish.epoch != epoch + 1:
                 return False
             self._file.execute('update epochs set wish = ? where epoch = ?', (wish.bare.text(), epoch))
         return True
@@ -222,10 +279,17 @@ class SqliteLog:
         with self._syncing():
             self._file.execute('update epochs set wish = null where epoch = ?', (epoch,))
 
+    def order(self, orders: Orders, before: Optional[Orders]) -> bool:
+        with self._syncing() as standing:
+            if before is not None and before != orders_of(self.path, standing.orders):
+                return False
+            self._file.execute('update changes set orders = ?', (orders.text(),))
+        return True
+
     def prune(self, first: int) -> None:
         """The epochs are gone at once. Their rows are so a part at a time, so that nobody waits for long."""
-        with self._transaction():
-            first = min(first, self._standing().end.epoch)
+        with self._transaction() as standing:
+            first = min(first, standing.end.epoch)
             self._file.execute('update epochs set count = null where epoch < ?', (first,))
         with calls(self.path):
             asked = 'delete from log where rowid in (select rowid from log where epoch < ? limit ?)'
@@ -235,24 +299,34 @@ class SqliteLog:
     # Presences.
 
     def take(self, name: str, life: Life, promise: Promise, ttl: int) -> bool:
-        self._see_file()
-        with self._transaction():
+        with self._transaction() as standing:
             now = nanoseconds_of_boot()
             asked = 'select count(*) from presence where name = ? and boot = ? and until > ?'
-            if promise != self._standing().end or self._one(asked, name, self._boot, now):
+            if promise != standing.end or self._one(asked, name, self._boot, now):
                 return False
-            held = name, life_text(life), promise.epoch, promise.place, self._boot, now + ttl
-            self._file.execute('insert or replace into presence values (?, ?, ?, ?, ?, ?)', held)
+            if standing.boot != self._boot:
+                self._enter_boot(now)
+            held = name, life_text(life), promise.epoch, promise.place, self._boot, now, now + ttl
+            self._file.execute('insert or replace into presence values (?, ?, ?, ?, ?, ?, ?)', held)
             self._file.execute('update changes set lives = lives + 1')
         return True
 
+    def _enter_boot(self, now: int) -> None:
+        """This boot uses the log from now on. Raises LogBusy, if a presence of another one may still be held."""
+        if self._are_elsewhere(now):
+            raise LogBusy(f'{self.path}: another boot may still hold presences')
+        self._file.execute('insert into boots (boot) values (?)', (self._boot,))
+
+    def _are_elsewhere(self, now: int) -> bool:
+        """Whether another boot may hold presences, by this clock: those of an earlier boot of this machine are mostly of other times."""
+        return self._one('select count(*) from presence where boot != ? and since <= ? and until > ?', self._boot, now, now) > 0
+
     def renew(self, name: str, life: Life, ttl: int) -> bool:
-        self._see_file()
         with self._transaction():
             now = nanoseconds_of_boot()
             if self._promised(name, life, now) is None:
                 return False
-            self._file.execute('update presence set until = ? where name = ?', (now + ttl, name))
+            self._file.execute('update presence set since = ?, until = ? where name = ?', (now, now + ttl, name))
         return True
 
     def release(self, name: str, life: Life) -> None:
@@ -276,23 +350,27 @@ class SqliteLog:
         found = self._file.execute(asked, (name, life_text(life), self._boot, now)).fetchone()
         return Promise(*found) if found else None
 
-    def _see_file(self) -> None:
-        """Raises ForeignLog, if another file is in its place: then there may be two histories."""
+    def _see_files(self) -> None:
+        """Raises OtherLog, if another file is in the place of one of its own: then there may be two histories."""
         if identity(self.path) != self._identity:
-            raise ForeignLog(f'{self.path}: another file is in its place')
+            raise OtherLog(f'{self.path}: another file is in its place')
+        if self._beside not in (None, beside(self._real)):
+            raise OtherLog(f'{self.path}: its -wal or its -shm was taken away, and others go on in another one')
+        self._sight = nanoseconds_of_boot() + SIGHT
 
     # The log.
 
     def append(self, epoch: int, place: int, rows: Sequence[str]) -> bool:
         text = rows_text(rows)
-        with self._syncing():
-            if not self._may_append(self._standing(), Promise(epoch, place)):
+        with self._syncing() as standing:
+            if not self._may_append(standing, Promise(epoch, place)):
                 return False
-            self._file.execute('insert into log values (?, ?, ?)', (epoch, place, text))
+            self._file.execute('insert into log values (?, ?, ?, ?)', (epoch, place, text, wall_clock()))
             self._file.execute('update epochs set count = ? where epoch = ?', (place + len(rows), epoch))
         return True
 
     def _may_append(self, standing: Standing, here: Promise) -> bool:
+        see_end(self.path, standing.end, here)
         return here == standing.end and self._are_idle(Until.ALL_IDLE, here)
 
     def _are_idle(self, until: Until, here: Promise) -> bool:
@@ -302,11 +380,16 @@ class SqliteLog:
         return are_idle(until, promises, [here.epoch, here.place], idle if known == here else frozenset())
 
     def read(self, epoch: int, place: int) -> Rows:
-        with self._transaction('deferred'):
+        with self._transaction('deferred') as standing:
             found = self._file.execute('select count from epochs where epoch = ?', (epoch,)).fetchone()
             if found is None or found[0] is None:
                 raise no_epoch(self.path, epoch, self.epochs())
+            see_end(self.path, standing.end, Promise(epoch, place))
             return self._rows(epoch, place, found[0])
+
+    def times(self, epoch: int) -> Dict[int, Optional[int]]:
+        with calls(self.path):
+            return dict(self._file.execute('select place, time from log where epoch = ?', (epoch,)).fetchall())
 
     def _rows(self, epoch: int, place: int, count: int) -> Rows:
         """The rows of an epoch that has so many, behind that place."""
@@ -314,43 +397,66 @@ class SqliteLog:
             return Rows('')
         first = self._one('select coalesce(max(place), 0) from log where epoch = ? and place <= ?', epoch, place)
         asked = 'select rows from log where epoch = ? and place >= ? order by place'
-        rows = Rows(''.join([text for text, in self._file.execute(asked, (epoch, first))]))
+        rows = rows_of(self.path, epoch, first, ''.join([str(text) for text, in self._file.execute(asked, (epoch, first))]))
         if len(rows) != count - first:
             raise DamagedLog(f'{self.path}: rows are missing behind place {place}')
         return rows.behind(place - first)
 
+    def kept(self) -> Kept:
+        with self._transaction('deferred') as standing:
+            asked = 'select place, cast(rows as blob) from log where epoch = ? order by place'
+            return Kept(standing.end, self._file.execute(asked, (standing.end.epoch,)).fetchall())
+
+    def cut(self, end: Promise, append: int, text: str, opening: Opening) -> bool:
+        with self._syncing() as standing:
+            now = nanoseconds_of_boot()
+            present = self._one('select count(*) from presence where boot = ? and until > ?', self._boot, now)
+            if standing.end != end or present or self._are_elsewhere(now):
+                return False
+            self._file.execute('delete from log where epoch = ? and place >= ?', (end.epoch, append + bool(text)))
+            self._file.execute('update log set rows = ? where epoch = ? and place = ?', (text, end.epoch, append))
+            self._file.execute('update epochs set count = ?, wish = null where epoch = ?', (append + text.count('\n'), end.epoch))
+            open_epoch(self._file, opening)
+        return True
+
     # Looks and waits.
 
     def look(self, epoch: int, place: int) -> Found:
-        with self._transaction('deferred'):
-            standing = self._standing()
+        with self._transaction('deferred') as standing:
             end = standing.end
+            see_end(self.path, end, Promise(epoch, place))
             rows = self._rows(epoch, place, end.place) if epoch == end.epoch else Rows('')
-            found = Found(end.epoch, rows, self._look_around(standing), wish_of(self.path, end.epoch, standing.wish))
-        self._told_wish, self._told_idle = standing.wish, (end, found.idle(end))
+            wish, orders = wish_of(self.path, end.epoch, standing.wish), orders_of(self.path, standing.orders)
+            found = Found(end.epoch, rows, self._look_around(standing), wish, orders)
+        self._told_wanted, self._told_idle = standing.wanted, (end, found.idle(end))
         return found
 
     def _look_around(self, standing: Standing) -> Dict[str, Holder]:
         """Who is present. It is noted."""
         asked = 'select name, life, epoch, place, until from presence where boot = ? and until > ?'
         found = self._file.execute(asked, (self._boot, nanoseconds_of_boot())).fetchall()
-        presences = {name: Holder(life_of(life), Promise(epoch, place)) for name, life, epoch, place, _ in found}
+        presences = {name: holder_of(self.path, name, *told) for name, *told in found}
         self._told = {name: holder.life for name, holder in presences.items()}
         self._lives, self._earliest = standing.lives, min((until for *_, until in found), default=NEVER)
         return presences
 
     def wait(self, epoch: int, place: int, lives: Mapping[str, Life], until: Until, seconds: float, woken: Optional[int] = None) -> None:
-        end, sleep = nanoseconds_of_boot() + int(seconds * SECOND), SHORTEST_SLEEP
+        """If the time is over without news, the next wait goes on at the pace of this one: else what comes is often soon followed by more."""
+        end = nanoseconds_of_boot() + int(seconds * SECOND)
         self._version = self._promises = -1
         while not self._is_news(Promise(epoch, place), lives, until):
             now = nanoseconds_of_boot()
-            left = min(sleep, (end - now) / SECOND, max(SHORTEST_SLEEP, (self._earliest - now) / SECOND))
-            if now >= end or slept(left, woken):
+            if now >= end:
                 return
-            sleep = min(2 * sleep, LONGEST_SLEEP)
+            if slept(min(self._sleep, (end - now) / SECOND, max(SHORTEST_SLEEP, (self._earliest - now) / SECOND)), woken):
+                break
+            self._sleep = min(2 * self._sleep, LONGEST_SLEEP)
+        self._sleep = SHORTEST_SLEEP
 
     def _is_news(self, here: Promise, lives: Mapping[str, Life], until: Until) -> bool:
         """Whether what `wait` waits for has come. Nothing but a commit and a presence's end can bring it."""
+        if nanoseconds_of_boot() >= self._sight:
+            self._see_files()
         with calls(self.path):
             version = self._one('pragma data_version')
             is_end = nanoseconds_of_boot() >= self._earliest  # of a presence, unless it was renewed
@@ -360,7 +466,7 @@ class SqliteLog:
             if standing.lives != self._lives or is_end:
                 self._look_around(standing)
             end = standing.end
-            if end.epoch != here.epoch or end.place > here.place or standing.wish != self._told_wish or self._told != lives:
+            if end != here or standing.wanted != self._told_wanted or self._told != lives:
                 return True
             is_same, self._promises = standing.promises == self._promises, standing.promises
             return until is not Until.NEWS and not is_same and self._are_idle(until, here)
@@ -371,33 +477,40 @@ class SqliteLog:
     # What is asked of SQLite.
 
     def _standing(self) -> Standing:
-        asked = 'select epoch, count, wish, lives, promises from epochs, changes order by epoch desc limit 1'
+        boot = '(select boot from boots order by number desc limit 1)'
+        asked = f'select epoch, count, wish, orders, name, {boot}, lives, promises from epochs, changes order by epoch desc limit 1'
         found = self._file.execute(asked).fetchone()
-        if found is None:
-            raise DamagedLog(f'{self.path}: the log has no opening')
-        return Standing(Promise(*found[:2]), *found[2:])
+        if found is None or not all(isinstance(number, int) for number in (*found[:2], *found[-2:])):
+            raise DamagedLog(f'{self.path}: the log has no opening, or no end')
+        standing = Standing(Promise(*found[:2]), *found[2:])
+        if standing.name != self._name and self._name:
+            raise OtherLog(f'{self.path}: another log is in its place')
+        if standing.boot != self._boot and self._one('select count(*) from boots where boot = ?', self._boot):
+            raise ForeignLog(f'{self.path}: {OTHER_BOOT}')
+        return standing
 
     def _one(self, asked: str, *arguments: Union[int, str]) -> int:
         return int(self._file.execute(asked, arguments).fetchone()[0])
 
     @contextmanager
-    def _syncing(self) -> Iterator[None]:
+    def _syncing(self) -> Iterator[Standing]:
         """A transaction that is on the disk behind it."""
         with calls(self.path):
             self._file.execute('pragma synchronous = full')
             try:
-                with self._transaction():
-                    yield
+                with self._transaction() as standing:
+                    yield standing
             finally:
                 self._file.execute('pragma synchronous = normal')
 
     @contextmanager
-    def _transaction(self, kind: str = 'immediate') -> Iterator[None]:
-        """One transaction. What is returned out of it is kept, and what is raised undoes it."""
+    def _transaction(self, kind: str = 'immediate') -> Iterator[Standing]:
+        """One transaction, and how the log stands in it. What is returned out of it is kept, and what is raised undoes it."""
+        self._see_files()
         with calls(self.path):
             self._file.execute(f'begin {kind}')
             try:
-                yield
+                yield self._standing()
                 self._file.execute('commit')
             except BaseException:
                 if self._file.in_transaction:

@@ -4,8 +4,9 @@ from __future__ import annotations
 import argparse
 import contextlib
 import os
+import time
 from dataclasses import dataclass, field
-from typing import TYPE_CHECKING, Optional, Sequence
+from typing import TYPE_CHECKING, Callable, List, Mapping, Optional, Sequence
 
 from .epochs import Opening
 from .logs import Log, LogError
@@ -13,6 +14,8 @@ from .sqlite import SqliteLog
 
 if TYPE_CHECKING:
     import ssl
+
+    from .repairing import Repairable
 
 PASSWORD = 'BULLY_ETCD_PASSWORD'  # of the environment
 KINDS = 'sqlite:FILE or etcd://HOST:PORT,HOST:PORT/PREFIX'
@@ -47,16 +50,15 @@ class FileStore:
         """A new log."""
         return SqliteLog.create(self.path, opening)
 
-    def open(self, patience: float = 1.0, reads: bool = False) -> Log:
+    def open(self, patience: float = 1.0, reads: bool = False) -> Repairable:
         """The log that is there."""
         return SqliteLog(self.path, patience, reads)
 
-    def history(self, epoch: Optional[int] = None) -> Sequence[str]:
+    def history(self, epoch: Optional[int] = None, has_times: bool = False) -> Sequence[str]:
         """The trace of an epoch, or of the current one: also in a log of the form before."""
         from .older import file_trace
 
-        older = file_trace(self.path, epoch)
-        return trace(self.open(reads=True), epoch) if older is None else older
+        return traced(lambda: self.open(reads=True), file_trace(self.path, epoch), epoch, has_times)
 
 
 @dataclass(frozen=True)
@@ -74,25 +76,48 @@ class EtcdStore:
 
         return EtcdLog.create(self.address, opening, 1.0, self.tls, self.user, self.password)
 
-    def open(self, patience: float = 1.0, reads: bool = False) -> Log:
+    def open(self, patience: float = 1.0, reads: bool = False) -> Repairable:
         """The log that is there."""
         from .etcd import EtcdLog
 
         return EtcdLog(self.address, patience, self.tls, self.user, self.password)
 
-    def history(self, epoch: Optional[int] = None) -> Sequence[str]:
+    def history(self, epoch: Optional[int] = None, has_times: bool = False) -> Sequence[str]:
         """The trace of an epoch, or of the current one: also in a log of the form before."""
         from .older import etcd_trace
 
-        older = etcd_trace(self.address, epoch, self.tls, self.user, self.password)
-        return trace(self.open(), epoch) if older is None else older
+        return traced(self.open, etcd_trace(self.address, epoch, self.tls, self.user, self.password), epoch, has_times)
 
 
-def trace(log: Log, epoch: Optional[int]) -> Sequence[str]:
-    """The trace of an epoch, or of the current one, from its header on. Closes the log."""
+def trace(log: Log, epoch: Optional[int], has_times: bool = False) -> Sequence[str]:
+    """The trace of an epoch, or of the current one, from its header on; or the same with times. Closes the log."""
     with contextlib.closing(log):
         number = log.epochs()[-1] if epoch is None else epoch
-        return [log.opening(number).header, *log.read(number, 0)]
+        rows = [log.opening(number).header, *log.read(number, 0)]
+        return timed(rows, log.times(number)) if has_times else rows
+
+
+def traced(log: Callable[[], Log], older: Optional[Sequence[str]], epoch: Optional[int], has_times: bool) -> Sequence[str]:
+    """The same of a log, unless an older one was found, which has no times."""
+    if older is None:
+        return trace(log(), epoch, has_times)
+    return timed(older, {}) if has_times else older
+
+
+def timed(rows: Sequence[str], times: Mapping[int, Optional[int]]) -> List[str]:
+    """The rows of a trace, each behind the time of its append and a comma; behind the comma alone, if that isn't kept."""
+    lines, told = [], ''
+    for place, row in enumerate(rows, -1):
+        told = time_text(times[place]) if place in times else told
+        lines.append(f'{told},{row}')
+    return lines
+
+
+def time_text(milliseconds: Optional[int]) -> str:
+    """A time of UTC by ISO 8601; nothing, if there is none."""
+    if milliseconds is None:
+        return ''
+    return time.strftime('%Y-%m-%dT%H:%M:%S', time.gmtime(milliseconds // 1000)) + f'.{milliseconds % 1000:03}Z'
 
 
 def store_of(options: argparse.Namespace) -> 'FileStore | EtcdStore':

@@ -41,13 +41,19 @@ class NodeView:
     status: Status
     coordinator: Optional[str]
     is_present: bool
+    is_drained: bool
     partitions: Tuple[int, ...]
+
+    @property
+    def told_present(self) -> str:
+        """Whether it is present, and drained, for people."""
+        return ('yes' if self.is_present else 'no') + (', drained' if self.is_drained else '')
 
     def told(self) -> Dict[str, Any]:
         """The same for JSON."""
         return {
             'node': self.node, 'name': self.name, 'status': str(self.status), 'coordinator': self.coordinator,
-            'present': self.is_present, 'partitions': list(self.partitions),
+            'present': self.is_present, 'drained': self.is_drained, 'partitions': list(self.partitions),
         }  # fmt: skip
 
 
@@ -62,20 +68,28 @@ class GroupView:
     coordinator: Optional[str]  # of the nodes that are Normal
     owners: Tuple[Optional[str], ...]  # of the partitions; none, while nobody may work on one
     nodes: Tuple[NodeView, ...]
+    is_at_rest: bool  # whether nothing is to be done but to work
+    is_paused: bool
     behind: Dict[str, float]  # who isn't idle up to the end of the log, though the group isn't at rest, and for how many seconds
     last: Tuple[Tuple[int, str], ...]  # the last rows, with their numbers in the trace
 
     @property
-    def told_behind(self) -> str:
-        """Who is behind, for people."""
+    def is_well(self) -> bool:
+        """Whether each partition may be worked on."""
+        return self.is_at_rest and None not in self.owners
+
+    @property
+    def told_more(self) -> str:
+        """Whether it is paused, and who is behind, for people."""
         told = ', '.join(f'{shown_name(name)} for {seconds:.1f} s' for name, seconds in self.behind.items())
-        return f'; not idle yet: {told}' if told else ''
+        return ('; paused: who works goes on, and nobody settles' if self.is_paused else '') + (f'; not idle yet: {told}' if told else '')
 
     def told(self) -> Dict[str, Any]:
         """The same for JSON."""
         return {
             'epoch': self.epoch, 'rows': self.rows, 'events': self.events, 'token': self.token, 'coordinator': self.coordinator,
-            'owners': list(self.owners), 'nodes': [node.told() for node in self.nodes],
+            'owners': list(self.owners), 'nodes': [node.told() for node in self.nodes], 'at_rest': self.is_at_rest,
+            'paused': self.is_paused,
             'behind': {name: round(seconds, 3) for name, seconds in self.behind.items()},
             'last': [{'row': number, 'text': row} for number, row in self.last],
         }  # fmt: skip
@@ -94,12 +108,6 @@ class LogView:
         self._lock = threading.Lock()
         self._enter()
         self._read()
-
-    def read_on(self) -> Tuple[int, int]:
-        """Reads on. The epoch, and how many events it has."""
-        with self._lock:
-            self._read()
-            return self._opening.epoch, self._replica.events
 
     def show(self) -> GroupView:
         """Reads on, and shows the group."""
@@ -133,31 +141,35 @@ class LogView:
 
     def _shown(self, found: Found) -> GroupView:
         replica, opening = self._replica, self._opening
-        nodes = tuple(self._node(node, self._name(node) in found.presences) for node in range(1, replica.nodes + 1))
+        nodes = tuple(self._node(node, found) for node in range(1, replica.nodes + 1))
         owners: List[Optional[str]] = [None] * replica.partitions
         for node in nodes:
             for partition in node.partitions:
                 owners[partition] = node.name
         coordinator = next((node.coordinator for node in nodes if node.status is Status.NORMAL), None)
         token = None if replica.token is None else Token.of(opening.epoch, replica.token)
-        behind = self._behind.see(Promise(opening.epoch, replica.rows), found.presences, self._is_at_rest(found, nodes))
-        return GroupView(opening.epoch, replica.rows, replica.events, token, coordinator, tuple(owners), nodes, behind, tuple(self._last))
+        rests, is_paused = self._is_at_rest(found, nodes), found.orders.is_paused
+        behind = self._behind.see(Promise(opening.epoch, replica.rows), found.presences, rests or is_paused)
+        return GroupView(
+            opening.epoch, replica.rows, replica.events, token, coordinator, tuple(owners), nodes, rests, is_paused, behind, tuple(self._last)
+        )  # fmt: skip
 
     def _is_at_rest(self, found: Found, nodes: Tuple[NodeView, ...]) -> bool:
-        """Whether nothing is to be done in the group but to work."""
-        promises = [holder.promise for holder in found.presences.values()]
+        """Whether nothing is to be done in the group but to work. In a pause who came, and what is wished for, waits for its end."""
+        is_paused = found.orders.is_paused
+        counted = {node.name: node.node for node in nodes if node.is_present and not (is_paused and node.status is Status.DOWN)}
+        promises = [holder.promise for name, holder in found.presences.items() if name in counted or not is_paused]
         idle = max((promise.place for promise in promises if promise.epoch == found.epoch), default=0)
         has_room = self._replica.rows + SETTLEMENT * len(nodes) <= self._opening.limit
-        rests = self._replica.is_at_rest([node.node for node in nodes if node.is_present], idle)
-        return rests and has_room and found.wish is None
+        return self._replica.is_at_rest(list(counted.values()), idle) and has_room and (is_paused or found.wish is None)
 
-    def _node(self, node: int, is_present: bool) -> NodeView:
+    def _node(self, node: int, found: Found) -> NodeView:
         state = self._replica.state(node)
         is_normal = state.status is Status.NORMAL
         task = self._replica.task(node) or () if is_normal else ()
         partitions = tuple(partition for partition, owner in enumerate(task) if owner == node)
-        coordinator = None if state.coordinator is None else self._name(state.coordinator)
-        return NodeView(node, self._name(node), state.status, coordinator, is_present, partitions)
+        coordinator, name = None if state.coordinator is None else self._name(state.coordinator), self._name(node)
+        return NodeView(node, name, state.status, coordinator, name in found.presences, name in found.orders.drained, partitions)
 
     def _name(self, node: int) -> str:
         return self._opening.names[node - 1]

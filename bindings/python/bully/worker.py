@@ -2,6 +2,7 @@
 from __future__ import annotations
 
 import json
+import logging
 import os
 import queue
 import socket
@@ -10,16 +11,28 @@ import sys
 import threading
 from contextlib import suppress
 from pathlib import Path
-from typing import Optional, Sequence
+from typing import List, Optional, Sequence
 
-from .logs import SECOND
+from .guard import BEATS, adopt, children, end_children, may_kill
+from .logs import SECOND, seconds_of_boot, slept
 from .running import Assignment, Member
 
 GUARD = str(Path(__file__).with_name('guard.py'))
+SILENT = 2  # looks, a twentieth of the ttl from one to the next, at a guard that is silent, behind which it is killed
+STARTS = 5.0  # seconds that a guard takes to begin, at most
+REST_MAX = 60.0  # seconds that a worker rests at most which fails again and again
+PART = 0.1  # seconds for which it waits at once for a worker to stop
+MESSAGE_MAX = 100_000  # bytes of a message to the guard: all sockets have room for so many
+
+_told = logging.getLogger('bully')
 
 
 class GuardLost(Exception):
-    """The guard died, and a worker may go on in part. Nothing is given back before the presence has ended."""
+    """The guard died, or was killed since it was silent."""
+
+
+class WorkerStuck(Exception):
+    """A worker didn't end, though it was killed, and its member is to leave. Nothing is given back before the presence has ended."""
 
 
 class WorkerEnded(Exception):
@@ -38,16 +51,23 @@ class Workers:
         them by lines."""
         self._words, self._node, self._patience, self._talks = words, node, patience, talks
         self._assignment: Optional[Assignment] = None
-        self._stopped: 'queue.SimpleQueue[bool]' = queue.SimpleQueue()  # or that the guard is lost
+        self._stopped: 'queue.SimpleQueue[None]' = queue.SimpleQueue()
         self._until = 0  # in nanoseconds of CLOCK_BOOTTIME
+        self._begun = self._rest = self._rest_end = 0.0  # when the worker was told to begin, and how long and until when it rests since it failed
+        self._may_work = False  # whether the worker was told to begin, and may be at work
+        self._is_unheard = False  # whether the guard hasn't answered that yet
+        self._stop_begun: Optional[float] = None  # when the worker was told to stop, if it hasn't yet
+        self._left: List[int] = []  # what is still there of the worker, though it was killed
         self._is_closed = False
+        self._ending = threading.Lock()  # who has it waits for children
 
     def begin(self, member: Member, file: str = '') -> None:
-        """The guard begins, before the member does. If its log is a file, the guard kills this process, too, if that stays stopped for half a ttl
-        in the middle of a write."""
-        self._member = member
+        """The guard begins, before the member does. If its log is a file, the guard kills this process, too, if that stays stopped in the middle
+        of a write. What a guard leaves that died is left to this process, which kills it."""
+        self._member, self._others = member, children()
+        adopt()
         self._channel, given = socket.socketpair(socket.AF_UNIX, socket.SOCK_SEQPACKET)
-        more = ['talks' if self._talks else 'ends', f'{file}-shm' if file else '', str(member.ttl / 2)]
+        more = ['talks' if self._talks else 'ends', f'{os.path.realpath(file)}-shm' if file else '', str(member.ttl)]
         command = [sys.executable, '-I', '-S', GUARD, str(given.fileno()), str(self._patience), *more, *self._words]
         environment = {**os.environ, 'BULLY_NODE': self._node}
         with given:
@@ -56,8 +76,11 @@ class Workers:
         self._listener.start()
 
     def start(self, assignment: Assignment) -> None:
-        """The worker begins, or goes on, for this assignment."""
-        self._assignment = assignment
+        """The worker begins, or goes on, for this assignment; or its rest does."""
+        self._assignment, self._begun = assignment, seconds_of_boot()
+        if self._begun < self._rest_end:
+            self._begin_later(assignment)
+            return
         settings = assignment.settings.text(self._member.ttl, self._member.margin)
         coordinator = assignment.settings.name(assignment.coordinator)
         if self._talks:
@@ -67,16 +90,45 @@ class Workers:
             partitions = ' '.join(map(str, assignment.partitions))
             named = {'TOKEN': str(assignment.token), 'SETTINGS': settings, 'COORDINATOR': coordinator, 'PARTITIONS': partitions}
             words = '\0'.join(f'BULLY_{name}={value}' for name, value in named.items())
+        self._may_work = self._is_unheard = True
         self._tell(f'until {self._until}')
-        self._tell(f'begin {words}')
+        self._tell_begin(words.encode('utf-8', 'surrogateescape'))
 
     def stop(self, assignment: Assignment) -> None:
-        """Returns once nothing is worked on any more. Raises GuardLost."""
+        """Returns once nothing is worked on any more. Raises WorkerStuck."""
         if self._assignment is not None:
+            self._stop_begun = seconds_of_boot()
             self._tell('stop')
-            if not self._stopped.get():
-                raise GuardLost('the guard of the worker died')
+            self._wait_for_stop()
+            self._stop_begun = None
         self._assignment = None
+
+    def _wait_for_stop(self) -> None:
+        """Waits for that. A member that is to leave doesn't wait for what was killed and hasn't ended: that does nothing any more."""
+        while True:
+            with suppress(queue.Empty):
+                return self._stopped.get(timeout=PART)
+            if self.is_stuck and self._member.is_leaving and all(map(may_kill, self._left)):
+                raise WorkerStuck(f'the worker has not ended for {self.stopping_seconds:.1f} s, though it was killed; its presence ends by itself')
+
+    @property
+    def stopping_seconds(self) -> float:
+        """For how long the worker has been told to stop, and hasn't."""
+        begun = self._stop_begun
+        return 0.0 if begun is None else seconds_of_boot() - begun
+
+    @property
+    def is_stuck(self) -> bool:
+        """Whether something of it is still there, though it should have been killed a ttl ago."""
+        return bool(self._left) and self.stopping_seconds > self._patience + self._member.ttl
+
+    @property
+    def told(self) -> str:
+        """For people: that it stops, or rests."""
+        if self._stop_begun is not None:
+            return f'; its worker has not stopped for {self.stopping_seconds:.1f} s'
+        rests = self.rest_seconds
+        return f'; its worker failed, and rests for {rests:.1f} s' if rests else ''
 
     def hear_until(self, until: float) -> None:
         """The worker may go on until then, in seconds of CLOCK_BOOTTIME."""
@@ -85,34 +137,106 @@ class Workers:
             self._channel.send(f'until {self._until}'.encode(), socket.MSG_DONTWAIT)
 
     def close(self) -> None:
-        """Returns once nothing is left of the worker and the guard."""
+        """Returns once nothing is left of the worker and the guard; or at once, if the worker is stuck."""
         self._is_closed = True
         with suppress(OSError):
-            self._channel.shutdown(socket.SHUT_RDWR)
-        self._guard.wait()
+            self._channel.shutdown(socket.SHUT_WR)
+        if self.is_stuck:
+            return
+        self._listener.join(self._patience + self._member.ttl)  # up to the guard's end
+        self._end_all()
         self._listener.join()
         self._channel.close()
 
+    def _tell_begin(self, words: bytes) -> None:
+        """In parts, for each of which a message has room."""
+        *parts, last = [words[first : first + MESSAGE_MAX] for first in range(0, len(words), MESSAGE_MAX)]
+        for part in parts:
+            self._send(b'part ' + part)
+        self._send(b'begin ' + last)
+
     def _tell(self, message: str) -> None:
+        self._send(message.encode())
+
+    def _send(self, message: bytes) -> None:
         with suppress(BrokenPipeError, ConnectionResetError):  # that the guard is gone is heard
-            self._channel.send(message.encode('utf-8', 'surrogateescape'))
+            self._channel.send(message)
 
     def _hear_all(self) -> None:
         """Hears what the guard says, up to its end."""
         while said := self._hear().split():
-            assignment = self._assignment
+            assignment, self._is_unheard = self._assignment, False
+            if said[0] == b'begun':
+                continue
+            if said[0] == b'held':
+                self._tell_left(list(map(int, said[1:])))
+                continue
+            self._left, self._may_work = [], False
             if said[0] == b'stopped':
-                self._stopped.put(True)
+                self._stopped.put(None)
             elif said[0] == b'ended':
-                self._member.end_with(WorkerEnded(int(said[1])))
+                self._ended(int(said[1]), seconds_of_boot())
             elif assignment is not None:
                 self._member.lose(assignment)
         if not self._is_closed:
             self._member.end_with(GuardLost('the guard of the worker died'))
-            self._stopped.put(False)
+            self._end_all()
+            self._stopped.put(None)
+
+    def _ended(self, status: int, now: float) -> None:
+        """The worker ended by itself. If it failed within a ttl it is begun again, later and later, and its node keeps what it owns; else its
+        member ends, too."""
+        ttl = self._member.ttl
+        if status == 0 or now >= self._begun + ttl:
+            self._member.end_with(WorkerEnded(status))
+            return
+        fails_again = self._rest and self._begun < self._rest_end + ttl
+        self._rest = min(2 * self._rest, REST_MAX) if fails_again else ttl / 5
+        self._rest_end = now + self._rest
+        _told.warning('the worker failed, with status %d, and is begun again in %.1f s', status, self._rest)
+        if self._assignment is not None:
+            self._begin_later(self._assignment)
+
+    def _begin_later(self, assignment: Assignment) -> None:
+        """Once the rest is over, the work of this assignment is lost, so that it is begun again, if the node still owns it."""
+        later = threading.Timer(max(0.0, self._rest_end - seconds_of_boot()), self._member.lose, [assignment])
+        later.daemon = True
+        later.start()
+
+    @property
+    def rest_seconds(self) -> float:
+        """For how long the worker still rests, since it failed."""
+        return max(0.0, self._rest_end - seconds_of_boot())
 
     def _hear(self) -> bytes:
-        """What the guard says; nothing, if it died."""
-        while True:
-            with suppress(ConnectionResetError):  # comes once, and before what it said, if it didn't read all that it was told
-                return self._channel.recv(100)
+        """What the guard says; nothing, if it died. One that is silent is killed."""
+        silent = 0
+        while silent < SILENT or slept(0.0, self._channel.fileno()):
+            if slept(self._pause(), self._channel.fileno()):
+                with suppress(ConnectionResetError):  # comes once, and before what it said, if it didn't read all that it was told
+                    return self._channel.recv(1000)
+            silent = silent + 1 if self._is_silent() else 0
+        return b''
+
+    def _pause(self) -> float:
+        """For how many seconds it needn't be looked whether the guard is silent: its moment is mostly far away."""
+        left = self._until / SECOND - seconds_of_boot() if self._may_work else self._member.ttl
+        return max(self._member.ttl / BEATS, min(left, self._member.ttl / 4))
+
+    def _is_silent(self) -> bool:
+        """Whether the guard should have killed the worker for a twentieth of the ttl, or told that it has begun, or has stopped, for a ttl."""
+        stop_begun, now, ttl = self._stop_begun, seconds_of_boot(), self._member.ttl
+        is_late = self._may_work and now > max(self._begun, self._until / SECOND) + ttl / BEATS
+        is_deaf = self._is_unheard and now > self._begun + ttl + STARTS
+        return not self._left and (is_late or is_deaf or stop_begun is not None and now > stop_begun + self._patience + ttl)
+
+    def _end_all(self) -> None:
+        """Returns once nothing is left of the guard, and of what it began."""
+        with self._ending:
+            end_children(self._others, self._member.ttl / BEATS, self._tell_left)
+            self._guard.wait()
+            self._left = []
+
+    def _tell_left(self, processes: List[int]) -> None:
+        self._left = processes
+        _told.error('these processes may work on, since SIGKILL has not ended them; until they are gone nothing is begun here: %s', processes)

@@ -13,7 +13,7 @@ from bully.epochs import Opening, Token
 from bully.etcd import EtcdLog
 from bully.logs import Log
 from etcd_servers import NUMBERS, OLDER, Server, WithCertificates, WithEtcd, add_users, alone, begin_alone, prune_in_part, put_older
-from laws import HEADER, PATIENCE, wait_until
+from laws import HEADER, wait_until
 from test_commands import BEGINS, TALKS, MemberProcess, call
 from test_pages import ROOT, TOP, toml
 from test_running import Away, WithFolder, put
@@ -117,7 +117,7 @@ class Commands(OverEtcd):
         put(self.opened(), 'recover,2')
         self.assertEqual(self.of_log('history'), (0, f'{HEADER}\nrecover,2\n', ''))
         status, said, _ = self.of_log('status')
-        self.assertEqual((status, said.splitlines()[0]), (0, 'epoch 1, events 1, token -, coordinator -'))
+        self.assertEqual((status, said.splitlines()[0]), (1, 'epoch 1, events 1, token -, coordinator -'))
         self.assertEqual([node['status'] for node in json.loads(self.of_log('status', '--json')[1])['nodes']], ['down', 'election', 'down'])
         new = self.configured('new.toml', nodes=2, names=['c', 'd'], partitions=4)
         for _ in range(2):
@@ -216,7 +216,7 @@ class Runs(OverEtcd):
         member = self.begin('b', ['sh', '-c', BEGINS])
         worker = member.worker()
         self.server.delete(f'{self.prefix}/', f'{self.prefix}0')
-        self.assertEqual(member.process.wait(PATIENCE), 4)
+        self.assertEqual(member.wait(), 4)
         self.assertIn(f'bully-member: {self.address}: the log was removed\n', member.said)
         self.assertFalse(is_running(worker))
 
@@ -240,7 +240,7 @@ class Runs(OverEtcd):
                 self.assertEqual(member.end(), 0)
         for file in (wrong, empty):
             member = self.begin('b', ['sh', '-c', BEGINS], *user, '--password-file', str(file))
-            self.assertEqual(member.process.wait(PATIENCE), 4)
+            self.assertEqual(member.wait(), 4)
             self.assertRegex(member.said, 'bully-member: 127.0.0.1:[0-9]+: .*(authentication failed|user name)')
             self.assertFalse((member.folder / 'begun').exists())
 
@@ -314,7 +314,7 @@ class Certificates(OverEtcd, WithCertificates):
         for fewer in ([], words[:2], words[2:], other):
             with self.subTest(words=fewer):
                 member = self.begin('b', ['sh', '-c', BEGINS], *fewer)
-                self.assertEqual(member.process.wait(PATIENCE), 4)
+                self.assertEqual(member.wait(), 4)
                 self.assertRegex(member.said, 'bully-member: 127.0.0.1:[0-9]+: TLS: ')
 
 
@@ -365,7 +365,7 @@ class Groups(OverEtcd):
         self.judge(1)
         self.assertEqual(self.of_log('prune', '--keep', '1')[:2], (0, 'epoch 2 is there\n'))
         leaver = members.pop('b')
-        self.assertEqual(leaver.process.wait(PATIENCE), 0)
+        self.assertEqual(leaver.wait(), 5)
         self.assertIn('node b: its node is not in the group any more', leaver.said)
         token = self.share(token, 12, 'c')
         self.assertEqual(Token(token).epoch, 2)

@@ -3,6 +3,8 @@ import contextlib
 import http.client
 import io
 import json
+import os
+import resource
 import socket
 import struct
 import sys
@@ -15,11 +17,13 @@ from unittest import mock
 
 from bully import page, settings, view
 from bully.epochs import Opening, Token
-from bully.logs import Holder, MemoryLog, Unanswered
+from bully.logs import Found, Holder, Unanswered, seconds_of_boot
 from bully.member import Life, Promise
+from bully.orders import Orders
 from bully.running import Member
+from bully.worker import Workers
 from laws import HEADER, PATIENCE, wait_until
-from test_running import LONG, put
+from test_running import LONG, Troubled, put
 
 ROOT = Path(__file__).resolve().parents[3]
 TOP: Dict[str, Any] = {'nodes': 3, 'partitions': 6, 'events': 10, 'turns': 5, 'names': ['a', 'b', 'c']}
@@ -91,11 +95,16 @@ class Pages(unittest.TestCase):
     NAMES = ('a"\\b', '<script>alert(1)</script>', 'c')
 
     def setUp(self) -> None:
-        self.log = MemoryLog(Opening.first(HEADER, self.NAMES))
-        self.member = Member(self.log, 2, lambda assignment: None, lambda assignment: None, ttl=2.0)
+        self.make(2.0)
+
+    def make(self, ttl: float) -> None:
+        """A member, and its page."""
+        self.log = Troubled(Opening.first(HEADER, self.NAMES))
+        self.member = Member(self.log, 2, lambda assignment: None, lambda assignment: None, ttl)
         shown = view.LogView(self.log, self.member.behind)
         self.addCleanup(shown.close)
-        self.page = page.Page(('127.0.0.1', 0), shown, self.member)
+        self.workers = Workers(['true'], self.NAMES[1], 0.0)
+        self.page = page.Page(('127.0.0.1', 0), shown, self.member, self.workers)
         self.page.start()
         self.addCleanup(self.page.close)
 
@@ -136,6 +145,19 @@ class Pages(unittest.TestCase):
         self.assertTrue(0 < assigned['sure_seconds'] <= 1.6)
         self.assertEqual(self.get('/healthz')[::2], (200, 'present\n'))
 
+    def test_orders(self) -> None:
+        """That the group is paused, and which nodes are drained."""
+        self.begin()
+        for orders, paused, drained in ((Orders(), 0, 0), (Orders(frozenset('c'), {}), 1, 1)):
+            self.assertTrue(self.log.order(orders, None))
+            wait_until(lambda: json.loads(self.get('/group')[2])['paused'] == bool(paused))
+            self.assertEqual([node['drained'] for node in json.loads(self.get('/group')[2])['nodes']], [False, False, bool(drained)])
+            text, shown = self.get('/metrics')[2], self.get('/')[2]
+            self.assertEqual((f'\nbully_paused {paused}\n' in text, f'\nbully_drained{{node="c"}} {drained}\n' in text), (True, True))
+            is_told = '; paused: who works goes on' in shown, '<td>no, drained<td>' in shown
+            self.assertEqual(is_told, (bool(paused), bool(drained)))
+        self.assertEqual(self.get('/healthz')[2], 'present\n')
+
     def test_long_poll(self) -> None:
         answers: List[int] = []
         thread = threading.Thread(target=lambda: answers.append(json.loads(self.get('/group?after=0')[2])['events']))
@@ -164,11 +186,103 @@ class Pages(unittest.TestCase):
         self.assertEqual(answers, [(2, 0)])
         self.assertEqual(json.loads(self.get('/group?after=2&epoch=1')[2])['epoch'], 2)
 
+    def client(self) -> socket.socket:
+        """A connection that hasn't asked."""
+        return socket.create_connection(('127.0.0.1', self.page.port), PATIENCE)
+
+    def test_a_silent_connection(self) -> None:
+        """It is closed by itself, also one that has asked in part."""
+        with mock.patch.object(page.PageHandler, 'timeout', 0.2), self.client() as silent, self.client() as slow:
+            slow.sendall(b'GET /healthz HTTP/1.1\r\nHost')
+            self.assertEqual((silent.recv(1), slow.recv(1)), (b'', b''))
+        self.assertEqual(page.PageHandler.timeout, page.ASK_SECONDS)
+
+    def test_silent_connections(self) -> None:
+        """A thousand of them are no more than a hundred at one time, and whoever asks is answered."""
+        limits, threads = resource.getrlimit(resource.RLIMIT_NOFILE), threading.active_count()
+        resource.setrlimit(resource.RLIMIT_NOFILE, (limits[1], limits[1]))
+        self.addCleanup(resource.setrlimit, resource.RLIMIT_NOFILE, limits)
+        with contextlib.ExitStack() as opened:
+            opened.enter_context(mock.patch.object(page.PageHandler, 'timeout', 10 * PATIENCE))
+            clients = [opened.enter_context(self.client()) for _ in range(1000)]
+            self.assertEqual(self.get('/healthz')[::2], (503, 'not present\n'))
+            self.assertEqual([client.recv(1) for client in clients[:900]], [b''] * 900)
+            wait_until(lambda: threading.active_count() <= threads + page.CONNECTIONS_MAX)
+            self.assertEqual(self.get('/group')[0], 200)
+        wait_until(lambda: threading.active_count() == threads)
+
+    def test_slow_readers(self) -> None:
+        """Whoever asks, and doesn't take the answer, counts up to the end of its time: of more of them all are closed."""
+        big = 200, 'text/plain', 'x' * 20_000_000
+        threads = threading.active_count()
+        with contextlib.ExitStack() as opened:
+            with mock.patch.object(self.page, 'answer', lambda *asked: big), mock.patch.object(page.PageHandler, 'timeout', PATIENCE):
+                taken = [self.taken(opened.enter_context(self.client())) for _ in range(page.CONNECTIONS_MAX + 20)]
+                self.assertEqual([bool(part) for part in taken], [True] * page.CONNECTIONS_MAX + [False] * 20)
+                self.assertEqual(threading.active_count(), threads + page.CONNECTIONS_MAX)
+        wait_until(lambda: threading.active_count() == threads)
+        self.assertEqual(self.get('/healthz')[0], 503)
+
+    def taken(self, client: socket.socket) -> bytes:
+        """It asks. The begin of the answer; nothing, if it is closed."""
+        with contextlib.suppress(ConnectionError):
+            client.sendall(b'GET / HTTP/1.1\r\nHost: localhost\r\n\r\n')
+            return client.recv(100)
+        return b''
+
+    def test_many_polls(self) -> None:
+        """There is a bound of them, and all others are answered. They look no more often than one does."""
+        looked: List[int] = []
+
+        def look(epoch: int, place: int) -> Found:
+            looked.append(place)
+            return Troubled.look(self.log, epoch, place)
+
+        setattr(self.log, 'look', look)
+        statuses: List[int] = []
+        threads = [threading.Thread(target=lambda: statuses.append(self.get('/group?after=0')[0])) for _ in range(page.POLLS_MAX)]
+        for thread in threads:
+            thread.start()
+        wait_until(lambda: self.page._polls._value == 0)
+        self.assertEqual(self.get('/group?after=0')[0], 503)
+        begun, before = seconds_of_boot(), len(looked)
+        wait_until(lambda: len(looked) > before + 5)
+        self.assertLessEqual(len(looked) - before, (seconds_of_boot() - begun) / page.LOOK_SECONDS + 1)
+        self.assertEqual((self.get('/healthz')[2], self.get('/metrics')[0], statuses), ('not present\n', 200, []))
+        put(self.log, 'recover,1')
+        for thread in threads:
+            thread.join()
+        self.assertEqual(statuses, [200] * page.POLLS_MAX)
+
+    def test_a_silent_store(self) -> None:
+        """Health, and what is measured of the member, are told all the same."""
+        self.make(1000.0)
+        self.begin()
+        wait_until(lambda: f'bully_node_present{{node={page.label(self.NAMES[1])}}} 1' in self.get('/metrics')[2])
+        self.log.is_silent = True
+        self.addCleanup(setattr, self.log, 'is_silent', False)
+        wait_until(lambda: self.get('/group')[0] == 503)
+        self.assertEqual(self.get('/healthz')[::2], (200, 'present\n'))
+        told = dict(line.rsplit(' ', 1) for line in self.get('/metrics')[2].splitlines() if not line.startswith('#'))
+        self.assertGreater(float(told[f'bully_sure_seconds{{node={page.label(self.NAMES[1])}}}']), 700.0)
+
+    def test_a_worker_that_does_not_end(self) -> None:
+        self.begin()
+        self.workers.begin(self.member)
+        self.addCleanup(self.workers.close)
+        self.assertEqual(self.get('/healthz')[0], 200)
+        self.workers._left, self.workers._stop_begun = [os.getpid()], seconds_of_boot() - 10.0
+        self.assertEqual(self.get('/healthz')[::2], (503, 'its worker does not end\n'))
+        self.assertRegex(self.get('/')[2], 'nodes present; its worker has not stopped for 1[0-9][.][0-9] s<')
+        told = dict(line.rsplit(' ', 1) for line in self.get('/metrics')[2].splitlines() if not line.startswith('#'))
+        self.assertGreaterEqual(float(told[f'bully_stopping_seconds{{node={page.label(self.NAMES[1])}}}']), 10.0)
+        self.workers._left, self.workers._stop_begun = [], None
+
     def test_an_epoch_that_is_not_told(self) -> None:
         """Where the log doesn't answer with what the next epoch began with, the page goes on once it does."""
         life, here = Life(1, 1), Promise(1, 0)
         self.assertTrue(self.log.take('stranger', life, here, LONG) and self.log.finish(1, 0, self.log.opening().next(None, ())))
-        with mock.patch.object(self.log, 'opening', side_effect=Unanswered('silent')) as asked:
+        with mock.patch.object(page, 'LOOK_SECONDS', 0.0), mock.patch.object(self.log, 'opening', side_effect=Unanswered('silent')) as asked:
             for _ in range(2):
                 self.assertEqual((self.get('/group')[0], self.get('/group')[2]), (503, 'silent\n'))
         self.assertEqual(asked.call_count, 4)

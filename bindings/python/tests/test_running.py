@@ -1,12 +1,13 @@
 """Tests of members in threads, in memory and over a file. `try` runs them."""
 import contextlib
+import random
 import socket
 import tempfile
 import threading
 import time
 import unittest
 from pathlib import Path
-from typing import Any, Callable, Dict, List, Sequence, Tuple, cast
+from typing import Any, Callable, Dict, List, Optional, Sequence, Tuple, cast
 from unittest import mock
 
 from bully import NotLearned, Setup, check, resizing, running, settings, view
@@ -48,6 +49,23 @@ class Troubled(MemoryLog):
         return super().look(epoch, place)
 
 
+class Slow(MemoryLog):
+    """A log that is slow to answer that a presence was taken or renewed. When the last such request began is kept."""
+
+    begun = 0.0
+
+    def take(self, name: str, life: Life, promise: Promise, ttl: int) -> bool:
+        return self.slowly(super().take(name, life, promise, ttl))
+
+    def renew(self, name: str, life: Life, ttl: int) -> bool:
+        return self.slowly(super().renew(name, life, ttl))
+
+    def slowly(self, done: bool) -> bool:
+        self.begun = seconds_of_boot()
+        time.sleep(0.1)
+        return done
+
+
 class Noting(MemoryLog):
     """A log that notes at which places it was asked to append."""
 
@@ -60,14 +78,14 @@ class Noting(MemoryLog):
         return super().append(epoch, place, rows)
 
 
-class Running(unittest.TestCase):
-    """Members in threads over one log in memory."""
+class Threads(unittest.TestCase):
+    """Tests with members in threads over one log in memory."""
 
     def begin(self, log: MemoryLog, node: int, ttl: float = 2.0, **more: Any) -> Tuple[Member, List[str], threading.Thread]:
         told: List[str] = []
         start = more.pop('start', lambda assignment: told.append(f'start {assignment.token}'))
         stop = more.pop('stop', lambda assignment: told.append(f'stop {assignment.token}'))
-        member = Member(log, node, start, stop, ttl=ttl, settings=OPENING.settings, **more)
+        member = Member(log, node, start, stop, ttl=ttl, settings=log.opening().settings, **more)
         thread = threading.Thread(target=self.run_member, args=[member])
         thread.start()
         self.addCleanup(thread.join)
@@ -83,6 +101,10 @@ class Running(unittest.TestCase):
     def token_of(self, log: MemoryLog) -> Token:
         """That of the first plan."""
         return Token.of(1, 1 + next(place for place, row in enumerate(log.rows) if row.startswith('plan')))
+
+
+class Running(Threads):
+    """Members in threads."""
 
     def test_three(self) -> None:
         log = MemoryLog(OPENING)
@@ -117,6 +139,17 @@ class Running(unittest.TestCase):
         assert assigned is not None
         self.assertTrue(seconds_of_boot() < assigned.until <= seconds_of_boot() + 1.6)
 
+    def test_until_by_slow_answers(self) -> None:
+        """It is sure from when a renewal was asked for, and not from its answer."""
+        log, sure = Slow(OPENING), []  # type: Tuple[Slow, List[Tuple[float, float]]]
+        member, _, _ = self.begin(log, 1, sure=lambda until: sure.append((until, log.begun)))
+        wait_until(lambda: len(sure) > 3 and member.assignment())
+        assigned = member.assignment()
+        assert assigned is not None
+        self.assertLessEqual(max(assigned.until, member.sure_until), log.begun + 1.6)
+        for until, begun in sure:
+            self.assertLessEqual(until, begun + 1.6)
+
     def test_alone_leaves(self) -> None:
         """The last one appends its own crash."""
         log = MemoryLog(OPENING)
@@ -126,6 +159,22 @@ class Running(unittest.TestCase):
         thread.join()
         self.assertEqual((log.rows[-1], log.presences), ('crash,1', {}))
         self.assertEqual(told, [f'start {self.token_of(log)}', f'stop {self.token_of(log)}'])
+
+    def test_a_second_process_is_told(self) -> None:
+        """Who comes for a node that has a process says so, once, and waits."""
+        log = MemoryLog(OPENING)
+        first, _, thread = self.begin(log, 1)
+        wait_until(first.assignment)
+        life = log.presences['1'].life
+        with self.assertLogs('bully', 'WARNING') as said:
+            second, told, _ = self.begin(log, 1)
+            wait_until(lambda: said.output)
+            self.begin(log, 3)  # it looks again at each change
+            wait_until(lambda: '3' in log.presences and first.assignment() and second.core.place == len(log.rows))
+            self.assertEqual((len(said.output), told, second.assignment()), (1, [], None))
+            self.assertIn(f'node 1: another process is present for it, as {life.process}.{life.number}, and this one waits', said.output[0])
+        first.leave()
+        wait_until(second.assignment)
 
     def test_lost_work(self) -> None:
         """Work that has ended outside is stopped, and begun again. What ended of an earlier Begin isn't it."""
@@ -170,6 +219,7 @@ class Running(unittest.TestCase):
         begun = seconds_of_boot()
         wait_until(lambda: seconds_of_boot() > begun + 2.0)
         self.assertEqual((log.rows, log.presences['1'].life), (rows, life))
+        self.assertTrue(member.sure_until > seconds_of_boot() and member.assignment() is None, 'it is present, and may not work')
         shown = view.LogView(log)
         self.addCleanup(shown.close)
         self.assertEqual(list(shown.show().behind), ['1'])
@@ -386,6 +436,55 @@ class InFolder(WithFolder):
     def closing(self, log: SqliteLog) -> SqliteLog:
         self.addCleanup(log.close)
         return log
+
+
+class Seldom(MemoryLog):
+    """A log that doesn't answer so many of what it is asked first, and then each second one by chance."""
+
+    def __init__(self, opening: Opening, silent: int) -> None:
+        super().__init__(opening)
+        self.choice, self.silent = random.Random(1), silent
+
+    def answer(self) -> None:
+        self.silent -= 1
+        if self.silent >= 0 or self.choice.random() < 0.5:
+            raise Unanswered('silent')
+
+    def opening(self, epoch: Optional[int] = None) -> Opening:
+        self.answer()
+        return super().opening(epoch)
+
+    def ask(self, wish: Opening, epoch: int) -> bool:
+        self.answer()
+        return super().ask(wish, epoch)
+
+    def look(self, epoch: int, place: int) -> Found:
+        self.answer()
+        return super().look(epoch, place)
+
+    def take(self, name: str, life: Life, promise: Promise, ttl: int) -> bool:
+        self.answer()
+        return super().take(name, life, promise, ttl)
+
+
+class ResizesUnanswered(unittest.TestCase):
+    """A resize of a log that seldom answers."""
+
+    wanted = settings.Settings(Setup(2, 4), ('x', 'y'))
+
+    def test_goes_on(self) -> None:
+        """It goes on up to the end of its time."""
+        log = Seldom(OPENING, 3)
+        with mock.patch.object(resizing, 'AGAIN', 0.001):
+            opening = resizing.resize(log, self.wanted, PATIENCE)
+        self.assertEqual((opening.epoch, opening.names, log.epoch), (2, ('x', 'y'), 2))
+        self.assertLess(log.silent, 0)
+
+    def test_never_answered(self) -> None:
+        log, begun = Seldom(OPENING, 1_000_000), seconds_of_boot()
+        with self.assertRaises(Unanswered):
+            resizing.resize(log, self.wanted, 0.3)
+        self.assertGreaterEqual(seconds_of_boot(), begun + 0.3)
 
 
 class Resizes(InFolder):

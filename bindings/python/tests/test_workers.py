@@ -1,6 +1,9 @@
 """Tests of workers and of the guard above them. `try` runs them."""
+import ctypes
 import json
 import os
+import select
+import shutil
 import signal
 import socket
 import subprocess
@@ -10,20 +13,21 @@ import threading
 import unittest
 from pathlib import Path
 from types import SimpleNamespace
-from typing import Dict, List, Set, cast
+from typing import Any, Dict, List, Set, cast
+from unittest import mock
 
-from bully import Setup, logs
+from bully import Setup, guard, logs
 from bully.epochs import Opening, Token
 from bully.running import Assignment, Member
 from bully.settings import Settings
-from bully.worker import GUARD, GuardLost, WorkerEnded, Workers
+from bully.worker import GUARD, GuardLost, WorkerEnded, Workers, WorkerStuck
 from laws import PATIENCE, wait_until
 from test_stores import environment
 
 ROOT = Path(__file__).resolve().parents[3]
 OPENING = Opening.first('bully,1,3,6', ('a', 'b', 'c'))
 
-# A worker that is `stubborn`, or ends at once and is `short`; with something that it started.
+# A worker that is `stubborn`, or is `done` at once; with something that it started.
 WORKER = """
 import os, signal, subprocess, sys, time
 folder, way = sys.argv[1:]
@@ -33,8 +37,8 @@ child = subprocess.Popen(['sleep', '1000'], start_new_session=True)
 with open(f'{folder}/new', 'w') as file:
     file.write(f'{os.getpid()} {child.pid} {os.environ["BULLY_TOKEN"]} {os.environ["BULLY_PARTITIONS"]}')
 os.rename(f'{folder}/new', f'{folder}/begun')
-if way == 'short':
-    sys.exit(7)
+if way == 'done':
+    sys.exit(0)
 time.sleep(1000)
 """
 # One that stays, and writes what it is told. It is `silent`, or answers too often, or ends in place of an answer, or at its second begin.
@@ -67,6 +71,93 @@ while True:
     os.write(3, bytes(65_536))
 """
 
+# A member of an ordinary user, which is to leave, and whose worker is another one's. It tells what becomes of it.
+OTHER_USER = '''
+import logging, sys, threading, time
+from types import SimpleNamespace
+rooted, kills = sys.argv[1:]
+from bully import logs, worker
+from bully.running import Assignment
+logging.basicConfig(stream=sys.stdout, format='%(message)s')
+worker._told.error = lambda _, processes: print('these processes may work on:', processes, flush=True)
+failures, lost = [], []
+workers = worker.Workers([rooted, '--reuid', '0', '--regid', '0', '--clear-groups', 'sh', '-c', 'echo $$; exec sleep 1000'], 'x', 0.1)
+workers.begin(SimpleNamespace(ttl=2.0, margin=0.4, end_with=failures.append, lose=lost.append, is_leaving=True))
+workers.hear_until(logs.seconds_of_boot() + 1000.0)
+settings = SimpleNamespace(text=lambda *_: '{}', name=str)
+workers.start(Assignment(1, 1, (0,), settings))
+input()
+workers._guard.kill() if kills else workers.hear_until(logs.seconds_of_boot())
+stopping = threading.Thread(target=workers.stop, args=[None])
+stopping.start()
+while not workers.is_stuck:
+    time.sleep(0.01)
+print('stuck', flush=True)
+stopping.join()
+print('stopped', flush=True)
+print(*[type(failure).__name__ for failure in failures] or ['lost'], flush=True)
+workers.close()
+'''
+# A guard in a world of which one clock is far ahead of the others.
+CLOCKS = '''
+import sys, time
+from pathlib import Path
+from bully.epochs import Opening
+from bully.member import Life, Promise
+from bully.sqlite import SqliteLog
+from types import SimpleNamespace
+from bully import logs, worker
+lost = []
+workers = worker.Workers(['sleep', '1000'], 'x', 1000.0)
+workers.begin(SimpleNamespace(ttl=2.0, margin=0.4, end_with=print, lose=lost.append))
+workers.hear_until(logs.seconds_of_boot() + 1000.0)
+settings = SimpleNamespace(text=lambda *_: '{}', name=str)
+workers.start(worker.Assignment(1, 1, (0,), settings))
+while not Path(f'/proc/{workers._guard.pid}/task/{workers._guard.pid}/children').read_text():
+    time.sleep(0.01)
+print('not yet')
+workers.hear_until(logs.seconds_of_boot() + 0.5)
+while not lost:
+    time.sleep(0.01)
+print('lost')
+workers.close()
+log = SqliteLog.create(sys.argv[1], Opening.first('bully,1,3,6'))
+log.take('a', Life(1, 1), Promise(1, 0), 5 * logs.SECOND)
+print(log._one('select until from presence') > 1_000_000 * logs.SECOND)
+'''
+
+# It begins a write to a file once it is told to.
+WRITER = '''
+import sqlite3, sys
+file = sqlite3.connect(sys.argv[1], isolation_level=None)
+file.executescript('pragma journal_mode = wal; create table log (row text)')
+print('idle', flush=True)
+input()
+file.execute('begin immediate')
+print('writes', flush=True)
+input()
+'''
+
+
+PTRACE_SEIZE, WAIT_ALL = 0x4206, 0x40000000
+frozen: Set[int] = set()
+
+
+def freeze(test: unittest.TestCase, process: int) -> None:
+    """The process can't be ended from now on, up to `thaw` from the same thread: who is killed stays there until its tracer has waited for it."""
+    traced = ctypes.CDLL(None, use_errno=True).ptrace(PTRACE_SEIZE, process, None, None)
+    test.assertEqual(traced, 0, os.strerror(ctypes.get_errno()))
+    frozen.add(process)
+    test.addCleanup(thaw, process)
+
+
+def thaw(process: int) -> None:
+    """It ends, if it hasn't been thawed before."""
+    if process in frozen:
+        frozen.remove(process)
+        os.kill(process, signal.SIGKILL)
+        os.waitpid(process, WAIT_ALL)
+
 
 def is_running(process: int) -> bool:
     """Whether the process is there, and not only its status."""
@@ -95,6 +186,27 @@ def assigned(events: int, *partitions: int) -> Assignment:
     return Assignment(Token.of(4, events), 3, partitions, OPENING.settings)
 
 
+class Timely(Workers):
+    """Workers whose `stop` fails, and doesn't hang, if it doesn't return."""
+
+    def stop(self, assignment: Assignment) -> None:
+        raised: List[BaseException] = []
+
+        def stop() -> None:
+            try:
+                Workers.stop(self, assignment)
+            except BaseException as fault:
+                raised.append(fault)
+
+        thread = threading.Thread(target=stop, daemon=True)
+        thread.start()
+        thread.join(PATIENCE)
+        if thread.is_alive():
+            raise AssertionError('it does not return')
+        for fault in raised:
+            raise fault
+
+
 class Below(unittest.TestCase):
     """Tests of workers below a guard."""
 
@@ -106,10 +218,12 @@ class Below(unittest.TestCase):
         self.folder = Path(folder.name)
         self.failures: List[BaseException] = []
         self.lost: List[Assignment] = []
+        self.member = SimpleNamespace(end_with=self.failures.append, lose=self.lost.append, is_leaving=False)
 
-    def made(self, words: List[str], patience: float = PATIENCE, seconds: float = 1000.0) -> Workers:
-        workers = Workers(words, 'x', patience, self.talks)
-        workers.begin(cast(Member, SimpleNamespace(ttl=2.0, margin=0.4, end_with=self.failures.append, lose=self.lost.append)))
+    def made(self, words: List[str], patience: float = PATIENCE, seconds: float = 1000.0, ttl: float = 4.0) -> Workers:
+        workers = Timely(words, 'x', patience, self.talks)
+        self.member.ttl, self.member.margin = ttl, ttl / 5
+        workers.begin(cast(Member, self.member))
         self.addCleanup(workers.close)
         workers.hear_until(logs.seconds_of_boot() + seconds)
         return workers
@@ -170,6 +284,19 @@ class Guards(Below):
         workers.stop(assigned(0))
         self.assertEqual((self.failures, self.lost), ([], [self.assignment]))
 
+    def test_another_group(self) -> None:
+        """A worker that has left its process group is told to end all the same, and its guard stays."""
+        words = 'import os, signal, sys, time; signal.signal(signal.SIGTERM, lambda *_: sys.exit(open(sys.argv[1] + "/told", "w").close()))'
+        leaves = 'os.setpgid(0, os.getpgid(os.getppid())); open(sys.argv[1] + "/begun", "w").close(); time.sleep(1000)'
+        workers = self.made([sys.executable, '-c', f'{words}; {leaves}', str(self.folder)])
+        for _ in range(2):
+            workers.start(self.assignment)
+            wait_until((self.folder / 'begun').exists)
+            workers.stop(assigned(0))
+            for name in ('told', 'begun'):
+                (self.folder / name).unlink()
+        self.assertEqual((self.failures, self.lost), ([], []))
+
     def test_too_late(self) -> None:
         """None begins whose time is over."""
         workers = self.made(['touch', str(self.folder / 'begun')], seconds=-1.0)
@@ -180,7 +307,8 @@ class Guards(Below):
 
     def test_unread(self) -> None:
         """What a guard says at its end is heard, also if it didn't read all that it was told."""
-        workers = Workers.__new__(Workers)
+        workers = Workers([], 'x', 1.0)
+        workers._member = cast(Member, SimpleNamespace(ttl=4.0))
         workers._channel, guard = socket.socketpair(socket.AF_UNIX, socket.SOCK_SEQPACKET)
         with workers._channel:
             workers.hear_until(1.0)
@@ -189,22 +317,178 @@ class Guards(Below):
             self.assertEqual((workers._hear(), workers._hear()), (b'stopped', b''))
 
     def test_ends_by_itself(self) -> None:
-        workers = self.begin('short')
+        """Once it is done, or if it fails behind a ttl, its member ends."""
+        done = self.begin('done')
         wait_until(lambda: self.failures)
         self.assertTrue(self.are_gone())
-        self.assertIsInstance(self.failures[0], WorkerEnded)
-        self.assertEqual(getattr(self.failures[0], 'status'), 7)
-        workers.stop(assigned(0))
+        late = self.made(['sh', '-c', 'sleep 0.2; exit 7'], ttl=0.1)
+        late.start(self.assignment)
+        wait_until(lambda: len(self.failures) == 2)
+        for workers, failure, status in zip((done, late), self.failures, (0, 7)):
+            self.assertIsInstance(failure, WorkerEnded)
+            self.assertEqual(getattr(failure, 'status'), status)
+            workers.stop(assigned(0))
+        self.assertEqual(self.lost, [])
+
+    def test_fails_at_once(self) -> None:
+        """It is begun again, each time twice as late, and its member doesn't end. A change of what it owns is no reason to begin it sooner."""
+        begins = self.folder / 'begins'
+        workers = self.made(['sh', '-c', f'echo $BULLY_TOKEN >> {begins}; exit 7'], ttl=2.0)
+        workers.start(assigned(2, 0))
+        with self.assertLogs('bully', 'WARNING') as said:
+            for count, rest in enumerate((0.4, 0.8, 1.6), 1):
+                wait_until(lambda: len(said.output) == count)
+                failed = logs.seconds_of_boot()
+                self.assertIn(f'failed, with status 7, and is begun again in {rest:.1f} s', said.output[-1])
+                workers.stop(assigned(0))
+                workers.start(assigned(count + 2, 0))
+                wait_until(lambda: assigned(count + 2, 0) in self.lost)
+                self.assertGreater(logs.seconds_of_boot() - failed, rest - 0.1)
+                self.assertEqual((len(begins.read_text().split()), workers.rest_seconds), (count, 0.0))
+                workers.stop(assigned(0))
+                workers.start(assigned(count + 2, 0))
+            wait_until(lambda: len(said.output) == 4)
+        self.assertEqual(begins.read_text().split(), ['40000002', '40000003', '40000004', '40000005'])
+        self.assertEqual(self.failures, [])
+
+    def test_stuck(self) -> None:
+        """A worker that doesn't end though it was killed is told of, and isn't waited for by a member that is to leave. Its guard is there until
+        it has ended."""
+        workers = self.made([sys.executable, '-c', WORKER, str(self.folder), 'stubborn'], 0.1, ttl=1.0)
+        self.begin_again(workers)
+        freeze(self, self.worker)
+        raised: List[WorkerStuck] = []
+
+        def stop() -> None:
+            try:
+                workers.stop(self.assignment)
+            except WorkerStuck as stuck:
+                raised.append(stuck)
+
+        self.assertEqual((workers.stopping_seconds, workers.is_stuck, workers.told), (0.0, False, ''))
+        thread = threading.Thread(target=stop, daemon=True)
+        with self.assertLogs('bully', 'ERROR') as said:
+            thread.start()
+            wait_until(lambda: said.output)
+        self.assertTrue(said.output[0].endswith(f'nothing is begun here: [{self.worker}]'), said.output)
+        wait_until(lambda: workers.is_stuck)
+        self.assertTrue(thread.is_alive())
+        self.assertRegex(workers.told, '^; its worker has not stopped for [0-9.]+ s$')
+        self.member.is_leaving = True
+        thread.join(PATIENCE)
+        self.assertEqual((len(raised), self.failures), (1, []))
+        closing = threading.Thread(target=workers.close, daemon=True)
+        closing.start()
+        closing.join(PATIENCE)
+        self.assertFalse(closing.is_alive())
+        self.assertIsNone(workers._guard.poll())
+        thaw(self.worker)
+        self.assertEqual(workers._guard.wait(PATIENCE), 0)
+        wait_until(self.are_gone)
 
     def test_guard_dies(self) -> None:
-        """The worker dies with it. What that one started may not, so it isn't told that all has stopped."""
+        """The worker dies with it, and the member kills what that one started."""
         workers = self.begin('stubborn')
+        os.kill(self.worker, signal.SIGSTOP)
         workers._guard.kill()
-        wait_until(lambda: not is_running(self.worker))
-        with self.assertRaises(GuardLost):
-            workers.stop(assigned(0))
+        workers.stop(assigned(0))
+        self.assertTrue(self.are_gone())
+        self.assertEqual([type(failure) for failure in self.failures], [GuardLost])
+
+    def test_guard_is_told_to_end(self) -> None:
+        """A signal that all processes get is for the member."""
+        workers = self.begin('mild')
+        for number in (signal.SIGTERM, signal.SIGINT, signal.SIGHUP):
+            os.kill(workers._guard.pid, number)
+        workers.stop(assigned(0))
+        self.assertTrue(self.are_gone())
+        self.assertEqual((self.failures, self.lost, workers._guard.poll()), ([], [], None))
+
+    def test_stopped_guard(self) -> None:
+        """One that doesn't kill the worker at its moment, or doesn't tell that it has stopped, is killed with all that it began. So is one that
+        doesn't begin it."""
+        for stops in (False, True):
+            with self.subTest(stops=stops):
+                workers = self.begin('stubborn', patience=0.1)
+                os.kill(workers._guard.pid, signal.SIGSTOP)
+                if stops:
+                    workers.stop(assigned(0))
+                else:
+                    workers.hear_until(logs.seconds_of_boot())
+                    wait_until(self.are_gone)
+                    workers.stop(assigned(0))
+                self.assertTrue(self.are_gone())
+                self.assertEqual([type(failure) for failure in self.failures], [GuardLost])
+                self.failures.clear()
+                (self.folder / 'begun').unlink()
+        workers = self.made(['sleep', '1000'], ttl=1.0)
+        os.kill(workers._guard.pid, signal.SIGSTOP)
+        workers.start(self.assignment)
+        wait_until(lambda: self.failures)
+        workers.stop(assigned(0))
         self.assertIsInstance(self.failures[0], GuardLost)
-        os.kill(self.child, signal.SIGKILL)
+
+    def test_stopped_guard_at_an_end(self) -> None:
+        """A member that ends doesn't wait for a guard that is stopped."""
+        workers = self.begin('stubborn', patience=0.1)
+        os.kill(workers._guard.pid, signal.SIGSTOP)
+        workers.close()
+        self.assertTrue(self.are_gone())
+
+    def test_until_behind_a_stop(self) -> None:
+        """A worker that was told to stop, and has much time for that, is killed at the moment until which its work is sure."""
+        workers = self.begin('stubborn', patience=3600.0)
+        workers.hear_until(logs.seconds_of_boot() + 0.3)
+        thread = threading.Thread(target=workers.stop, args=[self.assignment], daemon=True)
+        thread.start()
+        wait_until(self.are_gone)
+        wait_until(lambda: not thread.is_alive())
+        self.assertEqual((self.failures, self.lost), ([], []))
+
+    def test_another_user(self) -> None:
+        """What can't be killed is told, and nothing is stopped, or begun again, until it is gone, also if its member is to leave."""
+        if os.getuid() != 0:
+            self.skipTest('only root can be somebody else')
+        rooted = self.folder / 'rooted'
+        shutil.copy(str(shutil.which('setpriv')), rooted)
+        rooted.chmod(0o4755)
+        self.folder.chmod(0o755)
+        for kills in (False, True):
+            with self.subTest(kills_guard=kills):
+                self.outlives(rooted, kills)
+
+    def outlives(self, rooted: Path, kills: bool) -> None:
+        """A worker by sudo, or the like, outlives its moment, and its guard, if that is killed."""
+        pipes: Dict[str, Any] = {name: subprocess.PIPE for name in ('stdin', 'stdout')}
+        reads = ['--inh-caps', '+dac_override', '--ambient-caps', '+dac_override']  # whatever Python's folder is
+        user = ['setpriv', '--reuid', '65534', '--regid', '65534', '--clear-groups', *reads]
+        words = [*user, sys.executable, '-c', OTHER_USER, str(rooted), 'kills' if kills else '']
+        environment = {**os.environ, 'PYTHONPATH': str(ROOT / 'bindings' / 'python')}
+        with subprocess.Popen(words, env=environment, universal_newlines=True, **pipes) as member:
+            assert member.stdout is not None and member.stdin is not None
+            worker = int(member.stdout.readline())
+            for process in (worker, member.pid):  # so that what isn't said is missed
+                late = threading.Timer(PATIENCE, os.kill, [process, signal.SIGKILL])
+                late.start()
+                self.addCleanup(late.cancel)
+            print('go on', file=member.stdin, flush=True)
+            self.assertEqual(member.stdout.readline(), f'these processes may work on: [{worker}]\n')
+            self.assertEqual(member.stdout.readline(), 'stuck\n')
+            self.assertTrue(is_running(worker))
+            self.assertEqual(select.select([member.stdout], [], [], 0.3)[0], [], 'nothing has stopped')
+            os.kill(worker, signal.SIGKILL)
+            self.assertEqual(member.stdout.readline(), 'stopped\n')
+            self.assertEqual(member.stdout.readline(), 'lost\n' if not kills else 'GuardLost\n')
+            member.stdin.close()
+
+    def test_clocks(self) -> None:
+        """The moment counts by the clock that goes on in a sleep of the machine, and which another one is far from here."""
+        if os.getuid() != 0:
+            self.skipTest('only root can have clocks of its own')
+        words = ['unshare', '--time', '--boottime', '1000000', '--fork', '--kill-child', sys.executable, '-c', CLOCKS, str(self.folder / 'group.db')]
+        environment = {**os.environ, 'PYTHONPATH': str(ROOT / 'bindings' / 'python')}
+        ran = subprocess.run(words, env=environment, stdout=subprocess.PIPE, universal_newlines=True, check=True, timeout=PATIENCE)
+        self.assertEqual(ran.stdout, 'not yet\nlost\nTrue\n')
 
     def test_member_is_gone(self) -> None:
         """Its worker has as long to end as if it had been told to stop, and its guard ends."""
@@ -215,9 +499,10 @@ class Guards(Below):
 
     def test_no_such_worker(self) -> None:
         workers = self.made(['/nowhere/worker'])
-        workers.start(self.assignment)
-        wait_until(lambda: self.failures)
-        self.assertEqual(getattr(self.failures[0], 'status'), 127)
+        with self.assertLogs('bully', 'WARNING') as said:
+            workers.start(self.assignment)
+            wait_until(lambda: self.lost)
+        self.assertIn('with status 127', said.output[0])
 
     def test_signals(self) -> None:
         """A worker begins as any process: no signal is ignored or held back that the guard, or Python, lets go by."""
@@ -280,6 +565,40 @@ os.kill(os.getpid(), signal.SIGSTOP)
         self.assertEqual(ended.returncode, -signal.SIGKILL, ended.stderr)
         self.assertIn(b'is killed', ended.stderr)
 
+    def test_nobody_reads(self) -> None:
+        """A guard that has something to say goes on, though nobody reads it any more."""
+        reads, writes = os.pipe()
+        os.close(reads)
+        words = ['-c', 'from bully import guard; guard.say("x"); print("goes on")']
+        ran = subprocess.run([sys.executable, *words], env=environment(), stdout=subprocess.PIPE, stderr=writes, check=True)
+        os.close(writes)
+        self.assertEqual(ran.stdout, b'goes on\n')
+
+    def test_who_is_stopped(self) -> None:
+        """Who is stopped is killed in the middle of a write alone, and only if that lasts."""
+        words = [sys.executable, '-c', WRITER, str(self.folder / 'group.db')]
+        pipes: Dict[str, Any] = {name: subprocess.PIPE for name in ('stdin', 'stdout')}
+        with subprocess.Popen(words, universal_newlines=True, **pipes) as writer:
+            assert writer.stdin is not None and writer.stdout is not None
+            with mock.patch.object(os, 'getppid', lambda: writer.pid):
+                watch = guard.Watch(f'{self.folder}/group.db-shm', 2.0)
+                self.assertLessEqual((watch.pause() or 0) * guard.MILLISECOND + watch.span, 0.4 * logs.SECOND * 2.0 + 2 * guard.MILLISECOND)
+                for said in ('idle\n', 'writes\n'):
+                    self.assertEqual(writer.stdout.readline(), said)
+                    writer.send_signal(signal.SIGSTOP)
+                    wait_until(lambda: guard.is_stopped(writer.pid))
+                    for moment in (0, watch.span - 1, watch.span - 1):
+                        with mock.patch.object(guard, 'now', lambda: moment):
+                            watch.look()
+                    self.assertTrue(guard.is_stopped(writer.pid))
+                    with mock.patch.object(guard, 'now', lambda: 2 * watch.span):
+                        watch.look()
+                    if said == 'idle\n':
+                        self.assertTrue(guard.is_stopped(writer.pid))
+                        writer.send_signal(signal.SIGCONT)
+                        print('go on', file=writer.stdin, flush=True)
+            self.assertEqual(writer.wait(PATIENCE), -signal.SIGKILL)
+
 
 class Talks(Below):
     """Workers that stay over changes."""
@@ -313,7 +632,7 @@ class Talks(Below):
         told = [json.loads(line) for _, _, line in lines]
         settings = told[0].pop('settings')
         self.assertEqual(told[0], {'begin': 40000002, 'partitions': [0, 5], 'coordinator': 'c'})
-        self.assertEqual((settings['names'], settings['ttl']), (['a', 'b', 'c'], 2.0))
+        self.assertEqual((settings['names'], settings['ttl']), (['a', 'b', 'c'], 4.0))
         self.assertEqual([each.get('begin') for each in told], [40000002, None, 40000003, None, 40000004, None, 40000005, None])
         worker = self.worker()
         workers.close()
@@ -324,9 +643,23 @@ class Talks(Below):
         """A line may be longer than a pipe holds, and is read slowly."""
         workers = self.begin('talks')
         workers.stop(assigned(0))
-        names = tuple(f'{number:0100}' for number in range(1000))
-        workers.start(Assignment(Token.of(4, 3), 3, tuple(range(4096)), Settings(Setup(1000, 4096), names)))
-        self.assertEqual(json.loads(self.heard(3)[2].partition(' ')[2])['partitions'], list(range(4096)))
+        names = tuple(f'{number:0300}' for number in range(1000))  # more than a message to the guard has room for
+        for events in (3, 4):
+            workers.start(Assignment(Token.of(4, events), 3, tuple(range(4096)), Settings(Setup(1000, 4096), names)))
+            told = json.loads(self.heard(2 * events - 3)[-1].partition(' ')[2])
+            self.assertEqual((told['begin'], told['partitions'], told['settings']['names']), (Token.of(4, events), list(range(4096)), list(names)))
+            workers.stop(assigned(0))
+        self.assertEqual((self.failures, self.lost), ([], []))
+
+    def test_no_room(self) -> None:
+        """A worker that reads nothing, and can't be told all of a line, is killed, and that is said."""
+        workers = self.made(['sleep', '1000'])
+        names = tuple(f'{number:05000}' for number in range(1000))  # more than any socket has room for
+        with self.assertLogs('bully', 'WARNING') as said:
+            workers.start(Assignment(Token.of(4, 3), 3, (0,), Settings(Setup(1000, 1), names)))
+            wait_until(lambda: self.lost)
+        self.assertIn('the worker failed, with status -9', said.output[0])
+        self.assertEqual(self.failures, [])
         workers.stop(assigned(0))
 
     def test_until(self) -> None:
@@ -440,9 +773,11 @@ class Talks(Below):
         self.assertEqual(self.failures, [])
         workers = self.begin('fails')
         workers.stop(assigned(0))
-        workers.start(assigned(3, 1))
-        wait_until(lambda: self.failures)
-        self.assertEqual(getattr(self.failures[0], 'status'), 9)
+        with self.assertLogs('bully', 'WARNING') as said:
+            workers.start(assigned(3, 1))
+            wait_until(lambda: self.lost)
+        self.assertIn('with status 9', said.output[0])
+        self.assertEqual((self.failures, self.lost), ([], [assigned(3, 1)]))
         workers.stop(assigned(0))
 
     def test_examples(self) -> None:

@@ -1,6 +1,6 @@
 //! One node of a group.
 
-use crate::calls::{unexpected, AgentHandle, OwnEvent};
+use crate::calls::{unexpected, AgentHandle};
 use crate::faults::{
     OpenError, OutOfMemory, PlanError, PrepareError, Refused, ReplyError, ServeError,
 };
@@ -44,33 +44,33 @@ impl Agent {
 
     /// The node recovers, and stands for election. Refused as `Full`, `IsUp`.
     pub fn recover(&mut self) -> Result<(), Refused> {
-        self.take(OwnEvent::Recover)
+        self.handle.recover().map_err(Refused::told)
     }
 
     /// The node crashes, or has to stop. Refused as `Full`, `IsDown`.
     pub fn crash(&mut self) -> Result<(), Refused> {
-        self.take(OwnEvent::Crash)
+        self.handle.crash().map_err(Refused::told)
     }
 
     /// The idle node begins to check. Refused as `Full`, `IsDown`, `Busy`.
     pub fn check(&mut self) -> Result<(), Refused> {
-        self.take(OwnEvent::Check)
+        self.handle.check().map_err(Refused::told)
     }
 
     /// The idle node heard nothing for too long. Refused as `Full`, `IsDown`, `Busy`.
     pub fn timeout(&mut self) -> Result<(), Refused> {
-        self.take(OwnEvent::Timeout)
+        self.handle.timeout().map_err(Refused::told)
     }
 
     /// The node starts the call that it wants to start; [`Agent::request`] then has what is to be sent. Refused as `Full`,
     /// `IsDown`, `NoStep`, `SlotBusy`.
     pub fn start(&mut self) -> Result<(), Refused> {
-        self.take(OwnEvent::Start)
+        self.handle.start().map_err(Refused::told)
     }
 
     /// The node moves on without a call. Refused as `Full`, `IsDown`, `NoStep`, `SlotBusy`.
     pub fn advance(&mut self) -> Result<(), Refused> {
-        self.take(OwnEvent::Move)
+        self.handle.advance().map_err(Refused::told)
     }
 
     /// The node has planned this table, as [`Agent::prepare`] makes one. Refused as `Full`, `IsDown`, `NoStep`, `SlotBusy`,
@@ -81,7 +81,7 @@ impl Agent {
 
     /// The node's call, an orphan, is given up. Refused as `Full`, `IsDown`, `NoCall`, `NotOrphan`.
     pub fn drop_orphan(&mut self) -> Result<(), Refused> {
-        self.take(OwnEvent::Drop)
+        self.handle.drop_orphan().map_err(Refused::told)
     }
 
     /// The table that the node should plan, with the fewest moves from this old one, if any: mostly its own task. An empty old
@@ -159,11 +159,6 @@ impl Agent {
     /// The row that says all of its vector, a whole claim.
     pub fn claim(&self) -> Result<String, OutOfMemory> {
         self.handle.claim().map_err(OutOfMemory::told)
-    }
-
-    // The event that the node takes by itself.
-    fn take(&mut self, event: OwnEvent) -> Result<(), Refused> {
-        self.handle.take(event).map_err(Refused::told)
     }
 }
 

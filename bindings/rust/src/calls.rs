@@ -25,17 +25,6 @@ const FIRST_ROOM: usize = 64;
 
 const NOT_ASCII: &str = "the bully library wrote a text that isn't ASCII";
 
-/// An event that a node takes by itself, and of which there is no more to say.
-pub(crate) enum OwnEvent {
-    Recover,
-    Crash,
-    Check,
-    Timeout,
-    Start,
-    Move,
-    Drop,
-}
-
 macro_rules! handle {
     ($(#[$about:meta])* $name:ident: $held:ident, $close:ident) => {
         $(#[$about])*
@@ -104,6 +93,15 @@ macro_rules! structs {
     };
 }
 
+macro_rules! events {
+    ($($event:ident: $call:ident;)*) => {
+        $(pub(crate) fn $event(&mut self) -> Result<(), bully_status> {
+            // SAFETY: the handle is open, and `&mut` lets no other call of it be under way.
+            ok(unsafe { raw::$call(self.0.get()) })
+        })*
+    };
+}
+
 impl AgentHandle {
     pub(crate) fn open(
         setup: &Setup,
@@ -131,20 +129,14 @@ impl AgentHandle {
         Ok(AgentHandle(UnsafeCell::new(opened)))
     }
 
-    pub(crate) fn take(&mut self, event: OwnEvent) -> Result<(), bully_status> {
-        let agent = self.0.get();
-        // SAFETY: the handle is open, and `&mut` lets no other call of it be under way.
-        ok(unsafe {
-            match event {
-                OwnEvent::Recover => raw::bully_agent_recover(agent),
-                OwnEvent::Crash => raw::bully_agent_crash(agent),
-                OwnEvent::Check => raw::bully_agent_check(agent),
-                OwnEvent::Timeout => raw::bully_agent_timeout(agent),
-                OwnEvent::Start => raw::bully_agent_start(agent),
-                OwnEvent::Move => raw::bully_agent_advance(agent),
-                OwnEvent::Drop => raw::bully_agent_drop_orphan(agent),
-            }
-        })
+    events! {
+        recover: bully_agent_recover;
+        crash: bully_agent_crash;
+        check: bully_agent_check;
+        timeout: bully_agent_timeout;
+        start: bully_agent_start;
+        advance: bully_agent_advance;
+        drop_orphan: bully_agent_drop_orphan;
     }
 
     texts! {
@@ -184,7 +176,7 @@ impl AgentHandle {
     }
 
     pub(crate) fn serve(&mut self, line: &str) -> Result<String, bully_status> {
-        let mut reply = vec![0_u8; raw::BULLY_REPLY_MAX];
+        let mut reply = vec![0_u8; raw::BULLY_REPLY_MAX as usize];
         let mut length = 0;
         // SAFETY: the handle is open, and `&mut` lets no other call of it be under way. The line is read alone, and the reply is a
         // vector of this call's own.

@@ -4,13 +4,13 @@ use crate::calls;
 use crate::faults::HeaderError;
 
 /// The most nodes that a setup may have.
-pub const NODES_MAX: u16 = crate::raw::BULLY_NODES_MAX;
+pub const NODES_MAX: u16 = crate::raw::BULLY_NODES_MAX as u16;
 /// The most partitions that a setup may have.
-pub const PARTITIONS_MAX: u16 = crate::raw::BULLY_PARTITIONS_MAX;
+pub const PARTITIONS_MAX: u16 = crate::raw::BULLY_PARTITIONS_MAX as u16;
 /// The highest weight of a node.
-pub const WEIGHT_MAX: u16 = crate::raw::BULLY_WEIGHT_MAX;
+pub const WEIGHT_MAX: u16 = crate::raw::BULLY_WEIGHT_MAX as u16;
 /// The most events that a setup may bound.
-pub const EVENTS_MAX: u32 = crate::raw::BULLY_EVENTS_MAX;
+pub const EVENTS_MAX: u32 = crate::raw::BULLY_EVENTS_MAX as u32;
 
 /// What a group is set up with. It is plain data: each call that takes one says what is wrong with it.
 ///

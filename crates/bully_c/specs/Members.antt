@@ -1,5 +1,5 @@
 -- What an export over a member answers.
-use Rattle.std.specs.Prelude.{◌≡◌, ◌⊎◌, ◌+◌, ◌<◌, ◌↔◌, ◌==◌, ℕ, Bool, List, [], Option, Some, None, Result, Ok, Err, IsTrue, length, map, true, false, if◌then◌else◌}
+use Rattle.std.specs.Prelude.{◌≡◌, ◌⊎◌, ◌+◌, ◌<◌, ◌≤◌, ◌↔◌, ◌==◌, ℕ, Bool, List, [], Option, Some, None, Result, Ok, Err, IsTrue, length, map, true, false, if◌then◌else◌}
 use Rattle.bully_base.specs.Setup.{IsNode, Setup}
 use Rattle.bully_base.specs.declared.TheConstants.{NODES_MAX}
 use Rattle.bully_member.specs.Due.{due, noted}
@@ -160,8 +160,10 @@ IsFollow now text told old session status after =
 
 -- ---- what it appends
 
-abbrev pub IsMemberSettlement : MemberState → List ℕ → Type 0
-IsMemberSettlement m text = text ≡ events_text (settlement m)
+-- the rows of what settles the group, for which the log has room
+pub record IsMemberSettlement (m : MemberState) (text : List ℕ) : Type 0 where
+  pub text_is : text ≡ events_text (settlement m)
+  pub room : place_of m + length (settlement m) ≤ (replica_of m).world.setup.events_max
 
 abbrev pub RefusesMemberSettlement : MemberState → ℕ → Type 0
 RefusesMemberSettlement m status =

@@ -19,8 +19,8 @@ use Rattle.bully_c.specs.Replicas.{ShowsNode}
 use Rattle.bully_c.specs.declared.status.TheConstants.{BAD_NODE, FULL, OK, OUT_OF_MEMORY}
 
 abbrev pub settle_number : SettleFault → ℕ
-settle_number SettleFault.Full = 1
-settle_number SettleFault.OutOfMemory = 23
+settle_number SettleFault.Full = FULL
+settle_number SettleFault.OutOfMemory = OUT_OF_MEMORY
 
 -- the rows of these events
 abbrev pub events_text : List Event → List ℕ

@@ -34,6 +34,7 @@ impl Member {
         ensures events { IfOk result (λ events. events.items ≡ settlement self.now) }
         ensures settles { IfOk result (λ events. (log : List EventState) → IsLogOf (replica_of self.now) log
             → Settles (replica_of self.now).world.setup log (table_before (replica_of self.now).last self.now.terms.old) (settlers self.now) events.items) }
+        ensures room { IfOk result (λ events. place_of self.now + length events.items ≤ (replica_of self.now).world.setup.events_max) }
         ensures full { IfErr result (λ fault. (fault ≡ FaultState.Full) ↔ ((replica_of self.now).world.setup.events_max < place_of self.now + length (settlement self.now))) }
     {
         settle(

@@ -1,0 +1,77 @@
+"""The library for C: the proved functions of crates/bully_c, the layer of C before them, and nothing else that links with more than the
+C library. What it exports is what bully.h declares."""
+import os
+import re
+import shlex
+import shutil
+import subprocess
+import sys
+import tempfile
+from pathlib import Path
+from typing import List
+
+from .crates import ROOT, Stopped, find_kit, read_crates, version_of_all, words_over_libraries
+from .kept import drop
+from .proving import Say, bring, build_all, crate_of
+
+HEADER = ROOT / 'include' / 'bully.h'
+FILES = ('bully.h', 'libbully.a', 'libbully.so.0', 'libbully.so')
+COMPILER = shlex.split(os.environ.get('CC') or 'cc')
+EXPORTED = re.compile(r'^(?:bully_status |const char \*)(bully_[a-z_]+)\(', re.MULTILINE)
+STATUS = re.compile(r'^ +BULLY_([A-Z_]+) = ([0-9]+)', re.MULTILINE)
+
+
+def must(words: List[str], folder: Path = ROOT) -> None:
+    if subprocess.run(words, cwd=folder, stdin=subprocess.DEVNULL, stdout=sys.stderr).returncode:
+        raise Stopped(f'it was not built: {Path(words[0]).name} failed')
+
+
+def archive_of(is_gated: bool, say: Say) -> Path:
+    """The proved functions, over what was built; or over the crates as the gate left them, which keeps the other cores busy, and the folders locked."""
+    crates, kit = read_crates(), find_kit()
+    crate = crate_of(crates, 'bully_c')
+    if not is_gated:
+        bring(crate.product, crates, crate, say, build_all)
+        return crate.product
+    drop(crate.product)
+    words = [*words_over_libraries(kit, crates, crate, 'rlib'), '--jobs', '1', '-o', str(crate.product)]
+    must([f'{kit}/bin/rattle', 'build', *words], crate.folder)
+    return crate.product
+
+
+def defined(*words: str) -> List[str]:
+    """The functions that a file gives to others."""
+    said = subprocess.run(['nm', *words, '--defined-only', '-f', 'posix'], stdout=subprocess.PIPE, text=True).stdout
+    return sorted(line.split()[0] for line in said.splitlines() if ' ' in line)
+
+
+def make_files(room: Path, archive: Path) -> None:
+    """Makes one object of the proved functions, the layer before them and the kit's heap of C, with the header's names; and libraries of it."""
+    whole, layer, shared, header = f'{room}/bully.o', f'{room}/layer.o', f'{room}/libbully.so.0', HEADER.read_text()
+    declared, statuses = sorted(EXPORTED.findall(header)), STATUS.findall(header.partition(' bully_status;')[2].partition('};')[0])
+    (room / 'declared').write_text(''.join(f'{name}\n' for name in declared))
+    (room / 'names.h').write_text(''.join(f'[{number}] = "{name}",\n' for name, number in statuses))
+    flags = [f'-I{HEADER.parent}', f'-I{room}', '-std=c99', '-O2', '-fPIC', '-fno-lto', '-Wall', '-Wextra', f'-DBULLY_VERSION="{version_of_all()}"']
+    must([*COMPILER, *flags, '-c', f'{ROOT}/bindings/c/bully.c', '-o', layer])
+    must(['ld', '-r', '-z', 'noexecstack', '-o', whole, layer, str(archive), f'{find_kit()}/c/liblibc_c.a'])
+    must(['objcopy', f'--keep-global-symbols={room}/declared', whole])
+    must(['ar', 'rcsD', f'{room}/libbully.a', whole])
+    must([*COMPILER, '-shared', '-o', shared, whole, '-Wl,-soname,libbully.so.0', '-Wl,-z,defs', '-Wl,-z,now', '-Wl,--gc-sections'])
+    if not declared == defined('-g', whole) == defined('-D', shared):
+        raise Stopped('it was not built: its functions are not those of bully.h')
+    shutil.copyfile(HEADER, room / 'bully.h')
+    (room / 'libbully.so').symlink_to('libbully.so.0')
+
+
+def make_library(folder: Path, is_gated: bool, say: Say) -> None:
+    """Makes the files in a room of the folder, and then puts them in their places."""
+    missing = [tool for tool in (COMPILER[0], 'ld', 'objcopy', 'ar', 'nm') if not shutil.which(tool)]
+    if missing:
+        raise Stopped(f'there is no {missing[0]} on the path')
+    folder.mkdir(parents=True, exist_ok=True)
+    archive = archive_of(is_gated, say)
+    with tempfile.TemporaryDirectory(prefix='.room.', dir=folder) as name:
+        make_files(Path(name), archive)
+        for each in FILES:
+            Path(name, each).replace(folder / each)
+    say(f'{folder} has {", ".join(FILES)}')

@@ -1,0 +1,131 @@
+"""What the commands bring about: a crate proved and built over all that it stands on, if something changed, and run or checked."""
+import os
+import sys
+import tempfile
+import time
+from pathlib import Path
+from typing import Callable, Dict, List, NamedTuple, NoReturn, Optional
+
+from .crates import Crate, Crates, Stopped, find_kit, read_crates, version_of_all, words_over_libraries, words_over_sources
+from .kept import drop, is_made_of, keep, locked, made_of, sources_of
+from .running import Children, all_jobs, become, run_beside
+
+Say = Callable[[str], None]
+
+
+def run_command(name: str, status: int, command: Callable[[Say], Optional[int]]) -> NoReturn:
+    """Ends this process as the command ends. If it can't go on, why is told, and the exit status is this one."""
+
+    def say(line: str) -> None:
+        print(f'{name}: {line}', file=sys.stderr, flush=True)
+
+    try:
+        sys.exit(command(say))
+    except (Stopped, OSError) as why:
+        say(str(why))
+        sys.exit(status)
+
+
+class Building(NamedTuple):
+    """One build: a crate, what is built of each below it is made of, when it began, and a room for what is said meanwhile."""
+
+    kit: Path
+    crates: Crates
+    crate: Crate
+    made_of: Dict[str, str]
+    say: Say
+    children: Children
+    room: Path
+    began: float
+
+    def minutes(self) -> str:
+        return f'{(time.monotonic() - self.began) / 60:.1f} min'
+
+    def build(self, name: str, processes: int) -> bool:
+        """Proves and builds a crate. The first time nothing is kept for the next one, and of a library only its statements are built, by
+        which those above it are proved sooner."""
+        kit, crate, product = self.kit, self.crates[name], self.crates[name].product
+        file = f'{product}.o' if crate.kind == 'program' else str(product)
+        words = [f'{kit}/bin/rattle', 'build', *words_over_libraries(kit, self.crates, crate), '--jobs', str(processes), '-o', file]
+        if product.exists() or (crate.folder / 'out' / 'incremental').exists():
+            words += ['--incremental', 'out/incremental']
+        elif crate.kind == 'library':
+            words.append('--statements')
+        link = [f'{kit}/bin/rattle-link', '--target', 'x86_64-unknown-linux-gnu', '--toolchain', f'{kit}/toolchain', '-o', str(product), file]
+        link += [f'{kit}/c/libos_c.a', f'{kit}/c/liblibc_c.a']
+        drop(product)
+        is_built = all(self.run(name, each) for each in ([words, link] if crate.kind == 'program' else [words]))
+        if is_built:
+            keep(product, self.made_of[name])
+        return is_built
+
+    def run(self, name: str, words: List[str]) -> bool:
+        return self.children.run(words, self.crates[name].folder, self.room / name)
+
+
+def chains(crates: Crates, crate: Crate) -> Dict[str, int]:
+    """Of each crate the lines of the longest chain of crates from it on up: the longest is guessed to take the longest."""
+    found: Dict[str, int] = {}
+    for name in reversed(crate.all):
+        above = max((lines for upper, lines in found.items() if name in crates[upper].below), default=0)
+        found[name] = above + sum(path.read_bytes().count(b'\n') for path in sources_of(crates[name]))
+    return found
+
+
+def build_all(building: Building) -> None:
+    """Proves and builds each crate that isn't built of what it is made of now, as soon as those below it are: first those that judge a
+    trace for `bully check`, and then that below the longest chain."""
+    crates, crate, say = building.crates, building.crate, building.say
+    due = [name for name in crate.all if not is_made_of(crates[name].product, building.made_of[name])]
+    needs = {name: [lower for lower in crates[name].below if lower in due] for name in due}
+    judging = crates['bully_trace'].all if crate.name == 'bully' else ()
+    length, new = chains(crates, crate), sum(not (crates[name].folder / 'out' / 'incremental').exists() for name in due)
+    # (35 s for each from nothing, 10 s over what an earlier build kept, and two minutes for what is compiled and linked)
+    minutes = -(-(120 + 10 * len(due) + 25 * new) // 60)
+    told = f'{len(due)} of {len(crate.all)} crates, {new} of them from nothing; on four cores about {minutes} min'
+    say(f'proves and builds {crate.name}: {told}')
+    proved = run_beside(needs, lambda name: (name in judging, length[name]), building.build, building.children)
+    for number, name in enumerate(proved, 1):
+        say(f'{number} of {len(due)} crates proved after {building.minutes()}: {name}')
+        if name == 'bully_trace' and name in judging:
+            say('what judges a trace for the command check is proved; the other commands stand on what comes now')
+
+
+def bring(product: Path, crates: Crates, crate: Crate, say: Say, make: Callable[[Building], None]) -> None:
+    """Has the product made, if it isn't there of what the crate is made of now, also once a call that this one waited for is done."""
+    kit, began = find_kit(), time.monotonic()
+    if is_made_of(product, made_of(crates, crate.all, kit)[crate.name]):
+        return
+    with locked([crates[name] for name in crate.all], say) as handles, Children(handles) as children, tempfile.TemporaryDirectory() as room:
+        building = Building(kit, crates, crate, made_of(crates, crate.all, kit), say, children, Path(room), began)
+        if not is_made_of(product, building.made_of[crate.name]):
+            make(building)
+
+
+def crate_of(crates: Crates, name: str, kind: str = '') -> Crate:
+    if name not in crates or kind not in ('', crates[name].kind):
+        raise Stopped(f'crates.txt has no such {kind or "crate"}')
+    return crates[name]
+
+
+def run_program(name: str, words: List[str], say: Say) -> NoReturn:
+    """Runs a program with these words, once it is proved and built."""
+    crates = read_crates()
+    crate = crate_of(crates, name, 'program')
+    if name == 'bully' and not crate.product.exists():
+        say(f'to use it, take the archive cinnabarloom-{version_of_all()}-x86_64-linux.tar.gz of a release, which has it built')
+    bring(crate.product, crates, crate, say, build_all)
+    become([str(crate.product), *words])
+
+
+def check(name: str, words: List[str], say: Say) -> NoReturn:
+    """Checks a crate and all below it in one run of the prover, over what earlier runs kept."""
+    crates, kit = read_crates(), find_kit()
+    crate = crate_of(crates, name)
+    (crate.folder / 'out').mkdir(exist_ok=True)
+    checked = [*words_over_sources(kit, crates, crate), '--jobs', str(all_jobs()), '--incremental', 'out/whole', *words]
+    with locked([crates[each] for each in crate.all], say) as handles:
+        for handle in handles:
+            os.set_inheritable(handle, True)
+        os.chdir(crate.folder)
+        become([f'{kit}/bin/rattle', 'check', *checked])

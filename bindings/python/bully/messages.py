@@ -1,0 +1,82 @@
+"""What a member says on standard error. A thread of its own writes that, so that a reader who hangs keeps nobody from work."""
+from __future__ import annotations
+
+import json
+import logging
+import os
+import queue
+import select
+import threading
+from contextlib import suppress
+from typing import Optional
+
+WAITING_MAX = 1000  # messages that wait to be written; of more the newest are left out
+LAST_SECONDS = 1.0  # for which it is waited at the end, until all are written
+STANDARD_ERROR = 2
+
+
+class Lines(logging.Formatter):
+    """Each message as a line for people."""
+
+    def __init__(self) -> None:
+        super().__init__('%(asctime)s bully-member: %(message)s')
+
+
+class JsonLines(logging.Formatter):
+    """Each message as a line of JSON: when it was said, how grave it is, and its text."""
+
+    def format(self, record: logging.LogRecord) -> str:
+        text = super().format(record)  # with what was raised, if anything was
+        return json.dumps({'time': round(record.created, 3), 'level': record.levelname.lower(), 'message': text}, ensure_ascii=False)
+
+
+def write(text: bytes) -> None:
+    """Writes it on standard error, however long that takes: also where others, as a worker, made that one which doesn't block. Raises OSError."""
+    poll = select.poll()
+    poll.register(STANDARD_ERROR, select.POLLOUT)
+    while text:
+        poll.poll()
+        with suppress(BlockingIOError):
+            text = text[os.write(STANDARD_ERROR, text) :]
+
+
+class Messages(logging.Handler):
+    """Writes messages, and never blocks who says them."""
+
+    def __init__(self, formatter: logging.Formatter) -> None:
+        super().__init__()
+        self.setFormatter(formatter)
+        self._lines: 'queue.Queue[Optional[str]]' = queue.Queue(WAITING_MAX)
+        self._left_out = 0
+        self._writer = threading.Thread(target=self._write_all, name='bully messages', daemon=True)
+        self._writer.start()
+
+    def emit(self, record: logging.LogRecord) -> None:
+        try:
+            self._tell_left_out()
+            self._lines.put_nowait(self.format(record))
+        except queue.Full:
+            self._left_out += 1
+
+    def _tell_left_out(self) -> None:
+        """Says how many messages were left out, if any were. Raises queue.Full."""
+        if self._left_out:
+            told = f'{self._left_out} messages were left out, since nobody read them'
+            self._lines.put_nowait(self.format(logging.makeLogRecord({'levelname': 'WARNING', 'msg': told})))
+            self._left_out = 0
+
+    def _write_all(self) -> None:
+        for line in iter(self._lines.get, None):
+            with suppress(OSError):
+                write(f'{line}\n'.encode('utf-8', 'replace'))
+
+    def close(self) -> None:
+        """Waits until all are written, if somebody reads."""
+        with suppress(queue.Full):
+            self._tell_left_out()
+            self._lines.put_nowait(None)
+        self._writer.join(LAST_SECONDS)
+        super().close()
+
+
+FORMATS = {'text': Lines, 'json': JsonLines}

@@ -1,0 +1,45 @@
+"""What an operator orders beside settings: nodes that are drained, and a pause of the group. Orders stand in the store, over all epochs.
+
+A drained node takes no part. While a group is paused who works goes on, and nobody settles.
+"""
+from __future__ import annotations
+
+import json
+from dataclasses import dataclass, replace
+from typing import AbstractSet, Any, Dict, FrozenSet, Mapping, Optional
+
+from .member import Life
+
+
+@dataclass(frozen=True)
+class Orders:
+    """The names of nodes that are drained; and who was present when the group was paused, if it is."""
+
+    drained: FrozenSet[str] = frozenset()
+    lives: Optional[Mapping[str, Life]] = None
+
+    @staticmethod
+    def parse(text: str) -> Orders:
+        """Those that `text` told. A ValueError, a KeyError, a TypeError or an AttributeError tells that these are none."""
+        told = json.loads(text or '{"drained": []}')
+        lives = {str(name): Life(*map(int, life)) for name, life in told['paused'].items()} if 'paused' in told else None
+        return Orders(frozenset(map(str, told['drained'])), lives)
+
+    def text(self) -> str:
+        """The same as JSON, for a store; nothing, if there are none."""
+        told: Dict[str, Any] = {'drained': sorted(self.drained)}
+        if self.lives is not None:
+            told['paused'] = {name: [life.process, life.number] for name, life in sorted(self.lives.items())}
+        return '' if self == Orders() else json.dumps(told, ensure_ascii=False)
+
+    @property
+    def is_paused(self) -> bool:
+        return self.lives is not None
+
+    def takes_out(self, name: str, is_present: bool) -> bool:
+        """Whether a member of that node is to leave: in a pause work goes on, so who is present stays up to its end."""
+        return name in self.drained and not (self.is_paused and is_present)
+
+    def among(self, names: AbstractSet[str]) -> Orders:
+        """The same without nodes that the group hasn't."""
+        return replace(self, drained=self.drained & names)

@@ -1,0 +1,54 @@
+"""What a member tells the manager of services that began it, as sd_notify(3) has it: that it is ready, how it stands, and that it isn't stuck."""
+from __future__ import annotations
+
+import os
+import socket
+import threading
+from contextlib import suppress
+
+from .logs import seconds_of_boot
+from .running import Member
+from .worker import Workers
+
+BEAT = 1.0  # seconds from one word to the next at most
+
+
+class Service(threading.Thread):
+    """Tells that, if such a manager is there."""
+
+    def __init__(self, member: Member, workers: Workers) -> None:
+        """It takes the manager's words out of the environment, which are for this process alone."""
+        super().__init__(name='bully service', daemon=True)
+        self._member, self._workers, self._ends = member, workers, threading.Event()
+        address, watchdog = os.environ.pop('NOTIFY_SOCKET', ''), os.environ.pop('WATCHDOG_USEC', '')
+        self._address = f'\0{address[1:]}' if address.startswith('@') else address
+        self._beat = min(BEAT, int(watchdog) / 3_000_000) if watchdog.isdecimal() else BEAT
+
+    def run(self) -> None:
+        if not self._address:
+            return
+        self._tell('READY=1')
+        while not self._ends.wait(self._beat):
+            leaves, goes_on = self._member.is_leaving, self._goes_on()
+            self._tell(f'STATUS={self._stands()}', *(['STOPPING=1'] if leaves else []), *(['WATCHDOG=1'] if goes_on else []))
+        self._tell('STOPPING=1')
+
+    def _goes_on(self) -> bool:
+        """Whether the member takes its steps: at least one is due each quarter of the ttl, and a call to its store takes a fifth of it at most."""
+        return seconds_of_boot() < self._member.stepped + self._member.ttl
+
+    def _stands(self) -> str:
+        owned = self._member.assignment()
+        if owned is not None:
+            return f'works on {len(owned.partitions)} partitions by token {owned.token}{self._workers.told}'
+        if self._member.is_drained:
+            return 'drained'
+        return ('present' if seconds_of_boot() < self._member.sure_until else 'not present') + self._workers.told
+
+    def _tell(self, *words: str) -> None:
+        with suppress(OSError), socket.socket(socket.AF_UNIX, socket.SOCK_DGRAM) as manager:
+            manager.sendto('\n'.join(words).encode(), socket.MSG_DONTWAIT, self._address)
+
+    def close(self) -> None:
+        self._ends.set()
+        self.join()

@@ -1,0 +1,159 @@
+"""The gate: what is counted, when a part begins, and what is kept of a green run."""
+import contextlib
+import io
+import subprocess
+import sys
+import unittest
+
+from counts import Counts
+from reading import Reader
+from stand_in import Tree, waited
+
+# A gate that proves base and bully and leaves what it built, once the test lets it go on; `verdict` has its last line.
+GATE = r'''#!/bin/sh
+cd "$(git rev-parse --show-toplevel)"
+mkdir -p crates/base/out/rlib/base.rlib crates/bully/out crates/bully_c/out
+echo built >crates/base/out/rlib/base.rlib/format
+echo 'rt: base proved'
+while [ -e ROOM/hold/gate ]; do sleep 0.01; done
+echo program >crates/bully/out/bully; chmod 755 crates/bully/out/bully
+echo archive >crates/bully_c/out/libbully_c.a
+echo 'rt: bully proved'
+while [ -e ROOM/hold/last ]; do sleep 0.01; done
+cat ROOM/verdict
+tail -n 1 ROOM/verdict | grep -q ', 0 failed$'
+'''
+# Runs the gate over these parts in place of its own, and prints the last line.
+RUN = '''
+import sys
+sys.path[:0] = ['bin', 'tests']
+import gate
+gate.PARTS[:] = [gate.Part(('./part', name), behind, makes=name if name.startswith('make') else '') for name, behind in {parts!r}]
+counts = gate.test_all()
+print(counts.last())
+'''
+PART = r'''#!/bin/sh
+echo "begin $1" >>ROOM/parts
+case $1 in bad | make_badly) echo 'no count'; exit 1 ;; make_well) echo 'no count'; exit ;; esac
+echo '2 passed, 1 failed'
+[ "$1" = wrong ] || { echo '3 passed, 0 failed'; exit 0; }
+echo '3 passed, 0 failed'; exit 7
+'''
+
+
+class Counting(unittest.TestCase):
+    def add(self, said: str, status: int) -> 'tuple[int, int, str]':
+        counts, told = Counts(), io.StringIO()
+        with contextlib.redirect_stdout(told):
+            counts.add(said, status, 'it')
+        return counts.passed, counts.failed, told.getvalue()
+
+    def test_the_last_line_is_added(self) -> None:
+        self.assertEqual(self.add('1 passed, 1 failed\n20 passed, 3 failed\n', 1), (20, 3, ''))
+
+    def test_a_status_that_no_failure_explains_is_one(self) -> None:
+        self.assertEqual(self.add('20 passed, 0 failed\n', 2), (20, 1, 'FAILED: it ended with status 2\n'))
+
+    def test_a_last_line_that_counts_nothing_is_one(self) -> None:
+        self.assertEqual(self.add('20 passed, 0 failed\nbye\n', 0), (0, 1, 'FAILED: it ended with no last line that counts\n'))
+        self.assertEqual(self.add('', 0)[1], 1)
+
+
+class Cases(unittest.TestCase):
+    def read(self, text: str) -> 'tuple[list[tuple[str, str, str, str, str, int]], Counts]':
+        counts = Counts()
+        with contextlib.redirect_stdout(io.StringIO()):
+            return [tuple(case) for case in Reader('a.txt', counts).read(text)], counts  # type: ignore[misc]
+
+    def test_each_line_is_what_it_begins_as(self) -> None:
+        found, counts = self.read('# First.\n$ bully check\n< one\n<\n> two\n! three\n= 4\n\n\n# Second.\n$ bully help\n')
+        self.assertEqual(found[0], ('a.txt:1, First.', 'bully check', 'one\n\n', 'two\n', 'three\n', 4))
+        self.assertEqual(found[1], ('a.txt:10, Second.', 'bully help', '', '', '', 0))
+        self.assertEqual((len(found), counts.failed), (2, 0))
+
+    def test_a_case_without_a_command_and_a_strange_line_are_failures(self) -> None:
+        found, counts = self.read('# First.\n> two\n\n$ bully help\nstrange\n>strange\n')
+        self.assertEqual((len(found), counts.failed), (1, 3))
+
+
+class Gated(unittest.TestCase):
+    def setUp(self) -> None:
+        self.tree = Tree()
+        self.addCleanup(self.tree.remove)
+        self.tree.list_crates({'base': '', 'bully': 'base', 'bully_c staticlib': 'base'})
+        self.tree.write('bully_c', 'src/lib.rt', '// the functions for C\n')
+        self.install('kit/bin/rt', GATE)
+        self.install('tree/part', PART)
+        (self.tree.top / '.gitignore').write_text('out/\n__pycache__/\n')
+        for words in (['init', '-q'], ['add', '-A'], ['-c', 'user.name=a', '-c', 'user.email=a@b.example', 'commit', '-q', '-m', 'all']):
+            subprocess.run(['git', '-C', str(self.tree.top), *words], check=True)
+        self.verdict = '10 passed, 0 failed\n'
+
+    def install(self, name: str, text: str) -> None:
+        path = self.tree.room / name
+        path.write_text(text.replace('ROOM', str(self.tree.room)).replace('KIT', str(self.tree.room / 'kit')))
+        path.chmod(0o755)
+
+    def begin(self, *parts: 'tuple[str, tuple[str, ...]]') -> 'subprocess.Popen[str]':
+        (self.tree.room / 'verdict').write_text(self.verdict)
+        path = f'{self.tree.room}/kit/bin:/usr/bin:/bin'
+        words = [sys.executable, '-c', RUN.format(parts=parts)]
+        return subprocess.Popen(words, cwd=self.tree.top, env={'PATH': path}, stdout=subprocess.PIPE, stderr=subprocess.STDOUT, text=True)
+
+    def parts_begun(self) -> str:
+        begun = self.tree.room / 'parts'
+        return begun.read_text() if begun.exists() else ''
+
+    def last_of(self, *parts: 'tuple[str, tuple[str, ...]]') -> str:
+        return self.begin(*parts).communicate(timeout=60)[0].splitlines()[-1]
+
+    def record(self) -> str:
+        path = self.tree.top / 'out' / 'proved'
+        return path.read_text() if path.exists() else ''
+
+    def test_all_are_counted_once_what_they_need_is_done(self) -> None:
+        self.tree.hold('last')
+        self.tree.hold('gate')
+        run = self.begin(('at once', ()), ('later', ('base', 'bully')))
+        waited(lambda: self.parts_begun() == 'begin at once\n', 'the first part is begun')
+        self.tree.let_go('gate')
+        waited(lambda: 'begin later\n' in self.parts_begun(), 'the other part is begun behind its crates')
+        self.tree.let_go('last')
+        self.assertEqual(run.communicate(timeout=60)[0].splitlines()[-1], '16 passed, 0 failed')
+
+    def test_a_red_part_is_counted_and_nothing_recorded(self) -> None:
+        self.assertEqual(self.last_of(('bad', ()), ('wrong', ())), '13 passed, 3 failed')
+        self.assertEqual(self.record(), '')
+
+    def test_what_a_part_makes_is_waited_for_and_counts_only_if_it_fails(self) -> None:
+        self.assertEqual(self.last_of(('fine', ('make_well', 'make_badly')), ('make_well', ()), ('make_badly', ())), '13 passed, 1 failed')
+        self.assertEqual(self.parts_begun().splitlines()[-1], 'begin fine')
+
+    def test_a_red_gate_leaves_nothing_taken(self) -> None:
+        self.verdict = '9 passed, 1 failed\n'
+        self.assertEqual(self.last_of(('fine', ())), '12 passed, 1 failed')
+        self.assertFalse((self.tree.top / 'crates' / 'bully' / 'out' / 'bully.made_of').exists())
+
+    def test_a_bad_edit_is_a_failure(self) -> None:
+        self.verdict = 'must-fail a: BAD EDIT\n10 passed, 0 failed\n'
+        self.assertEqual(self.last_of(('fine', ())), '13 passed, 1 failed')
+
+    def test_what_a_green_gate_built_is_taken_and_recorded(self) -> None:
+        self.assertEqual(self.last_of(('fine', ())), '13 passed, 0 failed')
+        archive = self.tree.top / 'crates' / 'bully_c' / 'out' / 'libbully_c.a'
+        self.assertEqual(archive.read_text(), 'archive\n')
+        self.assertEqual(self.record().splitlines()[0], '13 passed, 0 failed')
+        self.tree.make_kit()
+        (self.tree.top / 'crates' / 'bully' / 'out' / 'bully').write_text('#!/bin/sh\necho of the gate\n')
+        self.assertEqual(self.tree.call('bully').stdout, 'of the gate\n')
+        self.assertEqual(self.tree.begun(), [])
+
+    def test_what_changed_while_the_gate_ran_is_not_taken(self) -> None:
+        self.tree.hold('last')
+        run = self.begin(('at once', ('bully',)))
+        waited(lambda: 'at once' in self.parts_begun(), 'the gate is under way')
+        self.tree.write('base', 'src/lib.rt', '// another base\n')
+        self.tree.let_go('last')
+        run.communicate(timeout=60)
+        self.assertFalse((self.tree.top / 'crates' / 'bully' / 'out' / 'bully.made_of').exists())
+        self.assertEqual(self.record(), '')

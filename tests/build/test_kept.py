@@ -1,0 +1,149 @@
+"""What is built, and when: behind a changed comment, contract or line of crates.txt, beside another call, and behind a call that was ended."""
+import signal
+import subprocess
+import unittest
+
+from building.crates import Stopped, read_crates
+from building.kept import sum_of
+from stand_in import Tree, waited
+
+
+def is_there(process: int) -> bool:
+    """Whether the process runs: one that ended and that nobody waits for doesn't."""
+    try:
+        with open(f'/proc/{process}/stat') as told:
+            return told.read().rpartition(')')[2].split()[0] != 'Z'
+    except FileNotFoundError:
+        return False
+
+
+class Graph(unittest.TestCase):
+    def setUp(self) -> None:
+        self.tree = Tree()
+        self.addCleanup(self.tree.remove)
+
+    def test_what_stands_below_is_lowest_first_whatever_the_order_of_the_lines(self) -> None:
+        self.tree.list_crates({'bully': 'left right clap', 'left': 'base', 'right': 'left', 'base': ''})
+        crates = read_crates(self.tree.top)
+        self.assertEqual(crates['bully'].below, ('base', 'left', 'right'))
+        self.assertEqual((crates['bully'].named, crates['base'].below), (('left', 'right', 'clap'), ()))
+
+    def test_a_crate_whose_folder_is_gone_is_none(self) -> None:
+        self.tree.list_crates({'base': '', 'left': 'base', 'gone': 'base', 'bully': 'left'})
+        self.assertEqual(sorted(read_crates(self.tree.top)), ['base', 'bully', 'left'])
+
+    def test_crates_that_stand_on_one_another_are_refused(self) -> None:
+        self.tree.list_crates({'left': 'right', 'right': 'left'})
+        with self.assertRaisesRegex(Stopped, 'left|right'):
+            read_crates(self.tree.top)
+
+    def test_a_sum_is_that_of_sha256sum(self) -> None:
+        self.tree.write('left', 'proofs/half/Answers.antt', 'an answer\n')
+        self.tree.write('left', 'specs/Lib.antt', 'a definition\n')
+        files = 'find src specs proofs -type f -print0 | LC_ALL=C sort -z | xargs -0 sha256sum'
+        command = f"{{ echo 'left: base'; {files}; }} | sha256sum | cut -d ' ' -f 1"
+        wanted = subprocess.run(['bash', '-c', command], cwd=self.tree.top / 'crates' / 'left', stdout=subprocess.PIPE, text=True)
+        self.assertEqual(sum_of(read_crates(self.tree.top)['left']), wanted.stdout.strip())
+
+
+class Kept(unittest.TestCase):
+    def setUp(self) -> None:
+        self.tree = Tree()
+        self.addCleanup(self.tree.remove)
+
+    def build(self) -> 'subprocess.CompletedProcess[str]':
+        return self.tree.call('bully', 'check', 'it')
+
+    def built_behind(self) -> 'list[str]':
+        """The crates that were built by a call, behind a first one."""
+        before = len(self.tree.log())
+        self.assertEqual(self.build().stdout, 'stand-in check it\n')
+        return sorted(self.tree.begun(before))
+
+    def build_first(self) -> None:
+        self.build()
+        self.assertEqual(sorted(self.tree.begun()), ['base', 'bully', 'left', 'right'])
+
+    def test_nothing_is_built_twice(self) -> None:
+        self.build_first()
+        second = self.build()
+        self.assertEqual((second.stdout, second.stderr, len(self.tree.begun())), ('stand-in check it\n', '', 4))
+
+    def test_a_closed_pipe_ends_the_program_as_ever(self) -> None:
+        self.build_first()
+        program = self.tree.top / 'crates' / 'bully' / 'out' / 'bully'
+        program.write_text('#!/bin/sh\nsed -n "s/^SigIgn://p" /proc/self/status\n')
+        ignored = int(self.tree.call('bully').stdout, 16)
+        self.assertEqual(ignored & (1 << signal.SIGPIPE - 1 | 1 << signal.SIGXFSZ - 1), 0)
+
+    def test_a_changed_comment_has_the_crate_and_those_above_built(self) -> None:
+        self.build_first()
+        self.tree.write('left', 'src/lib.rt', '// left, another comment\n')
+        self.assertEqual(self.built_behind(), ['bully', 'left'])
+
+    def test_a_changed_contract_has_all_above_built(self) -> None:
+        self.build_first()
+        self.tree.write('base', 'specs/Lib.antt', 'another definition\n')
+        self.assertEqual(self.built_behind(), ['base', 'bully', 'left', 'right'])
+
+    def test_a_file_that_was_only_touched_has_nothing_built(self) -> None:
+        self.build_first()
+        (self.tree.top / 'crates' / 'base' / 'src' / 'lib.rt').touch()
+        self.assertEqual(self.built_behind(), [])
+
+    def test_a_proof_that_was_taken_away_counts(self) -> None:
+        self.tree.write('right', 'proofs/half/Answers.antt', 'an answer\n')
+        self.build_first()
+        subprocess.run(['rm', '-r', str(self.tree.top / 'crates' / 'right' / 'proofs')], check=True)
+        self.assertEqual(self.built_behind(), ['bully', 'right'])
+
+    def test_a_deleted_crate_has_those_above_built(self) -> None:
+        self.build_first()
+        self.tree.list_crates({'base': '', 'left': 'base', 'bully': 'left', 'bully_trace': 'base'})
+        subprocess.run(['rm', '-r', str(self.tree.top / 'crates' / 'right')], check=True)
+        self.assertEqual(self.built_behind(), ['bully'])
+
+    def test_what_is_not_proved_is_told_and_not_kept(self) -> None:
+        (self.tree.room / 'refuse' / 'left').touch()
+        refused = self.build()
+        self.assertEqual((refused.returncode, refused.stdout), (125, ''))
+        self.assertIn('a contract of left is not proved\n', refused.stderr)
+        self.assertIn('left was not built\n', refused.stderr)
+        (self.tree.room / 'refuse' / 'left').unlink()
+        self.assertIn('left', self.built_behind())
+
+    def test_two_calls_at_once_build_once(self) -> None:
+        self.tree.hold('base')
+        first = self.tree.begin('bully', 'one')
+        waited(lambda: self.tree.process_of('base') is not None, 'base is begun')
+        second = self.tree.begin('bully', 'two')
+        waited(lambda: 'waits for another call' in self.tree.said(), 'the second call waits')
+        self.tree.let_go('base')
+        written = [child.communicate(timeout=60)[0] for child in (first, second)]
+        self.assertEqual(written, ['stand-in one\n', 'stand-in two\n'])
+        self.assertEqual(len(self.tree.begun()), 4)
+
+    def ended_by(self, number: int) -> int:
+        """Ends a build while it proves base, and gives the process of the prover."""
+        self.tree.hold('base')
+        call = self.tree.begin('bully', 'it')
+        waited(lambda: self.tree.process_of('base') is not None, 'base is begun')
+        call.send_signal(number)
+        call.communicate(timeout=60)
+        self.assertNotEqual(call.returncode, 0)
+        return self.tree.process_of('base') or 0
+
+    def test_a_build_that_is_ended_leaves_no_prover_and_nothing_kept(self) -> None:
+        prover = self.ended_by(signal.SIGTERM)
+        waited(lambda: not is_there(prover), 'the prover is gone')
+        self.tree.let_go('base')
+        self.assertEqual(self.built_behind(), ['base', 'bully', 'left', 'right'])
+
+    def test_the_prover_of_a_killed_build_keeps_others_out_until_it_ends(self) -> None:
+        prover = self.ended_by(signal.SIGKILL)
+        self.assertTrue(is_there(prover))
+        call = self.tree.begin('bully', 'it')
+        waited(lambda: 'waits for another call' in self.tree.said(), 'the next call waits')
+        self.tree.let_go('base')
+        self.assertEqual(call.communicate(timeout=60)[0], 'stand-in it\n')
+        self.assertEqual(sorted(self.tree.begun()), ['base', 'base', 'bully', 'left', 'right'])

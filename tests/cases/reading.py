@@ -1,0 +1,62 @@
+"""How a case is read, a session with the program. README.md says how one is written."""
+from pathlib import Path
+from typing import Dict, Iterator, List, NamedTuple
+
+from counts import Counts
+
+# The files that a line of a case, by its first sign, adds to.
+STREAMS = {'<': 'stdin', '>': 'stdout', '!': 'stderr'}
+
+
+class Case(NamedTuple):
+    """A session with the program, and what is wanted of it."""
+
+    name: str
+    command: str
+    stdin: str = ''
+    stdout: str = ''
+    stderr: str = ''
+    status: int = 0
+
+
+def text_of(path: Path) -> str:
+    return path.read_bytes().decode(errors='surrogateescape')
+
+
+class Reader:
+    """Reads the cases of a file, which blank lines part."""
+
+    def __init__(self, name: str, counts: Counts) -> None:
+        self.file, self.counts = name, counts
+        self._begin()
+
+    def _begin(self) -> None:
+        self.name, self.command, self.status = self.file, '', 0
+        self.texts: Dict[str, str] = dict.fromkeys(STREAMS.values(), '')
+
+    def _end(self) -> List[Case]:
+        case = Case(self.name, self.command, **self.texts, status=self.status)
+        if not case.command and any(self.texts.values()):
+            self.counts.hold(False, f'{self.name}: a case without a command')
+        self._begin()
+        return [case] if case.command else []
+
+    def read(self, text: str) -> Iterator[Case]:
+        for number, line in enumerate([*text.rstrip('\n').split('\n'), ''], 1):
+            if line:
+                self._take(number, line)
+            else:
+                yield from self._end()
+
+    def _take(self, number: int, line: str) -> None:
+        sign, text = line[0], line[2:]
+        if sign == '#':
+            self.name = f'{self.file}:{number}, {text}'
+        elif sign in STREAMS and line[1:2] in ('', ' '):
+            self.texts[STREAMS[sign]] += f'{text}\n'
+        elif line.startswith('$ '):
+            self.command = text
+        elif line.startswith('= '):
+            self.status = int(text)
+        else:
+            self.counts.hold(False, f'{self.file}:{number}: no line of a case: {line}')

@@ -1,0 +1,157 @@
+"""The gate, `rt ci`, and what is tried beside it: each part as soon as the gate has proved and built what it needs."""
+import hashlib
+import os
+import re
+import shutil
+import subprocess
+import sys
+import tempfile
+from concurrent.futures import ThreadPoolExecutor
+from threading import Event
+from typing import Dict, List, NamedTuple, Tuple
+
+from building.crates import ROOT, Crates, find_kit, read_crates, version_of
+from building.kept import drop, keep, made_of
+from building.running import all_jobs
+from counts import Counts
+
+RECORD = ROOT / 'out' / 'proved'
+HANDED_OUT = ('crates/bully/out/bully', 'crates/bully_c/out/libbully_c.a')
+DONE = re.compile(r'^rt: (\w+) (?:NOT PROVED|proved|is kept)')
+
+
+class Part(NamedTuple):
+    """A command that counts by itself, or that makes something; what has to be done before it, crates or what others make; and after how
+    many seconds it is ended. LIBRARY stands for the folder of the library for C."""
+
+    words: Tuple[str, ...]
+    behind: Tuple[str, ...] = ()
+    limit: int = 1800
+    makes: str = ''
+
+
+PAGES = [Part((each,)) for each in ('tests/snippets/compare', 'tests/promises/compare', 'tests/release/compare', 'bin/wrong-bodies')]
+CASES = [Part((each,), ('bully',)) for each in ('tests/logging/try', 'tests/terminal/try', 'tests/cases/try')]
+PARTS = [
+    *PAGES,
+    Part(('tests/members/wrong', '--fit')),
+    Part(('tests/release/first_build',)),
+    Part(('tests/build/try',)),
+    Part(('bin/library', '--gated', 'LIBRARY'), ('bully_agent', 'bully_lines', 'bully_member', 'bully_simulator'), makes='LIBRARY'),
+    Part(('bindings/try', '--unpacked', 'LIBRARY'), ('LIBRARY',), 3600),
+    Part(('tests/release/try', 'LIBRARY', 'crates/bully/out/bully'), ('bully', 'LIBRARY'), 900),
+    Part(('tests/cluster/simulate',), ('bully', 'bully_simulator'), 600),
+    Part(('tests/hostile/memory',), ('bully_memory',), 600),
+    *CASES,
+    *(Part(('tests/hostile/outside', part), ('bully',)) for part in ('requests', 'spoiled', 'annotated')),
+]
+Done = Dict[str, Event]
+
+
+def run_gate(done: Done) -> Tuple[str, int]:
+    """What `rt ci` said, and its status. It is told which crates it is done with."""
+    environment = {**os.environ, 'PYTHONUNBUFFERED': '1', 'RT_JOBS': os.environ.get('RT_JOBS') or str(all_jobs())}
+    lines: List[str] = []
+    with subprocess.Popen(
+        ['rt', 'ci'], cwd=ROOT, env=environment, stdin=subprocess.DEVNULL, stdout=subprocess.PIPE, text=True, errors='replace'
+    ) as gate:
+        for line in gate.stdout or ():
+            print(line, end='', flush=True)
+            lines.append(line)
+            done.get((DONE.findall(line) or [''])[0], Event()).set()
+    return ''.join(lines), gate.returncode
+
+
+def run_part(part: Part, done: Done, room: str) -> Tuple[str, int]:
+    """What the part said, and its status, once all is done that it needs."""
+    for name in part.behind:
+        done[name].wait()
+    words = [f'{room}/library' if word == 'LIBRARY' else word for word in ('timeout', str(part.limit), *part.words)]
+    try:
+        with tempfile.TemporaryFile() as said:
+            status = subprocess.run(words, cwd=ROOT, stdin=subprocess.DEVNULL, stdout=said, stderr=subprocess.STDOUT).returncode
+            said.seek(0)
+            return said.read().decode(errors='replace'), status
+    finally:
+        done[part.makes].set()
+
+
+def run_parts(parts: List[Part], counts: Counts, is_gated: bool) -> bool:
+    """Runs the gate, if it is to be run, and the parts beside it, and adds their counts. It is told if the gate was green."""
+    done, status = {name: Event() for part in parts for name in (*part.behind, part.makes)}, 1
+    with tempfile.TemporaryDirectory() as room, ThreadPoolExecutor(len(parts)) as pool:
+        begun = [(part, pool.submit(run_part, part, done, room)) for part in parts]
+        try:
+            if is_gated:
+                said, status = run_gate(done)
+                counts.add(said, status, 'rt ci')
+                if 'BAD EDIT' in said:
+                    counts.hold(False, 'a must-fail edit fits nothing, and says nothing of a contract')
+        finally:
+            for name in done.keys() - {part.makes for part in parts}:
+                done[name].set()
+        for part, ended in begun:
+            said, failed = ended.result()
+            print(said.rstrip('\n'), flush=True)
+            if not part.makes:
+                counts.add(said, failed, ' '.join(part.words))
+            elif failed:
+                counts.hold(False, f'{part.words[0]} ended with status {failed}')
+    return status == 0
+
+
+def take_gated(crates: Crates, texts: Dict[str, str]) -> None:
+    """Takes what a green gate has proved and built as made of what these texts say. It left each library in out/rlib."""
+    for crate in crates.values():
+        if crate.kind == 'library':
+            drop(crate.product)
+        if crate.library('rlib').exists():
+            shutil.copytree(crate.library('rlib'), crate.product, copy_function=os.link)
+        if crate.product.exists():
+            keep(crate.product, texts[crate.name])
+
+
+def commit_here() -> str:
+    """The commit that stands here; nothing if something isn't committed."""
+    words = ['git', '-C', str(ROOT), 'status', '--porcelain=v2', '--branch']
+    told = subprocess.run(words, stdout=subprocess.PIPE, stderr=subprocess.DEVNULL, text=True).stdout.splitlines()
+    return told[0].split()[-1] if told and all(line.startswith('#') for line in told) else ''
+
+
+def record_of(last: str, commit: str) -> List[str]:
+    """What is recorded of a run: its last line, the commit, the kit, and the SHA-256 of what it built that is handed out."""
+    built = [f'{hashlib.sha256((ROOT / name).read_bytes()).hexdigest()}  {name}' for name in HANDED_OUT]
+    return [last, commit, version_of(find_kit()), *built]
+
+
+def test_all() -> Counts:
+    """The gate, and all that is tried beside it. What a green gate built is taken; and if all is green, and was committed, it is recorded for
+    bin/release; but not if something changed meanwhile."""
+    crates, counts, commit = read_crates(), Counts(), commit_here()
+    texts = made_of(crates, crates, find_kit())
+    RECORD.unlink(missing_ok=True)
+    # (at its end `rt ci` puts back over its own libraries what was there; and no older archive is to be taken for its own)
+    for crate in crates.values():
+        shutil.rmtree(crate.library('rlib').parent, ignore_errors=True)
+        if crate.kind == 'archive':
+            drop(crate.product)
+    is_green = run_parts(PARTS, counts, is_gated=True)
+    try:
+        if is_green and texts == made_of(crates, crates, find_kit()):
+            take_gated(crates, texts)
+            if not counts.failed and commit and commit == commit_here():
+                RECORD.parent.mkdir(exist_ok=True)
+                RECORD.write_text(''.join(f'{line}\n' for line in record_of(counts.last(), commit)))
+    except OSError as error:
+        # (no verdict rests on it)
+        print(f'test: what the gate built is not taken: {error}', file=sys.stderr)
+    return counts
+
+
+def test_cases() -> Counts:
+    """The cases over the program that bin/bully builds, and the pages."""
+    counts = Counts()
+    if subprocess.run([str(ROOT / 'bin' / 'bully'), 'help'], stdout=subprocess.DEVNULL).returncode:
+        counts.hold(False, 'bin/bully does not build the program')
+    run_parts([*PAGES, *CASES], counts, is_gated=False)
+    return counts

@@ -1,0 +1,292 @@
+"""A soak: a group works for a long time while its members, guards, workers and servers are killed and paused, and a recorder apart judges it."""
+from __future__ import annotations
+
+import random
+import signal
+import subprocess
+import sys
+import time
+from collections import Counter
+from contextlib import suppress
+from functools import partial
+from pathlib import Path
+from typing import Callable, Counter as Counts, Dict, Iterator, List, NamedTuple, Optional, Sequence, Tuple, TypeVar
+
+from etcd_servers import Server, Servers
+from faults import SETTLED
+from groups import HERE, NAMES, PATIENCE, Group, Work, told_seconds
+from laws import wait_until
+from processes import Process, close_all, family, send_all
+from recorder import Record, Unit
+
+REST_MAX = 12.0  # seconds that the group gets to come to rest: who comes again and again counts later and later
+BEGIN_MAX = 1.0  # seconds behind its end, within which a member is begun again
+SLICE = 0.25  # seconds for which it is waited at once
+PART_MAX = 30.0  # seconds in which a fault has to find whom it can happen to, and is seen
+
+# Whom a fault happens to, at one moment.
+WHOM: Dict[str, Tuple[str, ...]] = {
+    'a member': ('member',), 'a guard': ('guard',), 'a worker': ('worker',), 'a member and its worker': ('member', 'worker'),
+    'a member and its guard': ('member', 'guard'),
+}  # fmt: skip
+SHORT, LONG = (0.1, 0.4), (1.5, 3.0)  # of the ttl
+Action = Callable[[], object]
+Strike = Callable[[], bool]  # whether it was seen to happen
+_Found = TypeVar('_Found')
+
+
+class Recorded(Work):
+    """What the workers did, as a process apart records it."""
+
+    def __init__(self, folder: Path, partitions: int) -> None:
+        super().__init__(folder, partitions)
+        door = folder / 'recorder'
+        self.recorder = subprocess.Popen([sys.executable, '-I', '-S', str(HERE / 'recorder.py'), str(door), str(folder)], stdin=subprocess.PIPE)
+        self.worker.append(str(door))
+        wait_until(door.exists)
+
+    def close(self) -> int:
+        """Its status."""
+        assert self.recorder.stdin is not None
+        self.recorder.stdin.close()
+        return self.recorder.wait(PATIENCE)
+
+
+class Later(NamedTuple):
+    """What is done at that moment: a process or a server goes on, or a member begins."""
+
+    moment: float
+    do: Action
+    is_of_server: bool = False
+    is_begin: bool = False
+
+
+class Soak:
+    """A group, and what happens to it. Who ends is begun again."""
+
+    def __init__(self, group: Group, servers: Optional[Servers], choice: random.Random, share: float) -> None:
+        """Behind this share of the faults the group gets time to come to rest."""
+        self.group, self.choice, self.share = group, choice, share
+        self.names = [node.name for node in group.shown.nodes]
+        self.happened: Counts[str] = Counter()
+        self.statuses: Counts[int] = Counter()  # of members that ended
+        self.later: List[Later] = []
+        self.rests: List[float] = []  # how long it took to come to rest, if the group did
+        self.without_rest = 0
+        self.kinds: Dict[str, Strike] = {**self.of_processes(), **(self.of_servers(servers) if servers is not None else {})}
+
+    # What happens.
+
+    def of_processes(self) -> Dict[str, Strike]:
+        """If member and guard are both paused for long nobody is left who ends the worker, and then nothing is promised."""
+        kinds: Dict[str, Strike] = {}
+        for whom, names in WHOM.items():
+            kinds[f'{whom} killed'] = partial(self.strike, names, (), SHORT)
+            kinds[f'{whom} paused shortly'] = partial(self.strike, (), names, SHORT)
+            if whom != 'a member and its guard':
+                kinds[f'{whom} paused for long'] = partial(self.strike, (), names, LONG)
+        kinds['a member killed whose worker is paused'] = partial(self.strike, ('member',), ('worker',), LONG)
+        kinds['a guard killed whose member is paused'] = partial(self.strike, ('guard',), ('member',), LONG)
+        return kinds
+
+    def of_servers(self, servers: Servers) -> Dict[str, Strike]:
+        kinds: Dict[str, Strike] = {}
+        for what, leads in (('the leader of etcd', True), ('another server', False)):
+            kinds[f'{what} killed'] = partial(self.strike_server, servers, leads, Server.kill, Server.start)
+            kinds[f'{what} paused'] = partial(self.strike_server, servers, leads, Server.pause, Server.resume)
+        kinds['all servers paused'] = partial(self.strike_servers, servers)
+        return kinds
+
+    def strike(self, killed: Sequence[str], paused: Sequence[str], span: Tuple[float, float]) -> bool:
+        """These of some member are killed, and these paused for so long, at one moment. Whether that was seen."""
+        there = self.tend_until(self.some_family, PART_MAX)
+        if not there:
+            return False
+        dead, still = [there[name] for name in killed], [there[name] for name in paused]
+        send_all(still, signal.SIGSTOP)
+        send_all(dead, signal.SIGKILL)
+        is_seen = waited(lambda: all(each.has_ended or each.is_stopped for each in [*dead, *still]))
+        is_seen &= all(each.has_ended for each in dead) and not any(each.has_ended for each in still)
+        self.do_later(self.choice.uniform(*span) * self.group.ttl if still else 0.0, partial(resume, still, there))
+        return is_seen
+
+    def some_family(self) -> Dict[str, Process]:
+        """Those of some member that are all there, and not paused."""
+        members = [member for member in self.group.members.values() if member.poll() is None]
+        found = family(self.choice.choice(members).pid) if members else {}
+        if any(each.is_stopped for each in found.values()):
+            close_all(found.values())
+            return {}
+        return found
+
+    def strike_server(self, servers: Servers, leads: bool, begin: Callable[[Server], None], end: Callable[[Server], None]) -> bool:
+        """That happens to the leader, or to another server, for a while."""
+        if not self.servers_are_up(servers):
+            return False
+        leader = servers.leader()
+        server = leader if leads else self.choice.choice([each for each in servers.each if each is not leader])
+        begin(server)  # it returns once that is so
+        self.do_later(self.choice.uniform(0.5, 3.0) * self.group.ttl, lambda: end(server), True)
+        return True
+
+    def strike_servers(self, servers: Servers) -> bool:
+        """All of them are paused, each for a while."""
+        if not self.servers_are_up(servers):
+            return False
+        for server in servers.each:
+            server.pause()
+            self.do_later(self.choice.uniform(0.5, 3.0) * self.group.ttl, server.resume, True)
+        return True
+
+    def servers_are_up(self, servers: Servers) -> bool:
+        """Whether what happened to servers before has ended, and all answer, within a while."""
+        return self.tend_until(lambda: not any(each.is_of_server for each in self.later) and servers.are_up(), PART_MAX)
+
+    # What goes on meanwhile.
+
+    def do_later(self, seconds: float, do: Action, is_of_server: bool = False, is_begin: bool = False) -> None:
+        self.later.append(Later(time.monotonic() + seconds, do, is_of_server, is_begin))
+
+    def tend(self) -> None:
+        """Who has ended is begun again in a while, and what is due is done."""
+        for name, member in list(self.group.members.items()):
+            if member.poll() is not None:
+                self.statuses[self.group.members.pop(name).returncode] += 1
+                self.do_later(self.choice.uniform(0.0, BEGIN_MAX), partial(self.group.begin, name), is_begin=True)
+        due = [each for each in self.later if each.moment <= time.monotonic()]
+        self.later = [each for each in self.later if each not in due]
+        for each in due:
+            each.do()
+
+    def tend_until(self, find: Callable[[], _Found], seconds: float) -> _Found:
+        """Goes on until that finds something, for so long at most. What it found."""
+        end = time.monotonic() + seconds
+        while True:
+            self.tend()
+            found = find()
+            if found or time.monotonic() >= end:
+                return found
+            time.sleep(0.01)
+
+    def is_at_rest(self, settles: float = 0.0) -> bool:
+        """Whether all are there, and at rest for so long."""
+        if self.later or len(self.group.members) < len(self.names):
+            return False
+        return self.group.rest(settles, time.monotonic() + settles + SLICE) is not None
+
+    # All of it.
+
+    def run(self, seconds: float) -> None:
+        """Faults for so long; each kind once at least."""
+        self.group.come_to_rest('the begin', lambda: self.group.begin_all(self.names))
+        end, kinds = time.monotonic() + seconds, self.turns()
+        while time.monotonic() < end or time.monotonic() < end + PATIENCE and not all(map(self.happened.get, self.kinds)):
+            kind = next(kinds)
+            self.happened[kind] += self.kinds[kind]()
+            self.go_on()
+        self.end()
+
+    def turns(self) -> Iterator[str]:
+        """The kinds of faults, each once in each turn."""
+        while True:
+            yield from self.choice.sample(list(self.kinds), len(self.kinds))
+
+    def go_on(self) -> None:
+        """Up to the next fault: often the group may come to rest."""
+        begun = time.monotonic()
+        if self.choice.random() >= self.share:
+            self.tend_until(lambda: False, self.choice.random() * self.group.ttl)
+        elif self.tend_until(self.is_at_rest, REST_MAX):
+            self.rests.append(time.monotonic() - begun)
+        else:
+            self.without_rest += 1
+
+    def end(self) -> None:
+        """The trouble is over: the group comes to rest, and works."""
+        settled = self.tend_until(lambda: self.is_at_rest(SETTLED * self.group.ttl), PATIENCE)
+        self.group.count(settled, 'no rest behind the last fault')
+        self.group.count(self.group.goes_on(time.monotonic() + PATIENCE) is not None, 'no work behind the last fault')
+
+    def close(self) -> None:
+        """Nobody stays paused."""
+        for each in self.later:
+            if not each.is_begin:
+                each.do()
+
+    def judge(self) -> None:
+        """Each kind of fault has happened, no member failed of itself, and no unit was asked for by an old token."""
+        group = self.group
+        for kind in self.kinds:
+            group.count(self.happened[kind] > 0, f'{kind}: it never happened')
+        for status in self.statuses:
+            group.count(status in (1, -signal.SIGKILL), f'{self.statuses[status]} members ended with status {status}')
+        for file in sorted(group.folder.glob('*.said')):
+            group.count('Traceback' not in file.read_text(errors='replace'), f'{file.name} has a traceback')
+        old = group.work.faults('old')
+        group.count(not old, f'units by old tokens: {old[:5]}')
+        assert isinstance(group.work, Recorded)
+        group.count(group.work.close() == 0, 'the recorder failed')
+
+    def tell(self) -> None:
+        for kind in self.kinds:
+            print(f'{kind}: {self.happened[kind]} times')
+        ended = ', '.join(f'{count} with {status}' for status, count in sorted(self.statuses.items()))
+        print(f'members that ended and were begun again: {ended}')
+        print(f'at rest behind {len(self.rests)} faults{told_seconds("in", self.rests)}; in {self.without_rest} waits of {REST_MAX:g} s not')
+
+
+def waited(is_so: Callable[[], bool]) -> bool:
+    """Waits until that is so, for a while, and does nothing else: what is seen may pass. Whether it is."""
+    with suppress(AssertionError):
+        wait_until(is_so, PART_MAX)
+        return True
+    return False
+
+
+def resume(whom: Sequence[Process], there: Dict[str, Process]) -> None:
+    """They go on, and those who are there aren't looked at any more."""
+    send_all(whom, signal.SIGCONT)
+    close_all(there.values())
+
+
+Told = Tuple[str, int, int, int]  # what a worker tells, at a moment: its number, and a token
+
+# What workers tell of one partition, and which faults that is.
+CASES: Tuple[Tuple[str, Sequence[Told], Sequence[str]], ...] = (
+    ('one behind the other', [('begin', 1, 10, 5), ('end', 1, 20, 0), ('begin', 2, 30, 6)], []),
+    ('again by one worker', [('begin', 1, 10, 5), ('end', 1, 20, 0), ('begin', 1, 20, 5)], []),
+    ('two at once', [('begin', 1, 10, 5), ('begin', 2, 20, 6)], ['overlap']),
+    ('two at once by one token', [('begin', 1, 10, 5), ('begin', 2, 20, 5)], ['overlap']),
+    ('asked for before the other was over', [('begin', 1, 10, 5), ('end', 1, 30, 0), ('begin', 2, 20, 6)], ['overlap']),
+    ('the same of one that ended', [('begin', 1, 10, 5), ('end', 1, 30, 0), ('gone', 1, 0, 0), ('begin', 2, 20, 6)], ['overlap']),
+    ('behind a worker that ended', [('begin', 1, 10, 5), ('gone', 1, 0, 0), ('begin', 2, 20, 6)], []),
+    ('by an old token', [('begin', 1, 10, 6), ('end', 1, 20, 0), ('begin', 2, 30, 5)], ['old']),
+    ('by an old token at once', [('begin', 1, 10, 6), ('begin', 2, 20, 5)], ['old']),
+)
+
+
+def faults_of(told: Sequence[Told]) -> List[str]:
+    """The kinds of faults that a record finds."""
+    record, found = Record(), []
+    for word, worker, moment, token in told:
+        if word == 'begin':
+            found += [fault.kind for fault in record.begin(worker, Unit('0', token, f'node of {worker}', moment))[1]]
+        elif word == 'end':
+            record.end(worker, moment)
+        else:
+            record.gone(worker)
+    return found
+
+
+def see_faults(group: Group) -> None:
+    """A recorder that sees nothing would pass all: it is told of faults; and member and guard are paused for long, so nobody ends their worker."""
+    for case, told, faults in CASES:
+        group.count(faults_of(told) == faults, f'units {case}: {faults_of(told)}, and not {faults}')
+    group.come_to_rest('the begin', lambda: group.begin_all(NAMES[:2]))
+    there = family(group.members['a'].pid)
+    paused = [there['member'], there['guard']]
+    send_all(paused, signal.SIGSTOP)
+    group.count(waited(lambda: all(each.is_stopped for each in paused)), 'member and guard are not stopped')
+    is_seen = waited(lambda: bool(group.work.faults('overlap') or group.work.faults('old')))
+    group.count(is_seen, 'the recorder does not see that a worker works on which nobody ends')
+    resume(paused, there)
