@@ -781,7 +781,7 @@ def has_failed(case: unittest.TestCase) -> bool:
     """Whether the test tells that something is wrong: by an assertion, or since the log is damaged."""
     result = unittest.TestResult()
     case.run(result)
-    assert all('DamagedLog' in told for _, told in result.errors), result.errors
+    assert all('DamagedLog' in told or 'BadPresence' in told for _, told in result.errors), result.errors
     return not result.wasSuccessful()
 
 

@@ -200,10 +200,13 @@ class EtcdLog:
         self._client.begin()
         keys = self._keys
         *asked, there = self._look(one(keys.opening(epoch)), one(keys.next), one(keys.place)).ranges
-        see_end(self.address, self._end_of(there), Promise(epoch, place))
+        end, here = self._end_of(there), Promise(epoch, place)
+        see_end(self.address, end, here)
         found, wished = map(pairs_of, asked)
+        if not found or end != here:
+            return False
         wish = wish_of(self.address, epoch, wished[0].value if wished else None)
-        if not found or opening.bare != opening_of(self.address, epoch, found[0].value).after(wish):
+        if opening.bare != opening_of(self.address, epoch, found[0].value).after(wish):
             return False
         is_same = number_is(keys.next, 'mod_revision', wished[0].modified if wished else 0)
         return self._add(epoch, place, [*keys.begin(opening), removed(one(keys.next))], is_same)
