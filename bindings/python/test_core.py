@@ -41,8 +41,8 @@ class Numbers(unittest.TestCase):
         named = {name: int(number) for name, number in re.findall(r'\bBULLY_([A-Z_]+)(?: =)? (\d+)\b', text)}
         prefixes: Dict[Type[Enum], str] = {Ending: 'ENDING_', Until: 'UNTIL_', StoreAnswer: 'STORE_', Way: 'WORK_'}
         for kind, prefix in prefixes.items():
-            for number, each in enumerate(kind, 1):
-                self.assertEqual(named[prefix + each.name], number)
+            for number, name in enumerate(kind.__members__, 1):
+                self.assertEqual(named[prefix + name], number)
         self.assertEqual((named['TTL_MIN'], named['TTL_MAX']), (TTL_MIN, TTL_MAX))
 
 
@@ -56,7 +56,8 @@ class Settling(unittest.TestCase):
             self.assertEqual((replica.rows, replica.owned(1)), (0, None))
             replica.learn(settled('1 2'))
             self.assertEqual([replica.is_at_rest([1, 2], place) for place in (0, 11, 12)], [True, True, False])
-            self.assertEqual([replica.is_at_rest(present) for present in ([1], [2], [])], [False] * 3)
+            some: List[List[int]] = [[1], [2], []]
+            self.assertEqual([replica.is_at_rest(present) for present in some], [False] * 3)
             self.assertEqual((replica.owned(1), replica.owned(2, 11)), (Owned(12, (0,)), Owned(12, (1,))))
             self.assertEqual((replica.owned(1, 12), replica.owned(2, 0xFFFF_FFFF)), (None, None))
 
@@ -113,10 +114,11 @@ class Settling(unittest.TestCase):
 
     def test_refusals(self) -> None:
         with Replica(TWO) as replica:
-            for fault, present, old in (
+            cases: List[Tuple[Type[Exception], List[int], Optional[List[int]]]] = [
                 (bully.BadNode, [0], None), (bully.BadNode, [1, 3], [1]), (bully.TableLength, [1], [1]), (bully.TableLength, [1], []),
                 (bully.TableLength, [], [1, 1, 1]), (bully.TableOwner, [1], [1, 3]),
-            ):  # fmt: skip
+            ]  # fmt: skip
+            for fault, present, old in cases:
                 with self.subTest(present=present, old=old), self.assertRaises(fault):
                     replica.settle(present, old)
             for wrong in (-1, 65536):
@@ -305,8 +307,8 @@ class Stories(unittest.TestCase):
             ONE.epoch = 8  # type: ignore[misc]
         self.core.close()
         self.assertEqual((repr(self.core), self.core.is_closed), ('<Core closed>', True))
-        calls: List[Callable[[], object]] = [lambda: self.core.next(0), self.core.settlement, self.core.woke, self.core.close]
-        for closed in (*calls, lambda: self.core.place):
+        calls: List[Callable[[], object]] = [lambda: self.core.next(0), self.core.settlement, self.core.woke, self.core.close, lambda: self.core.place]
+        for closed in calls:
             with self.assertRaises(bully.Closed):
                 closed()
 

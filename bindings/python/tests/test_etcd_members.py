@@ -230,7 +230,8 @@ class Runs(OverEtcd):
             file.write_text(password)
         user = ['--user', 'member', '--ttl', '10']  # since to log in takes long
         self.make(user='member', password='member password')
-        for words, environment in (([], {PASSWORD: 'member password'}), (['--password-file', str(right)], {})):
+        cases: List[Tuple[List[str], Dict[str, str]]] = [([], {PASSWORD: 'member password'}), (['--password-file', str(right)], {})]
+        for words, environment in cases:
             with self.subTest(words=words):
                 member = self.begin('b', ['sh', '-c', BEGINS], *user, *words, **environment)
                 member.worker()
@@ -311,7 +312,8 @@ class Certificates(OverEtcd, WithCertificates):
         self.assertEqual((status, said.splitlines()[-1]), (0, 'crash,2'))
         self.assertTrue(check(said.encode()).is_lawful)
         other = ['--cacert', str(self.certificates / 'other.pem'), *words[2:]]
-        for fewer in ([], words[:2], words[2:], other):
+        cases: List[List[str]] = [[], words[:2], words[2:], other]
+        for fewer in cases:
             with self.subTest(words=fewer):
                 member = self.begin('b', ['sh', '-c', BEGINS], *fewer)
                 self.assertEqual(member.wait(), 4)
