@@ -16,7 +16,7 @@ from .settings import Settings
 from .values import EVENTS_MAX
 
 FIRST, LATEST = 1, 4_000_000_000  # of the epochs with which a log may begin
-HEADER = re.compile('bully,[12],[0-9]+,[0-9]+(,[0-9 ]*,(keep|clear))?')
+HEADER = re.compile('bully,[1-3],[0-9]+,[0-9]+(,[0-9 ]*,(keep|clear))?')
 LEAST = 22  # rows for each node: fewer than so many an epoch never may have
 SETTLEMENT = 11  # rows for each node: what settles a group has no more
 
@@ -41,7 +41,7 @@ class Token(int):
 
 
 def setup_of(header: str) -> Setup:
-    """The setup that a header tells, as `Setup.header` writes one. Raises ValueError."""
+    """The setup that a header of any version tells. Raises ValueError."""
     if HEADER.fullmatch(header) is None:
         raise ValueError(f'{header} is no header')
     _, _, nodes, partitions, *more = header.split(',')
