@@ -26,7 +26,7 @@ class Part(NamedTuple):
 
     words: Tuple[str, ...]
     behind: Tuple[str, ...] = ()
-    limit: int = 1800
+    limit: int = 3600
     makes: str = ''
 
 
@@ -38,10 +38,10 @@ PARTS = [
     Part(('tests/release/first_build',)),
     Part(('tests/build/try',)),
     Part(('bin/library', '--gated', 'LIBRARY'), ('bully_agent', 'bully_lines', 'bully_member', 'bully_simulator'), makes='LIBRARY'),
-    Part(('bindings/try', '--unpacked', 'LIBRARY'), ('LIBRARY',), 3600),
-    Part(('tests/release/try', 'LIBRARY', 'crates/bully/out/bully'), ('bully', 'LIBRARY'), 900),
-    Part(('tests/cluster/simulate',), ('bully', 'bully_simulator'), 600),
-    Part(('tests/hostile/memory',), ('bully_memory',), 600),
+    Part(('bindings/try', '--unpacked', 'LIBRARY'), ('LIBRARY',), 7200),
+    Part(('tests/release/try', 'LIBRARY', 'crates/bully/out/bully'), ('bully', 'LIBRARY'), 1800),
+    Part(('tests/cluster/simulate',), ('bully', 'bully_simulator'), 1800),
+    Part(('tests/hostile/memory',), ('bully_memory',), 1800),
     *CASES,
     *(Part(('tests/hostile/outside', part), ('bully',)) for part in ('requests', 'spoiled', 'annotated')),
 ]
