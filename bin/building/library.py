@@ -13,6 +13,7 @@ from typing import List
 from .crates import ROOT, Stopped, find_kit, read_crates, version_of_all, words_over_libraries
 from .kept import drop
 from .proving import Say, bring, build_all, crate_of
+from .running import all_jobs
 
 HEADER = ROOT / 'include' / 'bully.h'
 FILES = ('bully.h', 'libbully.a', 'libbully.so.0', 'libbully.so')
@@ -27,14 +28,14 @@ def must(words: List[str], folder: Path = ROOT) -> None:
 
 
 def archive_of(is_gated: bool, say: Say) -> Path:
-    """The proved functions, over what was built; or over the crates as the gate left them, which keeps the other cores busy, and the folders locked."""
+    """The proved functions, over what was built; or over the crates as the gate left them, which keeps the folders locked."""
     crates, kit = read_crates(), find_kit()
     crate = crate_of(crates, 'bully_c')
     if not is_gated:
         bring(crate.product, crates, crate, say, build_all)
         return crate.product
     drop(crate.product)
-    words = [*words_over_libraries(kit, crates, crate, 'rlib'), '--jobs', '1', '-o', str(crate.product)]
+    words = [*words_over_libraries(kit, crates, crate, 'rlib'), '--jobs', str(all_jobs()), '-o', str(crate.product)]
     must([f'{kit}/bin/rattle', 'build', *words], crate.folder)
     return crate.product
 

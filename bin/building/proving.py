@@ -64,11 +64,11 @@ class Building(NamedTuple):
 
 
 def chains(crates: Crates, crate: Crate) -> Dict[str, int]:
-    """Of each crate the lines of the longest chain of crates from it on up: the longest is guessed to take the longest."""
+    """Of each crate the lines of the longest chain of crates from it on up, and 1,000 for what each reads: a guess of how long it takes."""
     found: Dict[str, int] = {}
     for name in reversed(crate.all):
         above = max((lines for upper, lines in found.items() if name in crates[upper].below), default=0)
-        found[name] = above + sum(path.read_bytes().count(b'\n') for path in sources_of(crates[name]))
+        found[name] = above + 1000 + sum(path.read_bytes().count(b'\n') for path in sources_of(crates[name]))
     return found
 
 

@@ -69,8 +69,8 @@ def become(words: Sequence[str]) -> NoReturn:
 def run_beside(
     needs: Mapping[str, Sequence[str]], rank: Callable[[str], Tuple[bool, int]], run: Callable[[str, int], bool], children: Children
 ) -> Iterator[str]:
-    """Does each task once those that it needs are done, those of higher rank first, and tells its name when it is done. The ready ones
-    share the free cores: `run` is given how many processes a task may use."""
+    """Does each task once those that it needs are done, those of higher rank first, and tells its name when it is done. `run` is given
+    how many processes a task may use: each of those that are ready one, and the first what is left of the free cores."""
     tasks, free = TopologicalSorter(needs), all_jobs()
     tasks.prepare()
     ready: List[str] = []
@@ -79,7 +79,7 @@ def run_beside(
         while tasks.is_active():
             ready = sorted([*ready, *tasks.get_ready()], key=rank)
             while ready and free:
-                name, processes = ready[-1], max(1, free // len(ready))
+                name, processes = ready[-1], max(1, free + 1 - len(ready))
                 under_way[pool.submit(run, ready.pop(), processes)] = name, processes
                 free -= processes
             for ended in wait(under_way, return_when=FIRST_COMPLETED).done:
