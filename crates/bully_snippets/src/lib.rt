@@ -1,5 +1,5 @@
 //! The Rust of README.md, docs/USING.md and docs/NODE.md, so that the check reads it. `tests/snippets/compare` compares the texts: each
-//! file beside this one stands there whole.
+//! file beside this one stands there whole, or is named there.
 #![tactic(auto)]
 
 pub mod agents;
