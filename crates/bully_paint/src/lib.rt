@@ -4,6 +4,8 @@
 //! exactly what was written.
 #![tactic(auto)]
 
+ghost use Rattle.bully_paint.specs.Strokes.{PaintsWords};
+
 mod painted;
 mod pieces;
 mod wanted;
@@ -12,3 +14,9 @@ mod words;
 pub use painted::Painted;
 pub use wanted::wants_colours;
 pub use words::Word;
+
+/// The law of words. If nothing is held back, and no word goes on, what goes out of a word that has a colour, up to the byte that parts
+/// it from what follows, is the painting of that word and this byte, and then nothing is held back, either.
+pub fn words_painted()
+    ensures { PaintsWords }
+{}
