@@ -3,7 +3,7 @@ use Rattle.std.proofs.Common.{◌≡◌, ◌≢◌, ◌∙◌, ℕ, ◌+◌, ◌
 use Rattle.std.proofs.lemmas.Bool.Decides.{Decides-eqb, nat_tests}
 use Rattle.std.proofs.lemmas.List.{take_more}
 use Rattle.std.proofs.lemmas.Slice.Eq.{bytes_eq-Decides}
-use Rattle.std.specs.Io.KnownBytes.{Appends, Keeps}
+use Rattle.std.specs.Io.KnownBytes.{Appends, Keeps, append_known}
 use Rattle.std.specs.List.{list_any}
 use Rattle.std.specs.Str.{bytes_eq}
 use Rattle.bully_paint.specs.Strokes.{Brush, PaintsWords, Stroke, begins, begun, clean, goes_within, is_escape, is_front, joins, joins_title, passed, stroke, strokes}
@@ -243,16 +243,31 @@ goes-stroke : (a a' : Option (List ℕ)) (brush brush' now : Brush) (b : ℕ) (s
 goes-stroke a a' brush brush' now b s same is goes = subst (Goes a a' brush') (sym is ∙ ap (λ (x : Brush). stroke x b) same) goes
 
 -- the byte is held back
-pub goes-held : (a0 a1 a2 : Option (List ℕ)) (brush0 brush1 brush2 : Brush) (b : ℕ) → Keeps a0 a1 → brush1 ≡ brush0 → joins brush1 b ≡ true
-    → Goes a1 a2 brush2 (record { out = []; brush = record brush1 { held = brush1.held ++ b ∷ [] } }) → Goes a0 a2 brush2 (stroke brush0 b)
-goes-held a0 a1 a2 brush0 brush1 brush2 b kept same joined goes =
-    goes-stroke a0 a2 brush0 brush2 brush1 b _ same (stroke-joins brush1 b joined) (keeps_appends a0 a1 a2 [] kept goes.0, goes.1)
+pub goes-held : (a a' : Option (List ℕ)) (brush brush' : Brush) (b : ℕ) → joins brush b ≡ true → Goes a a' brush' (record { out = []; brush = record brush { held = brush.held ++ b ∷ [] } })
+    → Goes a a' brush' (stroke brush b)
+goes-held a a' brush brush' b joined goes = subst (Goes a a' brush') (sym (stroke-joins brush b joined)) goes
 
 -- an article goes out
-pub goes-titled : (a0 a1 a2 : Option (List ℕ)) (brush0 brush1 brush2 : Brush) (b : ℕ) → Keeps a0 a1 → brush1 ≡ brush0 → joins brush1 b ≡ false → joins_title brush1.held b ≡ true
-    → Goes a1 a2 brush2 (record { out = codes "the "; brush = record brush1 { held = drop 4 brush1.held ++ b ∷ [] } }) → Goes a0 a2 brush2 (stroke brush0 b)
-goes-titled a0 a1 a2 brush0 brush1 brush2 b kept same none joined goes =
-    goes-stroke a0 a2 brush0 brush2 brush1 b _ same (stroke-titled brush1 b none joined) (keeps_appends a0 a1 a2 (codes "the ") kept goes.0, goes.1)
+pub goes-titled : (a a' : Option (List ℕ)) (brush brush' : Brush) (b : ℕ) → joins brush b ≡ false → joins_title brush.held b ≡ true
+    → Goes a a' brush' (record { out = codes "the "; brush = record brush { held = drop 4 brush.held ++ b ∷ [] } }) → Goes a a' brush' (stroke brush b)
+goes-titled a a' brush brush' b none joined goes = subst (Goes a a' brush') (sym (stroke-titled brush b none joined)) goes
+
+-- behind what kept all
+pub goes-behind : (a0 a1 a2 : Option (List ℕ)) (brush0 brush1 brush2 : Brush) (b : ℕ) → Keeps a0 a1 → brush1 ≡ brush0 → Goes a1 a2 brush2 (stroke brush1 b) → Goes a0 a2 brush2 (stroke brush0 b)
+goes-behind a0 a1 a2 brush0 brush1 brush2 b kept same goes =
+    goes-stroke a0 a2 brush0 brush2 brush1 b (stroke brush1 b) same refl (keeps_appends a0 a1 a2 (stroke brush1 b).out kept goes.0, goes.1)
+
+-- what is next, where nothing was
+pub appends-queued : (a : Option (List ℕ)) (queue out : List ℕ) → queue ≡ [] → Appends (append_known a queue) (append_known a out) out
+appends-queued None queue out none = tt
+appends-queued (Some xs) queue out none = ap (λ (l : List ℕ). l ++ out) (sym (ap (λ (q : List ℕ). xs ++ q) none ∙ append-nil xs))
+
+-- what was written, where nothing is next
+pub appends-sent : (a b : Option (List ℕ)) (queue sent : List ℕ) → queue ≡ [] → Appends a b sent → Appends (append_known a queue) (append_known b queue) sent
+appends-sent None b queue sent none h = tt
+appends-sent (Some xs) None queue sent none h = absurd h
+appends-sent (Some xs) (Some ys) queue sent none h =
+    ap (λ (q : List ℕ). ys ++ q) none ∙ append-nil ys ∙ h ∙ ap (λ (l : List ℕ). l ++ sent) (sym (ap (λ (q : List ℕ). xs ++ q) none ∙ append-nil xs))
 
 -- a word that was held back goes out
 abbrev pub released : Brush → ℕ → Stroke

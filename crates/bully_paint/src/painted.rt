@@ -5,7 +5,7 @@ ghost use Rattle.std.specs.Io.{WritesAtMost};
 ghost use Rattle.bully_paint.specs.Marks.{is_whole, unpainted};
 ghost use Rattle.bully_paint.specs.Strokes.{goes_within, joins, joins_title, passed};
 
-use crate::pieces::{ARTICLE, ending, put, title_in};
+use crate::pieces::{ARTICLE, ending, goes_within, put, title_in};
 use crate::words::{is_separator, longer};
 use std::io;
 use std::io::Write;
@@ -76,7 +76,7 @@ impl<W: Write + Drop> Painted<W> {
             return Ok(0);
         }
         let byte = bytes[0];
-        if self.holds(byte) || self.holds_title(byte) {
+        if self.goes_on(byte) {
             return Ok(1);
         }
         let out = ending(self.held, byte);
@@ -86,6 +86,21 @@ impl<W: Write + Drop> Painted<W> {
             return Ok(1);
         }
         self.pass(bytes)
+    }
+
+    // Whether the byte is held back, as it goes on with a word that may have a colour, or with one behind an article that is held back.
+    fn goes_on(&mut self, byte: u8) -> bool
+        requires queue { self.old.queue.now ≡ [] }
+        requires paints { self.old.paints ≡ true }
+        ensures held { result ≡ true → Appends (text_in self.old) (text_in self.new) (byte ∷ []) }
+        ensures free { result ≡ false → self.new ≡ self.old }
+        ensures painted { result ≡ true → Paints self.old self.new byte }
+        ensures other { result ≡ false → (joins (brush_of self.new) byte ≡ false) × (joins_title self.new.held.now byte ≡ false) }
+    {
+        if self.holds(byte) {
+            return true;
+        }
+        self.holds_title(byte)
     }
 
     // Whether the byte is held back, as it goes on with a word that may have a colour.
@@ -142,9 +157,7 @@ impl<W: Write + Drop> Painted<W> {
         ensures paints { self.new.paints ≡ true }
         ensures painted { GoesOut self.old self.new (record { out = out.now; brush = record { held = []; within = goes_within self.old.within self.old.held.now } }) }
     {
-        if let Some(last) = self.held.last() {
-            self.within = !is_separator(*last);
-        }
+        self.within = goes_within(self.within, self.held);
         self.queue = out;
         self.held = b"";
     }

@@ -1,6 +1,6 @@
 //! What goes out of what a writer holds back.
 ghost use Rattle.std.specs.Prelude.{◌≡◌, ◌++◌, ◌∷◌, [], true, false, codes, drop, IfSome, MatchOption, OnOk};
-ghost use Rattle.bully_paint.specs.Strokes.{joins_article};
+ghost use Rattle.bully_paint.specs.Strokes.{goes_within, joins_article};
 ghost use Rattle.std.specs.Io.KnownBytes.{Keeps, append_known};
 ghost use Rattle.bully_paint.specs.Words.{ending_of};
 
@@ -37,6 +37,16 @@ pub fn ending(front: &'static [u8], byte: u8) -> &'static [u8]
     match Word::named(front) {
         Some(word) => word.painting().as_bytes(),
         None => front,
+    }
+}
+
+/// Whether a word without a colour goes on behind these bytes, which went out; behind none it is as before.
+pub fn goes_within(within: bool, bytes: &[u8]) -> bool
+    ensures { result ≡ goes_within within bytes.now }
+{
+    match bytes.last() {
+        Some(last) => !is_separator(*last),
+        None => within,
     }
 }
 
