@@ -47,7 +47,7 @@ before-kept rows row number (Some s) stop' place is first other =
 before-kept rows row number None stop' place is first other = kept stop' (first refl)
   where
     kept : (new : Option Stop) → IsSomeAnd new (λ s. (s.number ≡ number) × (s.row ≡ row)) → rows_before new (rows ++ row ∷ []) ≡ rows
-    kept None is = absurd (cc is)
+    kept None is = absurd is
     kept (Some s) (same, says) =
         let size : s.number - 2 ≡ length rows = omega (arith, same, place) in
         ap (λ (n : ℕ). take n (rows ++ row ∷ [])) size ∙ take-append_seam rows (row ∷ [])

@@ -87,9 +87,10 @@ plan-own i table m = ap (λ (b : Bool). if b && (length table == m.room) then re
 
 -- ---- calls that ran
 
-pub halt-none : (caller row : ℕ) (call : Option Call) (moved : Bool) (memories : List Remembered) → call ≡ None → memories ≡ each_from 1 (with_halt caller call row moved) memories
-halt-none caller row call moved memories none =
-    sym (ap (λ (c : Option Call). each_from 1 (with_halt caller c row moved) memories) none ∙ each-stays 1 (with_halt caller None row moved) memories (λ j m. refl))
+pub halt-none : (caller row : ℕ) (given : Option Call) (moved : Bool) (memories : List Remembered) → ((call : Call) → given ≡ Some call → ⊥)
+    → memories ≡ each_from 1 (with_halt caller given row moved) memories
+halt-none caller row None moved memories none = sym (each-stays 1 (with_halt caller None row moved) memories (λ j m. refl))
+halt-none caller row (Some call) moved memories none = absurd (none call refl)
 
 pub halt-other : (caller row : ℕ) (given : Option Call) (call : Call) (moved : Bool) (memories : List Remembered) → given ≡ Some call → is_halt call.kind ≡ false
     → memories ≡ each_from 1 (with_halt caller given row moved) memories

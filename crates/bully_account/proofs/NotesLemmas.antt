@@ -46,7 +46,7 @@ notes-both : (kept here more : List Note) → notes_on (notes_on kept here) more
 notes-both kept [] more = refl
 notes-both kept (note ∷ here) more = notes-both (noted kept note) here more
 
-notes-last : (all here : List Note) → notes_on (last_notes all) here ≡ last_notes (all ++ here)
+pub notes-last : (all here : List Note) → notes_on (last_notes all) here ≡ last_notes (all ++ here)
 notes-last all [] = ap last_notes (sym (append-nil all))
 notes-last all (note ∷ here) =
     ap (λ (kept : List Note). notes_on kept here) (noted-last all note) ∙ notes-last (all ++ note ∷ []) here ∙ ap last_notes (append_assoc all (note ∷ []) here)

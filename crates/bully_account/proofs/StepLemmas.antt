@@ -1,5 +1,6 @@
 -- What the rows that were taken say of their worlds, and what a start leaves.
-use Rattle.std.proofs.Common.{◌≡◌, ℕ, ◌+◌, List, [], Some, None, length, refl, sym, subst, IsSome, option_map, ⊤}
+use Rattle.std.proofs.Common.{◌≡◌, ℕ, ◌+◌, List, [], Some, None, length, refl, sym, subst, IsSome, option_map}
+use Rattle.std.specs.Prelude.{⊤}
 use Rattle.bully_base.specs.Setup.{Setup}
 use Rattle.bully_calls.specs.declared.call.Answer.{Answer}
 use Rattle.bully_calls.specs.declared.event.Event.{Event}

@@ -1,5 +1,5 @@
 -- What goes out at each byte.
-use Rattle.std.proofs.Common.{◌≡◌, ◌≢◌, ◌∙◌, ℕ, ◌+◌, ◌-◌, ◌<◌, ◌≤◌, ◌==◌, ◌&&◌, ◌||◌, not, Bool, true, false, List, [], ◌∷◌, ◌++◌, Option, Some, None, append_assoc, append-nil, refl, sym, ap, subst, if◌then◌else◌, codes, drop, length, get_or, slice_get, take, zero, suc, length-append, arith}
+use Rattle.std.proofs.Common.{◌≡◌, ◌≢◌, ◌∙◌, ℕ, ◌+◌, ◌-◌, ◌<◌, ◌≤◌, ◌==◌, ◌&&◌, ◌||◌, not, Bool, true, false, List, [], ◌∷◌, ◌++◌, Option, Some, None, Result, Ok, Err, IfOk, append_assoc, append-nil, refl, sym, ap, subst, if◌then◌else◌, codes, drop, length, get_or, slice_get, take, zero, suc, length-append, arith}
 use Rattle.std.proofs.lemmas.Bool.Decides.{Decides-eqb, nat_tests}
 use Rattle.std.proofs.lemmas.List.{take_more}
 use Rattle.std.proofs.lemmas.Slice.Eq.{bytes_eq-Decides}
@@ -315,3 +315,8 @@ goes-passed a0 a1 a2 a3 a4 brush0 brush1 brush2 brush3 brush4 b kept same none t
     let all : Appends a0 a4 (out ++ (passed [] b).out) =
     keeps_appends a0 a1 a4 (out ++ (passed [] b).out) kept (appends-both a1 a3 a4 out (passed [] b).out (appends-kept a1 a2 a3 out goes.0 kept') more.0) in
     goes-stroke a0 a4 brush0 brush4 brush1 b _ same is (all, more.1)
+
+-- of a write that took one byte
+pub ok-goes : {E : Type 0} (r : Result ℕ E) (P Q : Type 0) → (P → Q) → IfOk r (λ count. count ≡ 1 → P) → IfOk r (λ count. count ≡ 1 → Q)
+ok-goes (Ok count) P Q more one = λ is. more (one is)
+ok-goes (Err e) P Q more one = tt

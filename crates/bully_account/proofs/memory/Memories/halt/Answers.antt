@@ -11,5 +11,5 @@ pub returns-else-is_halt-clause-halted : goal.returns-else-is_halt-clause-halted
 returns-else-is_halt-clause-halted c =
     halt-other c.args.caller c.args.row c.args.call c.in-Some.call c.args.moved c.args.self.now.nodes.items c.in-Some.is (search rules)
 
-pub returns-in-None-clause-halted : goal.returns-in-None-clause-halted
-returns-in-None-clause-halted c = halt-none c.args.caller c.args.row c.args.call c.args.moved c.args.self.now.nodes.items c.in-None.is
+pub returns-in_default-clause-halted : goal.returns-in_default-clause-halted
+returns-in_default-clause-halted c = halt-none c.args.caller c.args.row c.args.call c.args.moved c.args.self.now.nodes.items c.in_default.not-Some
