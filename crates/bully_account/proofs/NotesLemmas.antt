@@ -19,7 +19,7 @@ use Rattle.bully_account.specs.declared.memory.Note.{Note}
 use Rattle.bully_account.specs.declared.memory.What.{What}
 use Rattle.bully_account.specs.declared.moving.Moves.{Moves}
 use Rattle.bully_account.specs.Moving.{cuts_off, moves_in, own_move}
-use Rattle.bully_account.specs.Remembered.{Remembered, behind_event, last_notes, moved_by, noted, own_note, started_or, what_with, with_halt, with_note, with_own, with_plan, with_start}
+use Rattle.bully_account.specs.Remembered.{Remembered, behind_event, last_notes, moved_by, noted, own_note, started_or, what_with, with_halt, with_own, with_plan, with_start}
 use Rattle.bully_account.specs.RowsOf.{AreNotesAt, AreNotesFrom, AreNotesOf, IsNoteOf, halt_deed, halted_by, own_deed, started_as, what_in}
 use Rattle.bully_account.proofs.MovingLemmas.{call-behind, halt-moved, own-moved}
 use Rattle.bully_account.proofs.StepLemmas.{HasStarted}

@@ -1,5 +1,5 @@
 -- Which rows are remembered, behind one more row.
-use Rattle.std.proofs.Common.{◌≡◌, ◌≢◌, ◌∙◌, ◌⊎◌, inl, inr, ℕ, zero, suc, ◌+◌, ◌-◌, ◌<◌, ◌≤◌, ◌==◌, ◌&&◌, ◌++◌, Bool, true, false, List, [], ◌∷◌, Option, Some, None, MatchOption, length, refl, sym, ap, subst, arith, length-append, append_assoc, append-nil, IfSome, option_map, slice_get, if◌then◌else◌}
+use Rattle.std.proofs.Common.{◌≡◌, ◌∙◌, ◌⊎◌, inl, inr, ℕ, zero, suc, ◌+◌, ◌<◌, ◌≤◌, ◌==◌, ◌&&◌, ◌++◌, Bool, true, false, List, [], ◌∷◌, Option, Some, None, MatchOption, length, refl, sym, ap, subst, arith, length-append, append_assoc, append-nil, IfSome, option_map, slice_get, if◌then◌else◌}
 use Rattle.std.proofs.lemmas.Bool.Decides.{nat_tests}
 use Rattle.std.proofs.lemmas.Option.{same_Some}
 use Rattle.bully_base.specs.Setup.{Setup}
@@ -14,7 +14,7 @@ use Rattle.bully_account.specs.declared.moving.Moves.{Moves}
 use Rattle.bully_account.specs.Moving.{moves_in}
 use Rattle.bully_account.specs.Remembered.{Remembered, behind_event, each_from, last_notes, nothing_yet}
 use Rattle.bully_account.specs.RowsOf.{AreNotesAt, AreNotesBehind, AreNotesOf, AreRemembered, IsBehind, IsEventAt, IsLastPlan, IsLastStart, IsRemembered, IsRowAt, event_in}
-use Rattle.bully_account.proofs.NotesLemmas.{behind-later, fresh, fresh-notes, later, notes-last, notes-more, notes_on, planned_on, started_on}
+use Rattle.bully_account.proofs.NotesLemmas.{behind-later, fresh, fresh-notes, notes-last, notes-more, notes_on, planned_on, started_on}
 use Rattle.bully_account.proofs.StepLemmas.{behind-fits, has-started}
 
 -- ---- one more row

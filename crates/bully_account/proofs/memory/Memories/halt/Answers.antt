@@ -1,5 +1,4 @@
-use Rattle.std.proofs.Common.{◌∙◌, ◌≡◌, true, false, sym, rules}
-use Rattle.bully_world.specs.State.{is_halt}
+use Rattle.std.proofs.Common.{rules}
 use Rattle.bully_account.proofs.EachLemmas.{halt-none, halt-noted, halt-other}
 use Rattle.bully_account.proofs.memory.Memories.halt.Goals as goal
 

@@ -1,4 +1,3 @@
-use Rattle.std.proofs.Common.{sym, ap}
 use Rattle.bully_world.specs.State.{world_of}
 use Rattle.bully_account.proofs.EachLemmas.{more-none}
 use Rattle.bully_account.proofs.memory.Memories.take_more.Goals as goal
