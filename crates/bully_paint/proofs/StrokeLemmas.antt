@@ -1,5 +1,5 @@
 -- What goes out at each byte.
-use Rattle.std.proofs.Common.{◌≡◌, ◌≢◌, ◌∙◌, ℕ, ◌+◌, ◌-◌, ◌<◌, ◌≤◌, ◌==◌, ◌&&◌, ◌||◌, not, Bool, true, false, List, [], ◌∷◌, ◌++◌, Option, Some, None, Result, Ok, Err, IfOk, append_assoc, append-nil, refl, sym, ap, subst, if◌then◌else◌, codes, drop, length, get_or, slice_get, take, zero, suc, length-append, arith}
+use Rattle.std.proofs.Common.{◌≡◌, ◌∙◌, ℕ, ◌+◌, ◌<◌, ◌==◌, ◌||◌, not, Bool, true, false, List, [], ◌∷◌, ◌++◌, Option, Some, None, Result, Ok, Err, IfOk, append_assoc, append-nil, refl, sym, ap, subst, if◌then◌else◌, codes, drop, length, get_or, slice_get, take, zero, suc, length-append, arith}
 use Rattle.std.proofs.lemmas.Bool.Decides.{Decides-eqb, nat_tests}
 use Rattle.std.proofs.lemmas.List.{take_more}
 use Rattle.std.proofs.lemmas.Slice.Eq.{bytes_eq-Decides}
@@ -28,17 +28,19 @@ stroke-begun brush b is titled = rw (is, titled) refl
 -- ---- words
 
 -- what parts words is one of these
-one-of : (P : ℕ → Type 0) (b k : ℕ) (rest : Bool) → P k → (rest ≡ true → P b) → (b == k || rest) ≡ true → P b
-one-of P b k rest here more is = by_test (b == k) refl is
+one-of : (P : ℕ → Type 0) (b k : ℕ) (rest : Bool) → (rest ≡ true → P b) → P k → (rest || b == k) ≡ true → P b
+one-of P b k rest more here is = by_test rest refl is
   where
-    by_test : (t : Bool) → (b == k) ≡ t → (t || rest) ≡ true → P b
-    by_test true same is = let at : k ≡ b = grind (arith, nat_tests, same) in subst P at here
-    by_test false other is = more is
+    by_test : (t : Bool) → rest ≡ t → (t || b == k) ≡ true → P b
+    by_test true same is = more same
+    by_test false other is = let at : k ≡ b = grind (arith, nat_tests, is) in subst P at here
 
 separated : (P : ℕ → Type 0) (b : ℕ) → P 32 → P 10 → P 44 → P 58 → P 59 → P 40 → P 41 → is_separator b ≡ true → P b
 separated P b space line comma colon semicolon opening closing =
-    one-of P b 32 _ space (one-of P b 10 _ line (one-of P b 44 _ comma (one-of P b 58 _ colon (one-of P b 59 _ semicolon (one-of P b 40 _ opening (λ is.
-    let at : 41 ≡ b = grind (arith, nat_tests, is) in subst P at closing))))))
+    one-of P b 41 (b == 32 || b == 10 || b == 44 || b == 58 || b == 59 || b == 40)
+    (one-of P b 40 (b == 32 || b == 10 || b == 44 || b == 58 || b == 59)
+    (one-of P b 59 (b == 32 || b == 10 || b == 44 || b == 58)
+    (one-of P b 58 (b == 32 || b == 10 || b == 44) (one-of P b 44 (b == 32 || b == 10) (one-of P b 10 (b == 32) (one-of P b 32 false (λ is. absurd (cc is)) space) line) comma) colon) semicolon) opening) closing
 
 -- at this byte
 abbrev Ends : ℕ → Type 0
@@ -197,11 +199,11 @@ begins-test text front rest b first whole at = by_test (first == b) refl
 
 any-more : (test : Word → Bool) (words : List Word) (word : Word) → list_any test words ≡ false → test word ≡ false → list_any test (words ++ word ∷ []) ≡ false
 any-more test [] word none is = rw is refl
-any-more test (first ∷ words) word none is = by_test (test first) refl none
+any-more test (first ∷ words) word none is = by_test (test first) none (λ rest. any-more test words word rest is)
   where
-    by_test : (t : Bool) → test first ≡ t → (t || list_any test words) ≡ false → (test first || list_any test (words ++ word ∷ [])) ≡ false
-    by_test true at rest = absurd (cc rest)
-    by_test false at rest = rw at (any-more test words word rest is)
+    by_test : (t : Bool) → (t || list_any test words) ≡ false → (list_any test words ≡ false → list_any test (words ++ word ∷ []) ≡ false) → (t || list_any test (words ++ word ∷ [])) ≡ false
+    by_test true rest more = absurd (cc rest)
+    by_test false rest more = more rest
 
 any-at : (test : Word → Bool) (words : List Word) (i : ℕ) (d : Word) → i < length words → test (get_or words i d) ≡ true → list_any test words ≡ true
 any-at test [] i d within is = absurd (omega (arith, within))
@@ -257,6 +259,9 @@ pub goes-behind : (a0 a1 a2 : Option (List ℕ)) (brush0 brush1 brush2 : Brush) 
 goes-behind a0 a1 a2 brush0 brush1 brush2 b kept same goes =
     goes-stroke a0 a2 brush0 brush2 brush1 b (stroke brush1 b) same refl (keeps_appends a0 a1 a2 (stroke brush1 b).out kept goes.0, goes.1)
 
+pub brush-same : (within within' : Bool) → within ≡ within' → ◌≡◌ {A = Brush} (record { held = []; within = within }) (record { held = []; within = within' })
+brush-same within within' same = rw same refl
+
 -- what is next, where nothing was
 pub appends-queued : (a : Option (List ℕ)) (queue out : List ℕ) → queue ≡ [] → Appends (append_known a queue) (append_known a out) out
 appends-queued None queue out none = tt
@@ -279,8 +284,8 @@ begun-joins out within b is = rw is refl
 passed-behind : (out : List ℕ) (b : ℕ) → passed out b ≡ record { out = out ++ (passed [] b).out; brush = (passed [] b).brush }
 passed-behind out b = by_test (is_escape b)
   where
-    by_test : (t : Bool) → (if t then record { out = out ++ 27 ∷ 27 ∷ codes "[0m"; brush = record { held = []; within = true } } else record { out = out ++ b ∷ []; brush = record { held = []; within = not (is_separator b) } })
-        ≡ (let tail : Stroke = if t then record { out = 27 ∷ 27 ∷ codes "[0m"; brush = record { held = []; within = true } } else record { out = b ∷ []; brush = record { held = []; within = not (is_separator b) } } in
+    by_test : (t : Bool) → ◌≡◌ {A = Stroke} (if t then record { out = out ++ 27 ∷ 27 ∷ codes "[0m"; brush = record { held = []; within = true } } else record { out = out ++ b ∷ []; brush = record { held = []; within = not (is_separator b) } })
+        (let tail : Stroke = if t then record { out = 27 ∷ 27 ∷ codes "[0m"; brush = record { held = []; within = true } } else record { out = b ∷ []; brush = record { held = []; within = not (is_separator b) } } in
         record { out = out ++ tail.out; brush = tail.brush })
     by_test true = refl
     by_test false = refl

@@ -3,9 +3,12 @@ use Rattle.std.proofs.lemmas.Bool.Decides.{Decides-eqb}
 use Rattle.std.proofs.lemmas.Slice.Eq.{bytes_eq-Decides}
 use Rattle.std.specs.Option.{option_copied}
 use Rattle.std.specs.Prelude.{slice_get}
-use Rattle.bully_paint.proofs.StrokeLemmas.{begins-other, begins-test, begins-apart}
+use Rattle.bully_paint.proofs.StrokeLemmas.{begins-other, begins-test}
 use Rattle.bully_paint.proofs.WordLemmas.{next-read}
 use Rattle.bully_paint.proofs.words.is_next.Goals as goal
+
+pub returns-in_default-clause-begins : goal.returns-in_default-clause-begins
+returns-in_default-clause-begins c = sym (begins-other c.args.text.now c.args.front.now c.args.byte c.in_default.ensures.cases)
 
 pub returns-in-Some-first-clause-next : goal.returns-in-Some-first-clause-next
 returns-in-Some-first-clause-next c = λ test.

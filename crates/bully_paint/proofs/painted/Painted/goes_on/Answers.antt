@@ -1,7 +1,6 @@
-use Rattle.std.proofs.Common.{◌≡◌, ◌∷◌, ◌∙◌, [], false, ap, refl, subst, sym}
-use Rattle.std.specs.Io.KnownBytes.{Appends}
-use Rattle.bully_paint.specs.Painted.{brush_of, out_of, text_in}
-use Rattle.bully_paint.specs.Strokes.{joins, joins_title}
+use Rattle.std.proofs.Common.{◌≡◌, ◌∙◌, false, ap, refl, sym}
+use Rattle.bully_paint.specs.Painted.{brush_of, out_of}
+use Rattle.bully_paint.specs.Strokes.{joins}
 use Rattle.bully_paint.proofs.StrokeLemmas.{goes-behind, goes-held, goes-titled}
 use Rattle.bully_paint.proofs.TextLemmas.{keeps_refl, keeps_same}
 use Rattle.bully_paint.proofs.painted.Painted.goes_on.Goals as goal

@@ -1,4 +1,4 @@
-use Rattle.std.proofs.Common.{◌<◌, ◌∙◌, List, ℕ, ap, get_or, length, refl, subst, sym, arith}
+use Rattle.std.proofs.Common.{◌<◌, ◌∙◌, [], List, ℕ, ap, get_or, length, refl, subst, sym, arith}
 use Rattle.std.proofs.lemmas.Bool.Decides.{nat_tests}
 use Rattle.bully_paint.specs.Painted.{brush_of, out_of, text_in}
 use Rattle.bully_paint.specs.Strokes.{goes_within}
@@ -31,7 +31,7 @@ returns-then-holds-clause-painted g c = λ one.
     (brush_of first) (brush_of here) (brush_of c.release.new.self) (brush_of c.drain-2.new.self) (brush_of c.holds.new.self) b
     (keeps_same out_of first c.drain.new.self here c.in_ok-drain.ensures.out same) (ap brush_of same ∙ c.in_ok-drain.ensures.brush) other.0 other.1
     (subst (λ (out : List ℕ). Goes (out_of here) (out_of c.release.new.self) (brush_of c.release.new.self) (record { out = out; brush = record { held = []; within = goes_within here.within here.held.now } }))
-    c.ending-out.ensures c.release.ensures.painted)
+    c.ending-out.ensures.out c.release.ensures.painted)
     c.in_ok-drain-2.ensures.out c.in_ok-drain-2.ensures.brush (sym c.if-holds.ensures.joins) (c.if-holds.ensures.painted refl)
 
 pub returns-clause-bytes : goal.returns-clause-bytes
@@ -55,7 +55,7 @@ returns-clause-painted g c =
     (brush_of first) (brush_of here) (brush_of c.release.new.self) (brush_of c.drain-2.new.self) (brush_of c.pass.new.self) b
     (keeps_same out_of first c.drain.new.self here c.in_ok-drain.ensures.out same) (ap brush_of same ∙ c.in_ok-drain.ensures.brush) other.0 other.1
     (subst (λ (out : List ℕ). Goes (out_of here) (out_of c.release.new.self) (brush_of c.release.new.self) (record { out = out; brush = record { held = []; within = goes_within here.within here.held.now } }))
-    c.ending-out.ensures c.release.ensures.painted)
+    c.ending-out.ensures.out c.release.ensures.painted)
     (keeps_same out_of c.release.new.self c.drain-2.new.self c.holds.new.self c.in_ok-drain-2.ensures.out (c.if-holds.ensures.free refl))
     c.in_ok-drain-2.ensures.brush (sym c.if-holds.ensures.joins) goes)
     c.pass.ensures.painted

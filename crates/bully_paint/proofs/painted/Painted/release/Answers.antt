@@ -1,5 +1,4 @@
-use Rattle.std.proofs.Common.{refl}
-use Rattle.bully_paint.proofs.StrokeLemmas.{appends-queued}
+use Rattle.bully_paint.proofs.StrokeLemmas.{appends-queued, brush-same}
 use Rattle.bully_paint.proofs.TextLemmas.{painted-out}
 use Rattle.bully_paint.proofs.painted.Painted.release.Goals as goal
 
@@ -9,4 +8,4 @@ returns-clause-text g c =
 
 pub returns-clause-painted : goal.returns-clause-painted
 returns-clause-painted g c =
-    (appends-queued (g.W.Write.contents c.args.self.now.below) c.args.self.now.queue.now c.args.out.now c.requires.queue, ?)
+    (appends-queued (g.W.Write.contents c.args.self.now.below) c.args.self.now.queue.now c.args.out.now c.requires.queue, brush-same c.goes_within-self.result _ c.goes_within-self.ensures)
