@@ -1,5 +1,5 @@
 -- What goes out at each byte.
-use Rattle.std.proofs.Common.{◌≡◌, ◌∙◌, ℕ, ◌+◌, ◌<◌, ◌==◌, ◌||◌, not, Bool, true, false, List, [], ◌∷◌, ◌++◌, Option, Some, None, Result, Ok, Err, IfOk, append_assoc, append-nil, refl, sym, ap, subst, if◌then◌else◌, codes, drop, length, get_or, slice_get, take, zero, suc, length-append, arith}
+use Rattle.std.proofs.Common.{◌≡◌, ◌∙◌, ℕ, ◌+◌, ◌<◌, ◌≤◌, ◌==◌, ◌||◌, not, Bool, true, false, List, [], ◌∷◌, ◌++◌, Option, Some, None, Result, Ok, Err, IfOk, append_assoc, append-nil, refl, sym, ap, subst, if◌then◌else◌, codes, drop, length, get_or, slice_get, take, zero, suc, length-append, arith}
 use Rattle.std.proofs.lemmas.Bool.Decides.{Decides-eqb, nat_tests}
 use Rattle.std.proofs.lemmas.List.{take_more}
 use Rattle.std.proofs.lemmas.Slice.Eq.{bytes_eq-Decides}
@@ -325,3 +325,12 @@ goes-passed a0 a1 a2 a3 a4 brush0 brush1 brush2 brush3 brush4 b kept same none t
 pub ok-goes : {E : Type 0} (r : Result ℕ E) (P Q : Type 0) → (P → Q) → IfOk r (λ count. count ≡ 1 → P) → IfOk r (λ count. count ≡ 1 → Q)
 ok-goes (Ok count) P Q more one = λ is. more (one is)
 ok-goes (Err e) P Q more one = tt
+
+-- of one that took one byte at most
+pub goes-all : {E : Type 0} (r : Result ℕ E) (bytes : List ℕ) (a a' : Option (List ℕ)) (brush brush' : Brush) → IfOk r (λ n. n ≤ length bytes) → IfOk r (λ n. n ≤ 1)
+    → IfOk r (λ n. n ≡ 1 → Goes a a' brush' (stroke brush (get_or bytes 0 0))) → IfOk r (λ n. 0 < n → Goes a a' brush' (strokes brush (take n bytes)))
+goes-all (Err e) bytes a a' brush brush' fits one goes = tt
+goes-all (Ok zero) bytes a a' brush brush' fits one goes = λ some. absurd (omega (arith, some))
+goes-all (Ok (suc zero)) [] a a' brush brush' fits one goes = λ some. absurd (omega (arith, fits))
+goes-all (Ok (suc zero)) (b ∷ bytes) a a' brush brush' fits one goes = λ some. (subst (Appends a a') (sym (append-nil (stroke brush b).out)) (goes refl).0, (goes refl).1)
+goes-all (Ok (suc (suc n))) bytes a a' brush brush' fits one goes = λ some. absurd (omega (arith, one))

@@ -3,7 +3,7 @@ use Rattle.std.specs.Prelude.{◌≡◌, ℕ, List, [], ◌++◌, Option, Some, 
 use Rattle.std.specs.Io.KnownBytes.{Appends, append_known}
 use Rattle.std.specs.declared.io.Write.{Ghosts}
 use Rattle.bully_paint.specs.Marks.{is_whole, unpainted}
-use Rattle.bully_paint.specs.Strokes.{Brush, Stroke, stroke}
+use Rattle.bully_paint.specs.Strokes.{Brush, Stroke, stroke, strokes}
 use Rattle.bully_paint.specs.declared.painted.Painted.{Painted}
 
 -- the text of these bytes, if they are known and end in no mark, and then of those that are held back
@@ -32,5 +32,9 @@ module _ {W : Type 0} {g : Ghosts W} where
   GoesOut p q s = Appends (out_of p) (out_of q) s.out × (brush_of q ≡ s.brush)
 
   -- one more byte was written: its stroke went out
-  abbrev pub Paints : Painted W g → Painted W g → ℕ → Type 0
-  Paints p q b = GoesOut p q (stroke (brush_of p) b)
+  abbrev pub PaintsByte : Painted W g → Painted W g → ℕ → Type 0
+  PaintsByte p q b = GoesOut p q (stroke (brush_of p) b)
+
+  -- these bytes were written: the stroke of each went out
+  abbrev pub Paints : Painted W g → Painted W g → List ℕ → Type 0
+  Paints p q bytes = GoesOut p q (strokes (brush_of p) bytes)

@@ -1,5 +1,5 @@
 //! A writer that paints words.
-ghost use Rattle.std.specs.Prelude.{◌≡◌, ◌∷◌, ◌++◌, ◌<◌, [], true, false, codes, drop, length, slice_index, IfOk, OnOk};
+ghost use Rattle.std.specs.Prelude.{◌≡◌, ◌∷◌, ◌++◌, ◌<◌, ◌≤◌, [], true, false, codes, drop, length, slice_index, take, IfOk, OnOk};
 ghost use Rattle.std.specs.Io.KnownBytes.{Appends, Keeps, WriteAppends};
 ghost use Rattle.std.specs.Io.{WritesAtMost};
 ghost use Rattle.bully_paint.specs.Marks.{is_whole, unpainted};
@@ -31,7 +31,7 @@ pub struct Painted<W: Write + Drop> {
 }
 
 impl<W: Write + Drop> Painted<W> {
-    ghost use Rattle.bully_paint.specs.Painted.{GoesOut, Paints, brush_of, out_of, text_in, text_with};
+    ghost use Rattle.bully_paint.specs.Painted.{GoesOut, PaintsByte, brush_of, out_of, text_in, text_with};
 
     /// Writes to this writer, and paints if it is so. What that writer has already is text with marks, too.
     pub fn new(below: W, paints: bool) -> Painted<W>
@@ -69,7 +69,8 @@ impl<W: Write + Drop> Painted<W> {
         requires { self.old.paints ≡ true }
         ensures bound { WritesAtMost result bytes.now }
         ensures bytes { WriteAppends (text_in self.old) (text_in self.new) result bytes.now }
-        ensures painted { IfOk result (λ count. count ≡ 1 → Paints self.old self.new (slice_index bytes.now 0)) }
+        ensures one { IfOk result (λ count. count ≤ 1) }
+        ensures painted { IfOk result (λ count. count ≡ 1 → PaintsByte self.old self.new (slice_index bytes.now 0)) }
     {
         self.drain()?;
         if bytes.is_empty() {
@@ -94,7 +95,7 @@ impl<W: Write + Drop> Painted<W> {
         requires paints { self.old.paints ≡ true }
         ensures held { result ≡ true → Appends (text_in self.old) (text_in self.new) (byte ∷ []) }
         ensures free { result ≡ false → self.new ≡ self.old }
-        ensures painted { result ≡ true → Paints self.old self.new byte }
+        ensures painted { result ≡ true → PaintsByte self.old self.new byte }
         ensures other { result ≡ false → (joins (brush_of self.new) byte ≡ false) × (joins_title self.new.held.now byte ≡ false) }
     {
         if self.holds(byte) {
@@ -170,6 +171,7 @@ impl<W: Write + Drop> Painted<W> {
         requires paints { self.old.paints ≡ true }
         ensures bound { WritesAtMost result bytes.now }
         ensures bytes { WriteAppends (text_in self.old) (text_in self.new) result bytes.now }
+        ensures one { IfOk result (λ count. count ≤ 1) }
         ensures painted { IfOk result (λ count. count ≡ 1 → GoesOut self.old self.new (passed [] (slice_index bytes.now 0))) }
     {
         let byte = bytes[0];
@@ -195,7 +197,7 @@ impl<W: Write + Drop> Write for Painted<W> {
     fn write(&mut self, buf: &[u8]) -> io::Result<usize>
         ensures bound { WritesAtMost result buf.now }
         ensures bytes { WriteAppends (text_in self.old) (text_in self.new) result buf.now }
-        ensures painted { self.old.paints ≡ true → IfOk result (λ count. count ≡ 1 → Paints self.old self.new (slice_index buf.now 0)) }
+        ensures painted { self.old.paints ≡ true → IfOk result (λ count. 0 < count → Paints self.old self.new (take count buf.now)) }
     {
         if self.paints {
             self.paint(buf)
