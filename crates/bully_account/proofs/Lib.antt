@@ -1,6 +1,9 @@
 pub mod AccountLemmas
+pub mod EachLemmas
 pub mod LineLemmas
 pub mod MemoryLemmas
+pub mod MovingLemmas
+pub mod NotesLemmas
 pub mod PossibleLemmas
 pub mod RowsLemmas
 pub mod ShownLemmas

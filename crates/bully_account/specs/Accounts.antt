@@ -1,5 +1,5 @@
 -- What the rows of a trace came to.
-use Rattle.std.specs.Prelude.{◌≡◌, ℕ, List, length, Option, Some, None, IfSome, IsSomeAnd}
+use Rattle.std.specs.Prelude.{◌≡◌, ℕ, ◌-◌, List, length, take, Option, Some, None, IfSome, IsSomeAnd}
 use Rattle.bully_base.specs.Setup.{Setup}
 use Rattle.bully_rows.specs.declared.header.Header.{Header}
 use Rattle.bully_rows.specs.declared.trace.Row.{Row}
@@ -32,11 +32,16 @@ pub record IsAccount (judge : JudgeState) (stop : Option Stop) (memories : List 
   pub stops : StopsAt judge.stopped stop
   pub count : length memories ≡ judge.world.setup.nodes
 
--- the account of these rows: the judge took them, the row that decided is one of them, and what is remembered is of them
+-- the rows before the one that decided; all of them where none did
+abbrev pub rows_before : Option Stop → List Row → List Row
+rows_before None rows = rows
+rows_before (Some stop) rows = take (stop.number - 2) rows
+
+-- the account of these rows: the judge took them, the row that decided is one of them, and what is remembered is that of the rows before it
 pub record HasTaken (setup : Setup) (rows : List Row) (account : AccountState) : Type 0 where
   pub judged : HasJudged setup rows account.judge
   pub decided : IfSome account.stop (λ s. IsRowAt rows s.number s.row)
-  pub remembered : AreRemembered setup rows 1 account.memories
+  pub remembered : AreRemembered setup (rows_before account.stop rows) 1 account.memories
 
 -- the same of the rows of a trace with this header
 abbrev pub HasTakenBehind : Header → List Row → AccountState → Type 0

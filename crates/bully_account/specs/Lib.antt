@@ -1,5 +1,6 @@
 pub mod Possible
 pub mod NodeSummary
+pub mod Moving
 pub mod Remembered
 pub mod RowsOf
 pub mod Accounts

@@ -1,21 +1,19 @@
--- Which rows of a trace are remembered of a node.
-use Rattle.std.specs.Prelude.{◌≡◌, ◌≢◌, ℕ, ◌+◌, ◌≤◌, List, [], ◌∷◌, ◌++◌, Option, Some, None, length, ⊤, IfSome, IsSome}
+-- Which rows of a trace are remembered of a node: the last ones that did something to it.
+use Rattle.std.specs.Prelude.{◌≡◌, ◌≢◌, ◌↔◌, ℕ, ◌+◌, ◌≤◌, ◌==◌, ◌&&◌, true, List, [], ◌∷◌, ◌++◌, Option, Some, None, length, map, All, ⊤, MatchOption, if◌then◌else◌}
 use Rattle.bully_base.specs.Setup.{Setup}
-use Rattle.bully_calls.specs.declared.call.CallKind.{CallKind}
+use Rattle.bully_calls.specs.declared.call.Call.{Call}
 use Rattle.bully_calls.specs.declared.event.Event.{Event}
 use Rattle.bully_calls.specs.Events.{kind_of, node_of}
-use Rattle.bully_world.specs.World.{World, first_world}
-use Rattle.bully_calls.specs.declared.kind.EventKind.{EventKind}
-use Rattle.bully_calls.specs.declared.kind.NodeEventKind.{NodeEventKind}
+use Rattle.bully_world.specs.State.{is_halt}
+use Rattle.bully_world.specs.World.{World, first_world, point}
 use Rattle.bully_rows.specs.declared.trace.Row.{Row}
 use Rattle.bully_rows.specs.EventsTold.{event_of_detailed}
 use Rattle.bully_trace.specs.declared.verdict.Verdict.{Verdict}
 use Rattle.bully_trace.specs.Details.{call_at}
 use Rattle.bully_trace.specs.Verdict.{IsJudged}
-use Rattle.bully_account.specs.declared.TheConstants.{ROWS_KEPT}
 use Rattle.bully_account.specs.declared.memory.Note.{Note}
 use Rattle.bully_account.specs.declared.memory.What.{What}
-use Rattle.bully_account.specs.Remembered.{Remembered}
+use Rattle.bully_account.specs.Remembered.{Remembered, last_notes}
 
 -- among these rows, of which the first has number 2, this one has this number
 pub record IsRowAt (rows : List Row) (number : ℕ) (row : Row) : Type 0 where
@@ -39,42 +37,85 @@ IsEventAt rows number e = (row : Row) × IsRowAt rows number row × (event_in ro
 abbrev pub IsBehind : Setup → List Row → World → Type 0
 IsBehind setup rows w = (count : ℕ) × IsJudged setup (first_world setup) 0 2 rows (Verdict.Lawful count) w
 
--- the row of this number is this one, and together with those before it leads to this world
-pub record IsTakenAt (setup : Setup) (rows : List Row) (number : ℕ) (row : Row) (w : World) : Type 0 where
-  pub at : IsRowAt rows number row
-  pub world : IsBehind setup (at.before ++ row ∷ []) w
+-- ---- what an event did to a node, w is the world behind it
 
--- it tells this event
-abbrev pub IsStepAt : Setup → List Row → ℕ → Event → World → Type 0
-IsStepAt setup rows number e w = (row : Row) × IsTakenAt setup rows number row w × (event_in row ≡ Some e)
+abbrev pub started_as : Option Call → List What
+started_as None = []
+started_as (Some call) = What.Started call ∷ []
 
--- a start has left a call in the slot of its node
-abbrev pub HasStarted : World → Event → Type 0
-HasStarted w (Event.Start i) = IsSome (call_at w i)
-HasStarted w e = ⊤
+-- to its own node: of a start which call that left in the slot, and else what the event is
+abbrev pub own_deed : World → Event → List What
+own_deed w (Event.Start i) = started_as (call_at w i)
+own_deed w e = What.Did (kind_of e) ∷ []
 
--- the event, behind which the world is this one, did this to node i: it is one of that node's, and no start; or it started the call
--- that is in that node's slot; or it is the run of another node's call, which is a Halt of node i
-abbrev pub IsDoneBy : World → ℕ → Event → What → Type 0
-IsDoneBy w i e (What.Did kind) = (node_of e ≡ i) × (kind_of e ≡ kind) × (kind ≢ EventKind.Node NodeEventKind.Start)
-IsDoneBy w i e (What.Started call) = (e ≡ Event.Start i) × (call_at w i ≡ Some call)
-IsDoneBy w i e (What.HaltedBy caller) = (e ≡ Event.Run caller) × (call_at w caller ≡ Some (record { callee = i; kind = CallKind.Halt }))
+abbrev pub halted_by : ℕ → ℕ → Option Call → List What
+halted_by i caller None = []
+halted_by i caller (Some call) = if is_halt call.kind && (i == call.callee) then What.HaltedBy caller ∷ [] else []
 
--- the note tells what the row of its number did to node i
-abbrev pub IsNoteOf : Setup → List Row → ℕ → Note → Type 0
-IsNoteOf setup rows i note = (e : Event) × (w : World) × IsStepAt setup rows note.row e w × IsDoneBy w i e note.what
+-- to node i, if it is the callee of a Halt that ran
+abbrev pub halt_deed : World → ℕ → Event → List What
+halt_deed w i (Event.Run caller) = halted_by i caller (call_at w caller)
+halt_deed w i e = []
 
-abbrev pub AreNotesOf : Setup → List Row → ℕ → List Note → Type 0
-AreNotesOf setup rows i [] = ⊤
-AreNotesOf setup rows i (note ∷ notes) = IsNoteOf setup rows i note × AreNotesOf setup rows i notes
+-- all that it did to node i
+abbrev pub deeds : World → ℕ → Event → List What
+deeds w i e = (if i == node_of e then own_deed w e else []) ++ halt_deed w i e
 
--- what is remembered of node i is of these rows: each note, of which there are no more than are kept, tells what a row did to it; the
--- row by which a call was started tells a start of the node, and the table is that of a plan of the node
+-- ---- the notes of rows
+
+abbrev pub what_in : Note → What
+what_in note = note.what
+
+-- the note is of the row of this number, which led from v to w, and has moved exactly if node i's point is another one behind it
+pub record IsNoteOf (v w : World) (number i : ℕ) (note : Note) : Type 0 where
+  pub row : note.row ≡ number
+  pub moved : (note.moved ≡ true) ↔ (point w i ≢ point v i)
+
+-- the notes say what the event of the row of this number did to node i, each thing once
+pub record AreNotesOf (v w : World) (number i : ℕ) (e : Event) (notes : List Note) : Type 0 where
+  pub what : map what_in notes ≡ deeds w i e
+  pub each : All (IsNoteOf v w number i) notes
+
+-- of the event of a row behind these
+abbrev pub AreNotesBehind : Setup → ℕ → List Row → Row → List Note → Event → Type 0
+AreNotesBehind setup i before row notes e =
+    (v : World) × (w : World) × IsBehind setup before v × IsBehind setup (before ++ row ∷ []) w × AreNotesOf v w (length before + 2) i e notes
+
+-- of a row behind these; none of a claim
+abbrev pub AreNotesAt : Setup → ℕ → List Row → Row → List Note → Type 0
+AreNotesAt setup i before row notes = MatchOption (event_in row) (notes ≡ []) (AreNotesBehind setup i before row notes)
+
+-- of all rows behind these, in their order
+abbrev pub AreNotesFrom : Setup → ℕ → List Row → List Row → List Note → Type 0
+AreNotesFrom setup i before [] notes = notes ≡ []
+AreNotesFrom setup i before (row ∷ rows) notes =
+    (here : List Note) × (others : List Note) × (notes ≡ here ++ others) × AreNotesAt setup i before row here × AreNotesFrom setup i (before ++ row ∷ []) rows others
+
+-- ---- what is remembered
+
+-- the row of this number is the last start of node i; none where no row is one
+abbrev pub IsLastStart : List Row → ℕ → Option ℕ → Type 0
+IsLastStart rows i started =
+    MatchOption started
+    ((number : ℕ) → IsEventAt rows number (Event.Start i) → ⊥)
+    (λ last. IsEventAt rows last (Event.Start i) × ((number : ℕ) → IsEventAt rows number (Event.Start i) → number ≤ last))
+
+-- the table is that of the last plan of node i; none where no row is one
+abbrev pub IsLastPlan : List Row → ℕ → Option (List ℕ) → Type 0
+IsLastPlan rows i planned =
+    MatchOption planned
+    ((number : ℕ) (table : List ℕ) → IsEventAt rows number (Event.Plan i table) → ⊥)
+    (λ table. (last : ℕ) × IsEventAt rows last (Event.Plan i table) × ((number : ℕ) (other : List ℕ) → IsEventAt rows number (Event.Plan i other) → number ≤ last))
+
+-- what is remembered of node i behind these rows, none of which decides: exactly the last of all its notes, in their order, the row of its
+-- last start, and the table of its last plan
 pub record IsRemembered (setup : Setup) (rows : List Row) (i : ℕ) (memory : Remembered) : Type 0 where
-  pub notes : AreNotesOf setup rows i memory.notes
-  pub few : length memory.notes ≤ ROWS_KEPT
-  pub started : IfSome memory.started (λ number. IsEventAt rows number (Event.Start i))
-  pub planned : IfSome memory.planned (λ table. (number : ℕ) × IsEventAt rows number (Event.Plan i table))
+  pub all : List Note
+  pub are : AreNotesFrom setup i [] rows all
+  pub notes : memory.notes ≡ last_notes all
+  pub started : IsLastStart rows i memory.started
+  pub planned : IsLastPlan rows i memory.planned
+  pub room : memory.room ≡ setup.partitions
 
 -- the same of the nodes from node i on, in rising order
 abbrev pub AreRemembered : Setup → List Row → ℕ → List Remembered → Type 0

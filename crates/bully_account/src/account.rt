@@ -1,9 +1,13 @@
-ghost use Rattle.std.specs.Prelude.{◌≡◌, ◌-◌, None, IfSome, IsSomeAnd};
+ghost use Rattle.std.specs.Prelude.{◌≡◌, ◌-◌, ◌≤◌, None, IfSome, IsSomeAnd};
 ghost use Rattle.bully_account.specs.Lines.{ends_line, start_line};
+ghost use Rattle.bully_account.specs.Moving.{moves_in};
+ghost use Rattle.bully_account.specs.RowsOf.{event_in};
+ghost use Rattle.bully_calls.specs.Events.{node_of};
+ghost use Rattle.bully_world.specs.State.{world_of};
 
 use crate::lines::{Lines, line_of};
 use crate::memory::Memories;
-use crate::moving::moves_point;
+use crate::moving::{Moves, moves_by, no_moves};
 use crate::showing::node_sheets;
 use crate::{Memory, NodeSheet};
 use bully_base::{Node, OutOfMemory};
@@ -45,14 +49,13 @@ impl Model for Account {
 impl Account {
     ghost use Rattle.std.specs.Prelude.{◌≡◌, ◌↔◌, ◌+◌, ◌-◌, ◌<◌, ◌++◌, ◌∷◌, [], List, length, IfOk, IfSome, IsNone, slice_get};
     ghost use Rattle.std.specs.Option.{option_copied};
-    ghost use Rattle.bully_account.specs.Accounts.{HasTaken, StopsAt};
+    ghost use Rattle.bully_account.specs.Accounts.{HasTaken, StopsAt, rows_before};
     ghost use Rattle.bully_account.specs.NodeSummary.{ShowsAll};
     ghost use Rattle.bully_account.specs.RowsOf.{IsRemembered, IsRowAt};
     ghost use Rattle.bully_base.specs.Setup.{Setup as SetupState};
     ghost use Rattle.bully_rows.specs.declared.trace.Row.{Row as RowState};
     ghost use Rattle.bully_trace.specs.Judging.{HasJudged};
     ghost use Rattle.bully_trace.specs.Verdict.{IsJudged};
-    ghost use Rattle.bully_world.specs.State.{world_of};
     ghost use Rattle.bully_world.specs.World.{first_world};
 
     /// An account behind this header, before any row. Refused where an allocation fails.
@@ -75,7 +78,7 @@ impl Account {
         ensures taken { (setup : SetupState) (before : List RowState) → length before + 2 ≡ rows.now.number → HasTaken setup before self.old → HasTaken setup (before ++ row ∷ []) self.new }
     {
         let number = rows.number();
-        let moves = moves_point_by(self.judge.world(), &row);
+        let moves = moves_of(self.judge.world(), &row);
         self.judge.take_row(number, &row);
         if self.judge.stopped().is_some() {
             keep(&mut self.stop, rows, rows.source(), rows.end(), row);
@@ -124,11 +127,12 @@ impl Account {
         self.stop.as_ref()
     }
 
-    /// What is remembered of the node's rows; none of a node that the group doesn't have.
+    /// What is remembered of the node's rows: of all that were taken, or of those before the one that decided. None of a node that the
+    /// group doesn't have.
     pub fn memory(&self, node: Node) -> Option<&Memory>
         ensures memory { option_copied result ≡ slice_get self.now.memories (node - 1) }
         ensures none { IsNone result ↔ (self.now.judge.world.setup.nodes < node) }
-        ensures rows { (setup : SetupState) (rows : List RowState) → HasTaken setup rows self.now → IfSome result (λ memory. IsRemembered setup rows node memory.now) }
+        ensures rows { (setup : SetupState) (rows : List RowState) → HasTaken setup rows self.now → IfSome result (λ memory. IsRemembered setup (rows_before self.now.stop rows) node memory.now) }
     {
         self.memories.of(node)
     }
@@ -154,11 +158,13 @@ fn keep<R: Read + Drop>(
     *stop = Some(Stop { number, line, row });
 }
 
-// Whether the row takes its node to another point; none where that is seen behind it alone.
-fn moves_point_by(world: &World, row: &Row) -> Option<bool> {
+// Which nodes the row takes to another point, where it doesn't decide.
+fn moves_of(world: &World, row: &Row) -> Moves
+    ensures { IfSome (event_in row.now) (λ e. node_of e ≤ world.now.setup.nodes → result ≡ moves_in (world_of world.now) e) }
+{
     match row {
-        Row::Event(event) => moves_point(world, event),
-        Row::Detailed(event) => moves_point(world, &event.event()),
-        Row::Claim(_) | Row::Whole(_) => Some(false),
+        Row::Event(event) => moves_by(world, event),
+        Row::Detailed(event) => moves_by(world, &event.event()),
+        Row::Claim(_) | Row::Whole(_) => no_moves(),
     }
 }

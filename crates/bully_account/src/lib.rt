@@ -3,8 +3,8 @@
 //!
 //! It stands on bully_trace, whose judge decides, and on the crates below it. bully_explain, which makes the sheet of all this,
 //! relies on the verdict being that of `check`, on what is shown of a node being what the world before the row has of it, on the
-//! kinds of event that are listed as possible being those that nothing refuses, on what is remembered of a node being of its rows, and on
-//! nothing being told where a read fails. That each of its last rows is remembered is tested, and that `csv` tells where a row ends.
+//! kinds of event that are listed as possible being those that nothing refuses, on what is remembered of a node being its last rows, and
+//! on nothing being told where a read fails. That `csv` tells where a row ends is tested.
 #![tactic(auto)]
 
 mod account;

@@ -1,16 +1,12 @@
-ghost use Rattle.std.specs.Prelude.{◌≡◌, ◌+◌, ◌<◌, ◌≤◌, List, OnOk, remove, vec_capacity, vec_len};
-ghost use Rattle.bully_base.specs.Setup.{Setup as SetupState};
+ghost use Rattle.std.specs.Prelude.{◌≡◌, ◌+◌, ◌<◌, ◌≤◌, [], OnOk, remove, vec_capacity, vec_len};
 ghost use Rattle.bully_calls.specs.Events.{node_of};
-ghost use Rattle.bully_world.specs.World.{World as WorldView};
-ghost use Rattle.bully_rows.specs.declared.trace.Row.{Row as RowState};
-ghost use Rattle.bully_trace.specs.Details.{call_at};
-ghost use Rattle.bully_account.specs.Remembered.{noted};
-ghost use Rattle.bully_account.specs.RowsOf.{AreRemembered, HasStarted, IsDoneBy};
+ghost use Rattle.bully_account.specs.Remembered.{noted, what_with};
+ghost use Rattle.bully_account.specs.RowsOf.{AreRemembered};
 
-use crate::moving::is_idle;
+use crate::moving::{Moves, has_moved, is_halt};
 use crate::{EventKind, ROWS_KEPT};
 use bully_base::{Node, OutOfMemory, Setup};
-use bully_calls::{Call, CallKind, NodeEventKind};
+use bully_calls::{Call, NodeEventKind};
 use bully_rows::Row;
 use bully_table::{Table, TableRoom};
 use bully_trace::call_at;
@@ -35,7 +31,7 @@ pub struct Note {
     /// The number of the row, from 2.
     pub row: u32,
     pub what: What,
-    /// Whether the node's point is another one since.
+    /// Whether the row took the node to another point.
     pub moved: bool,
 }
 
@@ -64,11 +60,11 @@ impl Model for Memory {
 impl Memory {
     ghost use Rattle.std.specs.Prelude.{◌≡◌, ◌==◌, [], length, IfOk, Some, None, if◌then◌else◌};
     ghost use Rattle.std.specs.Option.{option_copied};
-    ghost use Rattle.bully_account.specs.Remembered.{noted};
+    ghost use Rattle.bully_account.specs.Remembered.{noted, nothing_yet};
 
     /// What is remembered before any row. It reserves all memory that it will need. Refused where an allocation fails.
     pub fn new(alloc: Global, setup: &Setup) -> Result<Memory, OutOfMemory>
-        ensures { IfOk result (λ m. m ≡ record { notes = []; started = None; planned = None; room = setup.now.partitions }) }
+        ensures { IfOk result (λ m. m ≡ nothing_yet setup.now.partitions) }
     {
         Ok(Memory {
             notes: Vec::with_capacity(alloc, ROWS_KEPT)?,
@@ -158,7 +154,7 @@ fn forget_first(notes: &mut Vec<Note>)
 
 // What the event did to its node, in whose slot this call is afterwards.
 fn what_of(event: &Event, call: Option<Call>) -> What
-    ensures { (w : WorldView) → HasStarted w event.now → call ≡ call_at w (node_of event.now) → IsDoneBy w (node_of event.now) event.now result }
+    ensures { result ≡ what_with event.now call }
 {
     match event {
         Event::Start(_) => match call {
@@ -176,16 +172,16 @@ pub struct Memories {
 }
 
 impl Memories {
-    ghost use Rattle.std.specs.Prelude.{◌-◌, ◌↔◌, ℕ, IfOk, IsNone, slice_get};
+    ghost use Rattle.std.specs.Prelude.{◌-◌, ◌↔◌, IfOk, IsNone, MatchOption, slice_get};
     ghost use Rattle.std.specs.Option.{option_copied};
-    ghost use Rattle.bully_calls.specs.declared.event.Event.{Event as EventState};
     ghost use Rattle.bully_world.specs.State.{world_of};
-    ghost use Rattle.bully_account.specs.RowsOf.{IsEventAt, IsNoteOf, IsStepAt, IsTakenAt};
+    ghost use Rattle.bully_account.specs.Remembered.{behind_event, each_from, with_halt, with_more, with_note, with_plan, with_start};
+    ghost use Rattle.bully_account.specs.RowsOf.{event_in};
 
     /// Before any row. Refused where an allocation fails.
     pub fn new(alloc: Global, setup: &Setup) -> Result<Memories, OutOfMemory>
         ensures count { IfOk result (λ m. vec_len m.nodes ≡ setup.now.nodes) }
-        ensures remembered { IfOk result (λ m. (s : SetupState) (rows : List RowState) → AreRemembered s rows 1 m.nodes.items) }
+        ensures remembered { IfOk result (λ m. AreRemembered setup.now [] 1 m.nodes.items) }
     {
         let mut nodes = Vec::with_capacity(alloc, usize::from(setup.nodes()))?;
         for _ in 0..setup.nodes() {
@@ -203,11 +199,12 @@ impl Memories {
         self.nodes.get(usize::from(node.number() - 1))
     }
 
-    /// Remembers the row of this number, which led to the world, and whether it took its node to another point; where that isn't
-    /// told, it did if the node isn't idle now. A Halt that ran is remembered of the callee, too, and a claim of nobody.
-    pub fn take_row(&mut self, world: &World, number: u32, row: &Row, moves: Option<bool>)
+    /// Remembers the row of this number, which led to the world, and which nodes it took to another point; where that isn't told of its
+    /// own, it did if the node isn't idle now. A Halt that ran is remembered of the callee, too, and a claim of nobody.
+    pub fn take_row(&mut self, world: &World, number: u32, row: &Row, moves: Moves)
         ensures count { vec_len self.new.nodes ≡ vec_len self.old.nodes }
-        ensures remembered { (setup : SetupState) (rows : List RowState) → IsTakenAt setup rows number row.now (world_of world.now) → AreRemembered setup rows 1 self.old.nodes.items → AreRemembered setup rows 1 self.new.nodes.items }
+        ensures taken { MatchOption (event_in row.now) (self.new.nodes.items ≡ self.old.nodes.items)
+            (λ e. node_of e ≤ world.now.setup.nodes → self.new.nodes.items ≡ each_from 1 (behind_event (world_of world.now) e number moves) self.old.nodes.items) }
     {
         match row {
             Row::Event(event) => self.take_event(world, number, event, moves),
@@ -217,44 +214,45 @@ impl Memories {
     }
 
     // Remembers the event of this row.
-    fn take_event(&mut self, world: &World, row: u32, event: &Event, moves: Option<bool>)
+    fn take_event(&mut self, world: &World, row: u32, event: &Event, moves: Moves)
         ensures count { vec_len self.new.nodes ≡ vec_len self.old.nodes }
-        ensures remembered { (setup : SetupState) (rows : List RowState) → IsStepAt setup rows row event.now (world_of world.now) → AreRemembered setup rows 1 self.old.nodes.items → AreRemembered setup rows 1 self.new.nodes.items }
+        ensures taken { node_of event.now ≤ world.now.setup.nodes → self.new.nodes.items ≡ each_from 1 (behind_event (world_of world.now) event.now row moves) self.old.nodes.items }
     {
         let node = event.node();
         if node.number() > world.setup().nodes() {
             return;
         }
-        let moved = match moves {
-            Some(moves) => moves,
-            None => !is_idle(world, node),
-        };
+        let moved = has_moved(moves.own, world, node);
         let call = call_at(world, node);
         let what = what_of(event, call);
         self.note(node, &Note { row, what, moved });
+        self.take_more(world, row, event, moves.callee);
+    }
+
+    // Remembers what the event of this row, which cuts a procedure off or not, changes beside its note.
+    fn take_more(&mut self, world: &World, row: u32, event: &Event, cuts: bool)
+        requires { node_of event.now ≤ world.now.setup.nodes }
+        ensures count { vec_len self.new.nodes ≡ vec_len self.old.nodes }
+        ensures more { self.new.nodes.items ≡ each_from 1 (with_more (world_of world.now) event.now row cuts) self.old.nodes.items }
+    {
         match event {
-            Event::Start(_) => self.start(node, row),
-            Event::Run(_) => {
-                let ran = call_at(world, node);
-                self.halt(node, ran, row);
-            }
-            Event::Plan(_, table) => self.plan(node, table),
+            Event::Start(node) => self.start(*node, row),
+            Event::Run(caller) => self.halt(*caller, call_at(world, *caller), row, cuts),
+            Event::Plan(node, table) => self.plan(*node, table),
             _ => {}
         }
     }
 
-    // The call of the caller, which is in its slot, ran in this row: a Halt stopped its callee.
-    fn halt(&mut self, caller: Node, call: Option<Call>, row: u32)
+    // The call of the caller, which is in its slot, ran in this row: a Halt stopped its callee, which it took to another point or not.
+    fn halt(&mut self, caller: Node, call: Option<Call>, row: u32, moved: bool)
         ensures count { vec_len self.new.nodes ≡ vec_len self.old.nodes }
-        ensures remembered { (setup : SetupState) (rows : List RowState) (w : WorldView) → IsStepAt setup rows row (EventState.Run caller) w → call ≡ call_at w caller
-            → AreRemembered setup rows 1 self.old.nodes.items → AreRemembered setup rows 1 self.new.nodes.items }
+        ensures halted { self.new.nodes.items ≡ each_from 1 (with_halt caller call row moved) self.old.nodes.items }
     {
         let Some(call) = call else {
             return;
         };
-        if let CallKind::Halt = call.kind {
+        if is_halt(call.kind) {
             let what = What::HaltedBy(caller);
-            let moved = true;
             self.note(call.callee, &Note { row, what, moved });
         }
     }
@@ -262,7 +260,7 @@ impl Memories {
     // One more row of the node.
     fn note(&mut self, node: Node, note: &Note)
         ensures count { vec_len self.new.nodes ≡ vec_len self.old.nodes }
-        ensures remembered { (setup : SetupState) (rows : List RowState) → IsNoteOf setup rows node note.now → AreRemembered setup rows 1 self.old.nodes.items → AreRemembered setup rows 1 self.new.nodes.items }
+        ensures noted { self.new.nodes.items ≡ each_from 1 (with_note node note.now) self.old.nodes.items }
     {
         let place = usize::from(node.number() - 1);
         if place < self.nodes.len() {
@@ -273,7 +271,7 @@ impl Memories {
     // The node started a call in this row.
     fn start(&mut self, node: Node, row: u32)
         ensures count { vec_len self.new.nodes ≡ vec_len self.old.nodes }
-        ensures remembered { (setup : SetupState) (rows : List RowState) → IsEventAt rows row (EventState.Start node) → AreRemembered setup rows 1 self.old.nodes.items → AreRemembered setup rows 1 self.new.nodes.items }
+        ensures started { self.new.nodes.items ≡ each_from 1 (with_start node row) self.old.nodes.items }
     {
         let place = usize::from(node.number() - 1);
         if place < self.nodes.len() {
@@ -284,7 +282,7 @@ impl Memories {
     // The node planned this table in some row.
     fn plan(&mut self, node: Node, table: &Table)
         ensures count { vec_len self.new.nodes ≡ vec_len self.old.nodes }
-        ensures remembered { (setup : SetupState) (rows : List RowState) (row : ℕ) → IsEventAt rows row (EventState.Plan node table.now) → AreRemembered setup rows 1 self.old.nodes.items → AreRemembered setup rows 1 self.new.nodes.items }
+        ensures planned { self.new.nodes.items ≡ each_from 1 (with_plan node table.now) self.old.nodes.items }
     {
         let place = usize::from(node.number() - 1);
         if place < self.nodes.len() {
@@ -296,7 +294,7 @@ impl Memories {
 // Appends what is remembered of one more node before any row.
 fn push_memory(alloc: Global, nodes: &mut Vec<Memory>, setup: &Setup) -> Result<(), OutOfMemory>
     ensures count { OnOk result (vec_len nodes.new ≡ vec_len nodes.old + 1) }
-    ensures remembered { OnOk result ((s : SetupState) (rows : List RowState) → AreRemembered s rows 1 nodes.old.items → AreRemembered s rows 1 nodes.new.items) }
+    ensures remembered { OnOk result (AreRemembered setup.now [] 1 nodes.old.items → AreRemembered setup.now [] 1 nodes.new.items) }
 {
     nodes.push(Memory::new(alloc, setup)?)?;
     Ok(())

@@ -1,3 +1,4 @@
+pub mod FullLemmas
 pub mod SaidLemmas
 pub mod SaysLemmas
 pub mod ShownLemmas

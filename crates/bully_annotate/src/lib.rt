@@ -4,6 +4,7 @@
 //! that was read.
 #![tactic(auto)]
 
+ghost use Rattle.bully_annotate.specs.InFull.{AnnotatedIsInFull, SaysEachCall};
 ghost use Rattle.bully_annotate.specs.Shown.{ShowsEachChange, ShowsNoMore, TellsTheVector};
 ghost use Rattle.bully_annotate.specs.Told.{AnnotatedHasEvents, AnnotatedIsTold};
 
@@ -14,6 +15,14 @@ mod seen;
 mod writing;
 
 pub use annotation::{Annotation, annotate};
+
+/// The law of what is said of calls. Of each Start, Run, Lose, Return and Drop that is possible in a world that a lawful list leads to it
+/// is said which call it is, and of a Run and a Return what was answered; so the annotated trace of a lawful one has no row of such an
+/// event that says less, and no claim of a part of a vector.
+pub fn calls_said()
+    ensures each { SaysEachCall }
+    ensures in_full { AnnotatedIsInFull }
+{}
 
 /// The law of what is shown behind an event. In a world that a lawful list leads to, an event that is possible changes the vector of
 /// one node at most, and behind it the vector of each node that it changed is shown, and no other one.

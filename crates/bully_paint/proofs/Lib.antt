@@ -1,4 +1,5 @@
 mod MarkLemmas
 mod SentLemmas
+mod StrokeLemmas
 mod TextLemmas
 mod WordLemmas

@@ -1,4 +1,5 @@
 pub mod Marks
+pub mod Words
+pub mod Strokes
 pub mod Painted
 pub mod Wanted
-pub mod Words

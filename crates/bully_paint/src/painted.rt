@@ -1,10 +1,11 @@
 //! A writer that paints words.
-ghost use Rattle.std.specs.Prelude.{◌≡◌, ◌∷◌, ◌<◌, [], true, false, length, OnOk};
+ghost use Rattle.std.specs.Prelude.{◌≡◌, ◌∷◌, ◌++◌, ◌<◌, ◌≤◌, [], true, false, codes, drop, length, slice_index, take, IfOk, OnOk};
 ghost use Rattle.std.specs.Io.KnownBytes.{Appends, Keeps, WriteAppends};
 ghost use Rattle.std.specs.Io.{WritesAtMost};
 ghost use Rattle.bully_paint.specs.Marks.{is_whole, unpainted};
+ghost use Rattle.bully_paint.specs.Strokes.{goes_within, joins, joins_title, passed};
 
-use crate::pieces::{ARTICLE, ending, put, title_in};
+use crate::pieces::{ARTICLE, ending, goes_within, put, title_in};
 use crate::words::{is_separator, longer};
 use std::io;
 use std::io::Write;
@@ -30,7 +31,7 @@ pub struct Painted<W: Write + Drop> {
 }
 
 impl<W: Write + Drop> Painted<W> {
-    ghost use Rattle.bully_paint.specs.Painted.{text_in, text_with};
+    ghost use Rattle.bully_paint.specs.Painted.{GoesOut, PaintsByte, brush_of, out_of, text_in, text_with};
 
     /// Writes to this writer, and paints if it is so. What that writer has already is text with marks, too.
     pub fn new(below: W, paints: bool) -> Painted<W>
@@ -53,6 +54,8 @@ impl<W: Write + Drop> Painted<W> {
         ensures empty { OnOk result (self.new.queue.now ≡ []) }
         ensures held { self.new.held.now ≡ self.old.held.now }
         ensures paints { self.new.paints ≡ true }
+        ensures out { Keeps (out_of self.old) (out_of self.new) }
+        ensures brush { brush_of self.new ≡ brush_of self.old }
     {
         let queue = self.queue;
         let (rest, result) = put(&mut self.below, queue);
@@ -66,13 +69,15 @@ impl<W: Write + Drop> Painted<W> {
         requires { self.old.paints ≡ true }
         ensures bound { WritesAtMost result bytes.now }
         ensures bytes { WriteAppends (text_in self.old) (text_in self.new) result bytes.now }
+        ensures one { IfOk result (λ count. count ≤ 1) }
+        ensures painted { IfOk result (λ count. count ≡ 1 → PaintsByte self.old self.new (slice_index bytes.now 0)) }
     {
         self.drain()?;
         if bytes.is_empty() {
             return Ok(0);
         }
         let byte = bytes[0];
-        if self.holds(byte) || self.holds_title(byte) {
+        if self.goes_on(byte) {
             return Ok(1);
         }
         let out = ending(self.held, byte);
@@ -84,12 +89,29 @@ impl<W: Write + Drop> Painted<W> {
         self.pass(bytes)
     }
 
+    // Whether the byte is held back, as it goes on with a word that may have a colour, or with one behind an article that is held back.
+    fn goes_on(&mut self, byte: u8) -> bool
+        requires queue { self.old.queue.now ≡ [] }
+        requires paints { self.old.paints ≡ true }
+        ensures held { result ≡ true → Appends (text_in self.old) (text_in self.new) (byte ∷ []) }
+        ensures free { result ≡ false → self.new ≡ self.old }
+        ensures painted { result ≡ true → PaintsByte self.old self.new byte }
+        ensures other { result ≡ false → (joins (brush_of self.new) byte ≡ false) × (joins_title self.new.held.now byte ≡ false) }
+    {
+        if self.holds(byte) {
+            return true;
+        }
+        self.holds_title(byte)
+    }
+
     // Whether the byte is held back, as it goes on with a word that may have a colour.
     fn holds(&mut self, byte: u8) -> bool
         requires queue { self.old.queue.now ≡ [] }
         requires paints { self.old.paints ≡ true }
         ensures held { result ≡ true → Appends (text_in self.old) (text_in self.new) (byte ∷ []) }
         ensures free { result ≡ false → self.new ≡ self.old }
+        ensures joins { result ≡ joins (brush_of self.old) byte }
+        ensures painted { result ≡ true → GoesOut self.old self.new (record { out = []; brush = record (brush_of self.old) { held = self.old.held.now ++ byte ∷ [] } }) }
     {
         if self.within || byte == ESCAPE {
             return false;
@@ -109,6 +131,8 @@ impl<W: Write + Drop> Painted<W> {
         requires paints { self.old.paints ≡ true }
         ensures held { result ≡ true → Appends (text_in self.old) (text_in self.new) (byte ∷ []) }
         ensures free { result ≡ false → self.new ≡ self.old }
+        ensures joins { result ≡ joins_title self.old.held.now byte }
+        ensures painted { result ≡ true → GoesOut self.old self.new (record { out = codes "the "; brush = record (brush_of self.old) { held = drop 4 self.old.held.now ++ byte ∷ [] } }) }
     {
         if byte == ESCAPE {
             return false;
@@ -132,10 +156,9 @@ impl<W: Write + Drop> Painted<W> {
         ensures text { Keeps (text_in self.old) (text_in self.new) }
         ensures held { self.new.held.now ≡ [] }
         ensures paints { self.new.paints ≡ true }
+        ensures painted { GoesOut self.old self.new (record { out = out.now; brush = record { held = []; within = goes_within self.old.within self.old.held.now } }) }
     {
-        if let Some(last) = self.held.last() {
-            self.within = !is_separator(*last);
-        }
+        self.within = goes_within(self.within, self.held);
         self.queue = out;
         self.held = b"";
     }
@@ -148,6 +171,8 @@ impl<W: Write + Drop> Painted<W> {
         requires paints { self.old.paints ≡ true }
         ensures bound { WritesAtMost result bytes.now }
         ensures bytes { WriteAppends (text_in self.old) (text_in self.new) result bytes.now }
+        ensures one { IfOk result (λ count. count ≤ 1) }
+        ensures painted { IfOk result (λ count. count ≡ 1 → GoesOut self.old self.new (passed [] (slice_index bytes.now 0))) }
     {
         let byte = bytes[0];
         if byte == ESCAPE {
@@ -164,11 +189,16 @@ impl<W: Write + Drop> Painted<W> {
 }
 
 impl<W: Write + Drop> Write for Painted<W> {
-    ghost use Rattle.bully_paint.specs.Painted.{IsSent, text_in};
+    ghost use Rattle.bully_paint.specs.Painted.{IsSent, Paints, text_in};
 
     ghost contents = { text_in };
 
-    fn write(&mut self, buf: &[u8]) -> io::Result<usize> {
+    /// Takes one byte at a time, if it paints, and lets out what that ends.
+    fn write(&mut self, buf: &[u8]) -> io::Result<usize>
+        ensures bound { WritesAtMost result buf.now }
+        ensures bytes { WriteAppends (text_in self.old) (text_in self.new) result buf.now }
+        ensures painted { self.old.paints ≡ true → IfOk result (λ count. 0 < count → Paints self.old self.new (take count buf.now)) }
+    {
         if self.paints {
             self.paint(buf)
         } else {

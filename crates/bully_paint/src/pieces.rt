@@ -1,5 +1,6 @@
 //! What goes out of what a writer holds back.
-ghost use Rattle.std.specs.Prelude.{◌≡◌, ◌++◌, ◌∷◌, [], codes, IfSome, OnOk};
+ghost use Rattle.std.specs.Prelude.{◌≡◌, ◌++◌, ◌∷◌, [], true, false, codes, drop, IfSome, MatchOption, OnOk};
+ghost use Rattle.bully_paint.specs.Strokes.{goes_within, joins_article};
 ghost use Rattle.std.specs.Io.KnownBytes.{Keeps, append_known};
 ghost use Rattle.bully_paint.specs.Words.{ending_of};
 
@@ -39,9 +40,20 @@ pub fn ending(front: &'static [u8], byte: u8) -> &'static [u8]
     }
 }
 
+/// Whether a word without a colour goes on behind these bytes, which went out; behind none it is as before.
+pub fn goes_within(within: bool, bytes: &[u8]) -> bool
+    ensures { result ≡ goes_within within bytes.now }
+{
+    match bytes.last() {
+        Some(last) => !is_separator(*last),
+        None => within,
+    }
+}
+
 /// Behind an article in this front, the front of a word that the rest of it and this byte are, if they are one.
 pub fn title_in(front: &[u8], byte: u8) -> Option<&'static [u8]>
-    ensures { IfSome result (λ title. codes "the " ++ title.now ≡ front.now ++ byte ∷ []) }
+    ensures title { IfSome result (λ title. codes "the " ++ title.now ≡ front.now ++ byte ∷ []) }
+    ensures joins { MatchOption result (joins_article front.now byte ≡ false) (λ title. (joins_article front.now byte ≡ true) × (title.now ≡ drop 4 front.now ++ byte ∷ [])) }
 {
     longer(front.strip_prefix(ARTICLE)?, byte)
 }

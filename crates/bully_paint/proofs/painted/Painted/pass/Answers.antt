@@ -20,3 +20,9 @@ returns-then-count-gt0-clause-bytes g c =
     let most : n ≤ 1 = grind (arith, fits, size) in
     painted-sent c.args.self.now.paints _ _ c.args.self.now.queue.now c.args.self.now.held.now _ _ c.requires.paints c.requires.queue c.requires.held
     c.in_ok-count.ensures.bytes (front-whole bytes n c.requires.some other most) (front-text bytes n c.requires.some other most)
+
+pub returns-then-count-gt0-clause-one : goal.returns-then-count-gt0-clause-one
+returns-then-count-gt0-clause-one g c =
+    let size = length-take 1 c.args.bytes.now in
+    let fits = c.in_ok-count.ensures.bound in
+    grind (arith, fits, size)
