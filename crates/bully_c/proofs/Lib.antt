@@ -9,4 +9,4 @@ pub mod StepLemmas
 pub mod ReplyLemmas
 mod LogRowLemmas
 mod Heap
-mod LooseLemmas
+mod RawBoxLemmas

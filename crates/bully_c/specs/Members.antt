@@ -3,7 +3,7 @@ use Rattle.std.specs.Prelude.{◌≡◌, ◌⊎◌, ◌+◌, ◌<◌, ◌≤◌,
 use Rattle.bully_base.specs.Setup.{IsNode, Setup}
 use Rattle.bully_base.specs.declared.TheConstants.{NODES_MAX}
 use Rattle.bully_member.specs.Due.{due, noted}
-use Rattle.bully_member.specs.Learned.{RefusesTerms, followed, learned}
+use Rattle.bully_member.specs.Learned.{RefusesTerms, after_learning, followed}
 use Rattle.bully_member.specs.Member.{AllAreDown, MemberState, Rests, new_member, place_of, replica_of}
 use Rattle.bully_member.specs.Opening.{RefusesMember, member_fault, terms_fault}
 use Rattle.bully_member.specs.Settlement.{settlement}
@@ -13,15 +13,15 @@ use Rattle.bully_member.specs.declared.opening.Terms.{Terms}
 use Rattle.bully_member.specs.declared.values.Ending.{Ending}
 use Rattle.bully_member.specs.declared.values.Step.{Step}
 use Rattle.bully_member.specs.declared.values.StoreAnswer.{StoreAnswer}
-use Rattle.bully_replica.specs.Following.{FollowerState, FollowsUpTo, StopsAt}
-use Rattle.bully_replica.specs.declared.follower.FollowFault.{FollowFault}
+use Rattle.bully_replica.specs.RowReplica.{RowReplicaState, FollowsUpTo, StopsAt}
+use Rattle.bully_replica.specs.declared.row_replica.LearnFault.{LearnFault}
 use Rattle.bully_rows.specs.Headers.{Record}
 use Rattle.bully_rows.specs.Rows.{records_of}
 use Rattle.bully_rows.specs.declared.header.Header.{Header}
 use Rattle.bully_c.specs.Exports.{AtOpenOf, ShowsOf}
 use Rattle.bully_c.specs.MemberNumbers.{answer_numbered, member_number}
 use Rattle.bully_c.specs.MemberShown.{step_shown}
-use Rattle.bully_c.specs.Numbers.{follow_number}
+use Rattle.bully_c.specs.Numbers.{learn_number}
 use Rattle.bully_c.specs.OldTables.{AreOld, RefusesOld, old_given}
 use Rattle.bully_c.specs.Presences.{ArePresences, RefusesPresences, presence_given}
 use Rattle.bully_c.specs.Replicas.{IsHeaderAlone, RefusesHeader, has_end, has_mark, mark_number}
@@ -112,30 +112,30 @@ abbrev pub IsAnswer : (now number : ℕ) → MemberSession → ℕ → MemberSes
 IsAnswer now number = IsAnswerOf now (answer_numbered number)
 
 -- all that is left was learned, or why the first of it wasn't
-abbrev pub EndsAs : List Record → FollowerState → Result (Unit {0}) FollowFault → Type 0
+abbrev pub EndsAs : List Record → RowReplicaState → Result (Unit {0}) LearnFault → Type 0
 EndsAs left f (Ok done) = left ≡ []
 EndsAs left f (Err fault) = StopsAt left f fault
 
-abbrev pub learn_number : Result (Unit {0}) FollowFault → ℕ
+abbrev pub learn_number : Result (Unit {0}) LearnFault → ℕ
 learn_number (Ok done) = OK
-learn_number (Err fault) = follow_number fault
+learn_number (Err fault) = learn_number fault
 
 -- the rows of the text were learned up to the first that isn't
 pub record LearnsRows (text : List ℕ) (m : MemberState) (status : ℕ) (after : MemberState) : Type 0 where
-  pub told : Result (Unit {0}) FollowFault
+  pub told : Result (Unit {0}) LearnFault
   pub status_is : status ≡ learn_number told
   pub left : List Record
-  pub up : FollowsUpTo (records_of text) m.follower after.follower left
-  pub ends : EndsAs left after.follower told
-  pub is : after ≡ learned m after.follower told
+  pub up : FollowsUpTo (records_of text) m.learned after.learned left
+  pub ends : EndsAs left after.learned told
+  pub is : after ≡ after_learning m after.learned told
 
 -- ... and so many; nothing of a text without its end; nothing of one that begins with a mark, and then the member ends
 abbrev pub IsMemberLearning : List ℕ → ℕ → MemberSession → ℕ → MemberSession → Type 0
 IsMemberLearning text taken session status after =
     ((has_end text ≡ false) × (status ≡ ROW_END) × (taken ≡ 0) × (after ≡ session))
-    ⊎ ((has_end text ≡ true) × (has_mark text ≡ true) × (status ≡ mark_number session.member.follower) × (taken ≡ 0) × (after.member ≡ end_for session.member Ending.Broken session.member.ending))
+    ⊎ ((has_end text ≡ true) × (has_mark text ≡ true) × (status ≡ mark_number session.member.learned) × (taken ≡ 0) × (after.member ≡ end_for session.member Ending.Broken session.member.ending))
     ⊎ ((has_end text ≡ true) × (has_mark text ≡ false) × LearnsRows text session.member status after.member
-    × (after.member.follower.rows ≡ session.member.follower.rows + taken))
+    × (after.member.learned.rows ≡ session.member.learned.rows + taken))
 
 -- the last node that may be present in this epoch, so far as the member knows
 abbrev pub last_node : MemberState → (epoch : ℕ) → ℕ

@@ -12,7 +12,7 @@ use Rattle.bully_table.specs.declared.table.TableFault.{TableFault}
 use Rattle.bully_calls.specs.declared.event.Event.{Event}
 use Rattle.bully_calls.specs.declared.event.Refused.{Refused}
 use Rattle.bully_calls.specs.Events.{refusal_number}
-use Rattle.bully_replica.specs.declared.follower.FollowFault.{FollowFault}
+use Rattle.bully_replica.specs.declared.row_replica.LearnFault.{LearnFault}
 use Rattle.bully_trace.specs.declared.verdict.Violation.{Violation}
 
 abbrev pub setup_number : SetupFault → ℕ
@@ -54,10 +54,10 @@ header_number TraceCause.Read = 23
 header_number TraceCause.Write = 23
 
 -- of a row of a log that isn't learned
-abbrev pub follow_number : FollowFault → ℕ
-follow_number (FollowFault.Form cause) = trace_number cause
-follow_number (FollowFault.Violation (Violation.Refused why)) = refusal_number why
-follow_number (FollowFault.Violation Violation.Differs) = 53
+abbrev pub learn_number : LearnFault → ℕ
+learn_number (LearnFault.Form cause) = trace_number cause
+learn_number (LearnFault.Violation (Violation.Refused why)) = refusal_number why
+learn_number (LearnFault.Violation Violation.Differs) = 53
 
 -- the event of node i of this number, if it is one
 abbrev pub event_numbered : ℕ → ℕ → Option Event

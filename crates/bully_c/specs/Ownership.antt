@@ -12,7 +12,7 @@ abbrev pub may_free : Ty → Ptr → Fml
 may_free = ghosts.dealloc_token (record { memory = record { seal = tt } })
 
 -- null where there is no value, and else a box of the value
-abbrev pub loose_owns : (R : RattleType) → Ptr → Option R.Denot → Fml
-loose_owns R p (Some x) = box_owns may_free R p x
-loose_owns R null_ptr None = ftrue
-loose_owns R (block_ptr b o) None = ffalse
+abbrev pub raw_box_owns : (R : RattleType) → Ptr → Option R.Denot → Fml
+raw_box_owns R p (Some x) = box_owns may_free R p x
+raw_box_owns R null_ptr None = ftrue
+raw_box_owns R (block_ptr b o) None = ffalse

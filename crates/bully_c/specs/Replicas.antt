@@ -6,11 +6,11 @@ use Rattle.bully_base.specs.Setup.{IsNode, IsSetup, Setup}
 use Rattle.bully_calls.specs.declared.event.Event.{Event}
 use Rattle.bully_calls.specs.declared.event.Refused.{Refused}
 use Rattle.bully_agent.specs.Agent.{AgentState}
-use Rattle.bully_replica.specs.Following.{FollowerState, FollowsUpTo, StopsAt}
+use Rattle.bully_replica.specs.RowReplica.{RowReplicaState, FollowsUpTo, StopsAt}
 use Rattle.bully_replica.specs.LastPlan.{planner_in, table_in}
 use Rattle.bully_replica.specs.Next.{IsNext}
 use Rattle.bully_replica.specs.Replica.{ReplicaState, first_replica, token_of}
-use Rattle.bully_replica.specs.declared.follower.FollowFault.{FollowFault}
+use Rattle.bully_replica.specs.declared.row_replica.LearnFault.{LearnFault}
 use Rattle.bully_rows.specs.Headers.{Record, version_for}
 use Rattle.bully_rows.specs.Rows.{records_of, trace_of}
 use Rattle.bully_rows.specs.Trace.{headed}
@@ -22,33 +22,32 @@ use Rattle.bully_world.specs.State.{WorldState, cause_in, state_at}
 use Rattle.bully_c.specs.Arguments.{IsCopied, IsSetupRefusal}
 use Rattle.bully_c.specs.Exports.{AtOpenOf, ShowsOf, number_or_none, shown}
 use Rattle.bully_calls.specs.Events.{refusal_number}
-use Rattle.bully_c.specs.Numbers.{event_numbered, follow_number, trace_number}
-use Rattle.bully_c.specs.declared.logs.LogSession.{LogSession}
+use Rattle.bully_c.specs.Numbers.{event_numbered, learn_number, trace_number}
 use Rattle.bully_c.specs.declared.replicas.CGroup.{CGroup}
 use Rattle.bully_c.specs.declared.shown.CState.{CState}
 use Rattle.bully_c.specs.declared.status.TheConstants.{BAD_EVENT, BAD_HEADER, BAD_NODE, OK, OPEN, OUT_OF_MEMORY, ROW_END}
 
 -- ---- handles
 
-abbrev pub AtLog : (LogSession → ℕ → LogSession → Type 0) → Option LogSession → ℕ → Option LogSession → Type 0
-AtLog = AtOpenOf LogSession
+abbrev pub AtLog : (RowReplicaState → ℕ → RowReplicaState → Type 0) → Option RowReplicaState → ℕ → Option RowReplicaState → Type 0
+AtLog = AtOpenOf RowReplicaState
 
-abbrev pub ShowsLog : (LogSession → ℕ → Type 0) → LogSession → ℕ → LogSession → Type 0
-ShowsLog = ShowsOf LogSession
+abbrev pub ShowsLog : (RowReplicaState → ℕ → Type 0) → RowReplicaState → ℕ → RowReplicaState → Type 0
+ShowsLog = ShowsOf RowReplicaState
 
 -- the text is that of a header, and no row stands behind it
 abbrev pub IsHeaderAlone : List ℕ → Header → Type 0
 IsHeaderAlone text header = trace_of (records_of text) ≡ Ok (headed header [])
 
 -- the replica of a log with this header, before any row
-abbrev pub opened_log : Header → LogSession
-opened_log header = record { follower = record { replica = first_replica header; rows = 0 } }
+abbrev pub opened_log : Header → RowReplicaState
+opened_log header = record { replica = first_replica header; rows = 0 }
 
 -- why it isn't opened: there is no such header, or no memory
 abbrev pub RefusesHeader : List ℕ → ℕ → Type 0
 RefusesHeader text status = ((status ≡ BAD_HEADER) × ((header : Header) → ¬ IsHeaderAlone text header)) ⊎ (status ≡ OUT_OF_MEMORY)
 
-abbrev pub IsLogOpening : List ℕ → Option LogSession → ℕ → Option LogSession → Type 0
+abbrev pub IsLogOpening : List ℕ → Option RowReplicaState → ℕ → Option RowReplicaState → Type 0
 IsLogOpening text (Some session) status new = (status ≡ OPEN) × (new ≡ Some session)
 IsLogOpening text None status new =
     ((header : Header) × IsHeaderAlone text header × (status ≡ OK) × (new ≡ Some (opened_log header))) ⊎ (RefusesHeader text status × (new ≡ None))
@@ -68,53 +67,53 @@ has_end [] = true
 has_end (byte ∷ bytes) = ends_with same_byte (byte ∷ bytes) (10 ∷ [])
 
 -- all that is left was learned, or why the first of it wasn't
-abbrev pub EndsLearning : List Record → FollowerState → ℕ → Type 0
-EndsLearning left f status = ((status ≡ OK) × (left ≡ [])) ⊎ ((fault : FollowFault) × (status ≡ follow_number fault) × StopsAt left f fault)
+abbrev pub EndsLearning : List Record → RowReplicaState → ℕ → Type 0
+EndsLearning left f status = ((status ≡ OK) × (left ≡ [])) ⊎ ((fault : LearnFault) × (status ≡ learn_number fault) × StopsAt left f fault)
 
 -- a text that begins with a mark begins with no row, or with one that is too many
-abbrev pub mark_number : FollowerState → ℕ
+abbrev pub mark_number : RowReplicaState → ℕ
 mark_number f = if f.rows == ROWS_MAX then trace_number TraceCause.TooManyRows else trace_number TraceCause.BadRow
 
 -- the rows of the text were learned up to that one, so many of them; nothing of a text that begins with a mark, or without its end
-abbrev pub IsLearning : List ℕ → ℕ → LogSession → ℕ → LogSession → Type 0
+abbrev pub IsLearning : List ℕ → ℕ → RowReplicaState → ℕ → RowReplicaState → Type 0
 IsLearning text taken session status after =
     ((has_end text ≡ false) × (status ≡ ROW_END) × (taken ≡ 0) × (after ≡ session))
-    ⊎ ((has_end text ≡ true) × (has_mark text ≡ true) × (status ≡ mark_number session.follower) × (taken ≡ 0) × (after ≡ session))
-    ⊎ ((has_end text ≡ true) × (has_mark text ≡ false) × (left : List Record) × FollowsUpTo (records_of text) session.follower after.follower left
-    × (after.follower.rows ≡ session.follower.rows + taken) × EndsLearning left after.follower status)
+    ⊎ ((has_end text ≡ true) × (has_mark text ≡ true) × (status ≡ mark_number session) × (taken ≡ 0) × (after ≡ session))
+    ⊎ ((has_end text ≡ true) × (has_mark text ≡ false) × (left : List Record) × FollowsUpTo (records_of text) session after left
+    × (after.rows ≡ session.rows + taken) × EndsLearning left after status)
 
 -- ---- rows to be appended
 
 -- why the event isn't appended, if it isn't: the log has as many rows as a trace has at most, or the event is refused
-abbrev pub append_cause : FollowerState → Event → Option Refused
+abbrev pub append_cause : RowReplicaState → Event → Option Refused
 append_cause f e = if f.rows == ROWS_MAX then Some Refused.Full else cause_in f.replica.world e
 
 -- nothing refuses the event, and this is its line
-abbrev pub IsAllowedRow : FollowerState → Event → List ℕ → Type 0
+abbrev pub IsAllowedRow : RowReplicaState → Event → List ℕ → Type 0
 IsAllowedRow f e text = (append_cause f e ≡ None) × (text ≡ line_of (event_fields e))
 
 -- why there is no such row
-abbrev pub RefusesRow : FollowerState → Event → ℕ → Type 0
+abbrev pub RefusesRow : RowReplicaState → Event → ℕ → Type 0
 RefusesRow f e status = ((why : Refused) × (append_cause f e ≡ Some why) × (status ≡ refusal_number why)) ⊎ (status ≡ OUT_OF_MEMORY)
 
 -- the group has the node of this number
-abbrev pub HasNode : FollowerState → ℕ → Type 0
+abbrev pub HasNode : RowReplicaState → ℕ → Type 0
 HasNode f node = IsNode f.replica.world.setup node
 
 -- the row of what the node appends next, or nothing if it rests
-abbrev pub IsNextRow : FollowerState → ℕ → List ℕ → Type 0
+abbrev pub IsNextRow : RowReplicaState → ℕ → List ℕ → Type 0
 IsNextRow f node text = HasNode f node × (next : Option Event) × IsNext f.replica node next × MatchOption next (text ≡ []) (λ e. IsAllowedRow f e text)
 
-abbrev pub RefusesNext : FollowerState → ℕ → ℕ → Type 0
+abbrev pub RefusesNext : RowReplicaState → ℕ → ℕ → Type 0
 RefusesNext f node status =
     ((status ≡ BAD_NODE) × ¬ HasNode f node)
     ⊎ (HasNode f node × ((status ≡ OUT_OF_MEMORY) ⊎ ((next : Event) × IsNext f.replica node (Some next) × RefusesRow f next status)))
 
 -- the row of an event by its number
-abbrev pub IsEventRow : FollowerState → ℕ → ℕ → List ℕ → Type 0
+abbrev pub IsEventRow : RowReplicaState → ℕ → ℕ → List ℕ → Type 0
 IsEventRow f node number text = HasNode f node × (e : Event) × (event_numbered number node ≡ Some e) × IsAllowedRow f e text
 
-abbrev pub RefusesEvent : FollowerState → ℕ → ℕ → ℕ → Type 0
+abbrev pub RefusesEvent : RowReplicaState → ℕ → ℕ → ℕ → Type 0
 RefusesEvent f node number status =
     ((status ≡ BAD_NODE) × ¬ HasNode f node)
     ⊎ (HasNode f node × (event_numbered number node ≡ None) × (status ≡ BAD_EVENT))
@@ -157,7 +156,7 @@ up_in w node = reverse (state_at w node).vector.vector.up
 abbrev pub task_in : WorldState → ℕ → List ℕ
 task_in w node = unwrap_or (state_at w node).vector.vector.task []
 
-abbrev pub group_shown : FollowerState → CGroup
+abbrev pub group_shown : RowReplicaState → CGroup
 group_shown f =
     let r = f.replica in let s = r.world.setup in
     record { rows = f.rows; events = r.world.events; token = token_of r.last; planner = number_or_none (option_map planner_in r.last); nodes = s.nodes; partitions = s.partitions; keeps = if s.keeps then 1 else 0 }

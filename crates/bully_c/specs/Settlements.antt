@@ -2,7 +2,7 @@
 use Rattle.std.specs.Prelude.{◌≡◌, ◌⊎◌, ◌+◌, ◌≤◌, ◌↔◌, ℕ, List, [], Bool, Option, Some, None, All, IsTrue, length, map, if◌then◌else◌}
 use Rattle.bully_base.specs.Setup.{IsNode}
 use Rattle.bully_calls.specs.declared.event.Event.{Event}
-use Rattle.bully_replica.specs.Following.{FollowerState}
+use Rattle.bully_replica.specs.RowReplica.{RowReplicaState}
 use Rattle.bully_replica.specs.Replica.{ReplicaState}
 use Rattle.bully_rows.specs.TraceText.{rows_text}
 use Rattle.bully_rows.specs.declared.TheConstants.{ROWS_MAX}
@@ -27,19 +27,19 @@ abbrev pub events_text : List Event → List ℕ
 events_text events = rows_text (map Row.Event events)
 
 -- all of them are nodes of the group
-abbrev pub HasNodes : FollowerState → List ℕ → Type 0
+abbrev pub HasNodes : RowReplicaState → List ℕ → Type 0
 HasNodes f numbers = All (IsNode f.replica.world.setup) numbers
 
 -- what settles the group among these nodes, from the old table of these owners if the log has no plan
-abbrev pub settling_given : FollowerState → List ℕ → List ℕ → List Event
+abbrev pub settling_given : RowReplicaState → List ℕ → List ℕ → List Event
 settling_given f old set = settling_of f.replica (old_given f.replica.world.setup.nodes old) set
 
 -- the log has room for so many more events
-abbrev pub HasRoom : FollowerState → ℕ → Type 0
+abbrev pub HasRoom : RowReplicaState → ℕ → Type 0
 HasRoom f count = (f.replica.world.events + count ≤ f.replica.world.setup.events_max) × (f.rows + count ≤ ROWS_MAX)
 
 -- the rows of what settles the group among the nodes that are named
-pub record IsSettlementOf (f : FollowerState) (numbers old text : List ℕ) : Type 0 where
+pub record IsSettlementOf (f : RowReplicaState) (numbers old text : List ℕ) : Type 0 where
   pub nodes : HasNodes f numbers
   pub old_is : AreOld f.replica.world.setup old
   pub set : List ℕ
@@ -48,13 +48,13 @@ pub record IsSettlementOf (f : FollowerState) (numbers old text : List ℕ) : Ty
   pub room : HasRoom f (length (settling_given f old set))
 
 -- the log has no room for them
-pub record HasNoRoom (f : FollowerState) (numbers old : List ℕ) : Type 0 where
+pub record HasNoRoom (f : RowReplicaState) (numbers old : List ℕ) : Type 0 where
   pub set : List ℕ
   pub is : IsSetOf numbers set
   pub full : ¬ HasRoom f (length (settling_given f old set))
 
 -- why there are none
-abbrev pub RefusesSettlement : FollowerState → List ℕ → List ℕ → ℕ → Type 0
+abbrev pub RefusesSettlement : RowReplicaState → List ℕ → List ℕ → ℕ → Type 0
 RefusesSettlement f numbers old status =
     ((status ≡ BAD_NODE) × ¬ HasNodes f numbers)
     ⊎ (HasNodes f numbers × RefusesOld f.replica.world.setup old status)

@@ -17,7 +17,7 @@ ghost use Rattle.bully_c.specs.declared.session.StepRows.{StepRows as StepRowsSt
 use crate::handle::AgentHandle;
 use crate::session::AgentSession;
 use crate::shown::{CState, copy_owners, copy_text, copy_up, state_of};
-use crate::status::{self, CLOSED, OK, OPEN, OUT_OF_MEMORY, TABLE_LENGTH};
+use crate::status::{CLOSED, OK, OPEN, OUT_OF_MEMORY, TABLE_LENGTH, status_of_refusal};
 use crate::tables::{CSetup, node_of, put_owners, read_table, setup_of, table_of};
 use bully_agent::Agent;
 use bully_base::{Node, OutOfMemory, Setup};
@@ -33,7 +33,7 @@ fn done(taken: Result<Answer, Refused>) -> u32
 {
     match taken {
         Ok(_) => OK,
-        Err(why) => status::of_refusal(why),
+        Err(why) => status_of_refusal(why),
     }
 }
 

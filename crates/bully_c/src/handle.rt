@@ -2,7 +2,7 @@
 ghost use Rattle.std.specs.Prelude.{◌≡◌, Option, None, Some, MatchOption};
 ghost use Rattle.bully_c.specs.declared.session.AgentSession.{AgentSession};
 
-use crate::loose::Loose;
+use crate::raw_box::RawBox;
 use crate::session::AgentSession;
 use std::alloc::Global;
 use std::marker::Model;
@@ -16,22 +16,22 @@ pub struct AgentHandle {
 
 impl Model for AgentHandle {
     ghost use Rattle.std.specs.Prelude.{Option};
-    ghost use Rattle.bully_c.specs.Ownership.{loose_owns};
+    ghost use Rattle.bully_c.specs.Ownership.{raw_box_owns};
     ghost use Rattle.bully_c.specs.contracts.session.AgentSession.{the_row};
 
-    ghost also_owns = { λ h. loose_owns the_row h.at h.value };
+    ghost also_owns = { λ h. raw_box_owns the_row h.at h.value };
 }
 
 impl AgentHandle {
     // Puts `with` in the place of what the handle has.
-    fn swap(&mut self, with: Loose<AgentSession>) -> Loose<AgentSession>
+    fn swap(&mut self, with: RawBox<AgentSession>) -> RawBox<AgentSession>
         ensures now { self.new.value ≡ with.value }
         ensures before { result.value ≡ self.old.value }
     {
-        let Loose { at } = with;
+        let RawBox { at } = with;
         let before = self.at as *mut AgentSession;
         self.at = at as *mut u8;
-        Loose { at: before }
+        RawBox { at: before }
     }
 
     /// Takes what the handle has, and leaves it closed.
@@ -39,13 +39,13 @@ impl AgentHandle {
         ensures taken { MatchOption result (self.old.value ≡ None) (λ session. self.old.value ≡ Some session.value) }
         ensures closed { self.new.value ≡ None }
     {
-        self.swap(Loose::none()).into_box(alloc)
+        self.swap(RawBox::none()).into_box(alloc)
     }
 
     /// Puts this in, and drops what was there.
     pub fn put(&mut self, alloc: Global, session: Box<AgentSession>)
         ensures { self.new.value ≡ Some session.value }
     {
-        drop(self.swap(Loose::of(session)).into_box(alloc));
+        drop(self.swap(RawBox::of(session)).into_box(alloc));
     }
 }

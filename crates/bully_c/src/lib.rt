@@ -8,7 +8,6 @@
 mod agents;
 mod handle;
 mod logs;
-mod loose;
 mod member_handle;
 mod member_shown;
 mod member_told;
@@ -16,6 +15,7 @@ mod members;
 mod old_tables;
 mod openings;
 mod presences;
+mod raw_box;
 mod replica_handle;
 mod replicas;
 mod requests;

@@ -2,29 +2,26 @@
 ghost use Rattle.std.specs.Prelude.{◌≡◌, ◌≤◌, IfErr, IfOk, List, string_bytes};
 ghost use Rattle.bully_c.specs.Numbers.{header_number};
 ghost use Rattle.bully_c.specs.Replicas.{EndsLearning, IsAllowedRow, IsEventRow, IsHeaderAlone, IsLearning, IsNextRow, IsWritten, RefusesEvent, RefusesHeader, RefusesNext, RefusesRow, append_cause, has_end, has_mark, mark_number, opened_log};
-ghost use Rattle.bully_replica.specs.Following.{FollowsUpTo};
+ghost use Rattle.bully_replica.specs.RowReplica.{FollowsUpTo};
 ghost use Rattle.bully_rows.specs.Headers.{Record};
 ghost use Rattle.bully_rows.specs.Rows.{records_of};
 ghost use Rattle.bully_rows.specs.declared.header.Header.{Header as HeaderState};
 
 use crate::shown::copy_text;
-use crate::status::{self, BAD_EVENT, BAD_HEADER, OK, OUT_OF_MEMORY, ROW_END};
+use crate::status::{
+    BAD_EVENT, BAD_HEADER, OK, OUT_OF_MEMORY, ROW_END, event_of, status_of_learning, status_of_refusal,
+    status_of_trace,
+};
 use crate::tables::node_of;
 use bully_base::OutOfMemory;
-use bully_replica::Follower;
+use bully_replica::RowReplica;
 use bully_rows::{Header, ROWS_MAX, RowReader, TraceCause, push_event, read_trace};
 use bully_world::{Event, Refused};
 use std::alloc::Global;
 
-/// The replica of a log, and how many rows it learned.
-#[derive(Drop)]
-pub struct LogSession {
-    pub follower: Follower,
-}
-
 /// The replica of a log with the header of this text, on the heap. Refused if that is no header, if a row stands behind it,
 /// and if an allocation fails.
-pub fn opened(alloc: Global, text: &[u8]) -> Result<Box<LogSession>, u32>
+pub fn opened(alloc: Global, text: &[u8]) -> Result<Box<RowReplica>, u32>
     ensures ok { IfOk result (λ session. (header : HeaderState) × IsHeaderAlone text.now header × (session.value ≡ opened_log header)) }
     ensures err { IfErr result (RefusesHeader text.now) }
 {
@@ -48,12 +45,12 @@ pub fn header_in(alloc: Global, text: &[u8]) -> Result<Header, u32>
             }),
             false => Err(BAD_HEADER),
         },
-        Err(fault) => Err(of_header(fault.cause)),
+        Err(fault) => Err(status_of_header(fault.cause)),
     }
 }
 
 // Why a text is no header: of a bad row, a row stands behind it.
-fn of_header(cause: TraceCause) -> u32
+fn status_of_header(cause: TraceCause) -> u32
     ensures { result ≡ header_number cause }
 {
     match cause {
@@ -63,15 +60,15 @@ fn of_header(cause: TraceCause) -> u32
 }
 
 // The replica of a log with this header, on the heap.
-fn boxed(alloc: Global, header: Header) -> Result<Box<LogSession>, OutOfMemory>
+fn boxed(alloc: Global, header: Header) -> Result<Box<RowReplica>, OutOfMemory>
     ensures { IfOk result (λ session. session.value ≡ opened_log header) }
 {
-    let follower = Follower::new(alloc, header)?;
-    Ok(Box::new(alloc, LogSession { follower })?)
+    let learned = RowReplica::new(alloc, header)?;
+    Ok(Box::new(alloc, learned)?)
 }
 
 /// Learns the rows of the text, and tells how many, and why the next one wasn't learned.
-pub fn learn(alloc: Global, session: &mut LogSession, text: &[u8], taken: &mut usize) -> u32
+pub fn learn(alloc: Global, session: &mut RowReplica, text: &[u8], taken: &mut usize) -> u32
     ensures { IsLearning text.now taken.new session.old result session.new }
 {
     *taken = 0;
@@ -79,36 +76,36 @@ pub fn learn(alloc: Global, session: &mut LogSession, text: &[u8], taken: &mut u
         return ROW_END;
     }
     if has_mark(text) {
-        return of_mark(&session.follower);
+        return status_of_mark(&session);
     }
-    let before = session.follower.rows();
-    let status = learn_rows(alloc, &mut session.follower, text);
-    *taken = (session.follower.rows() - before) as usize;
+    let before = session.rows();
+    let status = learn_rows(alloc, session, text);
+    *taken = (session.rows() - before) as usize;
     status
 }
 
 // Learns the rows of the text up to the first that isn't learned, and tells why it isn't.
-fn learn_rows(alloc: Global, follower: &mut Follower, text: &[u8]) -> u32
-    ensures learned { (left : List Record) × FollowsUpTo (records_of text.now) follower.old follower.new left × EndsLearning left follower.new result }
-    ensures counted { follower.old.rows ≤ follower.new.rows }
+fn learn_rows(alloc: Global, learned: &mut RowReplica, text: &[u8]) -> u32
+    ensures learned { (left : List Record) × FollowsUpTo (records_of text.now) learned.old learned.new left × EndsLearning left learned.new result }
+    ensures counted { learned.old.rows ≤ learned.new.rows }
 {
     let mut reader = RowReader::open(alloc, text);
-    match follower.take_all(alloc, &mut reader) {
+    match learned.take_all(alloc, &mut reader) {
         Ok(()) => OK,
-        Err(fault) => status::of_follow(fault),
+        Err(fault) => status_of_learning(fault),
     }
 }
 
 /// Why no row is learned of a text that begins with a byte-order mark.
-pub fn of_mark(follower: &Follower) -> u32
-    ensures { result ≡ mark_number follower.now }
+pub fn status_of_mark(learned: &RowReplica) -> u32
+    ensures { result ≡ mark_number learned.now }
 {
-    let cause = if follower.rows() == ROWS_MAX {
+    let cause = if learned.rows() == ROWS_MAX {
         TraceCause::TooManyRows
     } else {
         TraceCause::BadRow
     };
-    status::of_trace(cause)
+    status_of_trace(cause)
 }
 
 /// Whether the text is empty, or its last line has a line end.
@@ -128,28 +125,28 @@ pub fn has_mark(text: &[u8]) -> bool
 /// Writes the row of what the node of this number appends next by itself, or nothing if it rests; or tells why there is none.
 pub fn write_next(
     alloc: Global,
-    follower: &Follower,
+    learned: &RowReplica,
     node: u16,
     row: &mut [u8],
     length: &mut usize,
 ) -> u32
-    ensures { IsWritten (IsNextRow follower.now node) (RefusesNext follower.now node) row.old length.old result row.new length.new }
+    ensures { IsWritten (IsNextRow learned.now node) (RefusesNext learned.now node) row.old length.old result row.new length.new }
 {
-    match next_row(alloc, follower, node) {
+    match next_row(alloc, learned, node) {
         Ok(text) => copy_text(&text, row, length),
         Err(status) => status,
     }
 }
 
 // The row of what the node of this number appends next by itself, or nothing if it rests.
-fn next_row(alloc: Global, follower: &Follower, node: u16) -> Result<String, u32>
-    ensures ok { IfOk result (λ text. IsNextRow follower.now node (string_bytes text)) }
-    ensures err { IfErr result (RefusesNext follower.now node) }
+fn next_row(alloc: Global, learned: &RowReplica, node: u16) -> Result<String, u32>
+    ensures ok { IfOk result (λ text. IsNextRow learned.now node (string_bytes text)) }
+    ensures err { IfErr result (RefusesNext learned.now node) }
 {
-    let replica = follower.replica();
+    let replica = learned.replica();
     let node = node_of(replica.world().setup(), node)?;
     match replica.next(alloc, node) {
-        Ok(Some(event)) => allowed_row(alloc, follower, &event),
+        Ok(Some(event)) => allowed_row(alloc, learned, &event),
         Ok(None) => Ok(String::new(alloc)),
         Err(_) => Err(OUT_OF_MEMORY),
     }
@@ -158,39 +155,39 @@ fn next_row(alloc: Global, follower: &Follower, node: u16) -> Result<String, u32
 /// Writes the row of the event of this number of the node of this number, or tells why there is none.
 pub fn write_event(
     alloc: Global,
-    follower: &Follower,
+    learned: &RowReplica,
     node: u16,
     number: u32,
     row: &mut [u8],
     length: &mut usize,
 ) -> u32
-    ensures { IsWritten (IsEventRow follower.now node number) (RefusesEvent follower.now node number) row.old length.old result row.new length.new }
+    ensures { IsWritten (IsEventRow learned.now node number) (RefusesEvent learned.now node number) row.old length.old result row.new length.new }
 {
-    match event_row(alloc, follower, node, number) {
+    match event_row(alloc, learned, node, number) {
         Ok(text) => copy_text(&text, row, length),
         Err(status) => status,
     }
 }
 
 // The row of the event of this number of the node of this number, or why there is none.
-fn event_row(alloc: Global, follower: &Follower, node: u16, number: u32) -> Result<String, u32>
-    ensures ok { IfOk result (λ text. IsEventRow follower.now node number (string_bytes text)) }
-    ensures err { IfErr result (RefusesEvent follower.now node number) }
+fn event_row(alloc: Global, learned: &RowReplica, node: u16, number: u32) -> Result<String, u32>
+    ensures ok { IfOk result (λ text. IsEventRow learned.now node number (string_bytes text)) }
+    ensures err { IfErr result (RefusesEvent learned.now node number) }
 {
-    let node = node_of(follower.replica().world().setup(), node)?;
-    match status::event_of(number, node) {
-        Some(event) => allowed_row(alloc, follower, &event),
+    let node = node_of(learned.replica().world().setup(), node)?;
+    match event_of(number, node) {
+        Some(event) => allowed_row(alloc, learned, &event),
         None => Err(BAD_EVENT),
     }
 }
 
 // The row of the event, if nothing refuses it.
-fn allowed_row(alloc: Global, follower: &Follower, event: &Event) -> Result<String, u32>
-    ensures ok { IfOk result (λ text. IsAllowedRow follower.now event.now (string_bytes text)) }
-    ensures err { IfErr result (RefusesRow follower.now event.now) }
+fn allowed_row(alloc: Global, learned: &RowReplica, event: &Event) -> Result<String, u32>
+    ensures ok { IfOk result (λ text. IsAllowedRow learned.now event.now (string_bytes text)) }
+    ensures err { IfErr result (RefusesRow learned.now event.now) }
 {
-    if let Some(why) = append_cause(follower, event) {
-        return Err(status::of_refusal(why));
+    if let Some(why) = append_cause(learned, event) {
+        return Err(status_of_refusal(why));
     }
     let mut text = String::new(alloc);
     match push_event(&mut text, event) {
@@ -200,11 +197,11 @@ fn allowed_row(alloc: Global, follower: &Follower, event: &Event) -> Result<Stri
 }
 
 // Why the event isn't appended, if it isn't.
-fn append_cause(follower: &Follower, event: &Event) -> Option<Refused>
-    ensures { result ≡ append_cause follower.now event.now }
+fn append_cause(learned: &RowReplica, event: &Event) -> Option<Refused>
+    ensures { result ≡ append_cause learned.now event.now }
 {
-    if follower.rows() == ROWS_MAX {
+    if learned.rows() == ROWS_MAX {
         return Some(Refused::Full);
     }
-    follower.replica().world().cause(event)
+    learned.replica().world().cause(event)
 }

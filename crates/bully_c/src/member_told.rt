@@ -3,11 +3,11 @@ ghost use Rattle.std.specs.Prelude.{◌≡◌, ◌≤◌};
 ghost use Rattle.bully_c.specs.MemberNumbers.{answer_numbered};
 ghost use Rattle.bully_c.specs.Members.{IsAnswer, IsFollow, IsFollowOf, IsLook, IsMemberLearning, IsNextStep, LearnsRows, last_node};
 
-use crate::logs::{has_end, has_mark, of_mark};
+use crate::logs::{has_end, has_mark, status_of_mark};
 use crate::member_shown::{CStep, step_of};
-use crate::openings::{MemberSession, Opening, TermsTold, of_member, opening_of};
+use crate::openings::{MemberSession, Opening, TermsTold, opening_of, status_of_member};
 use crate::presences::{CPresence, presences_of};
-use crate::status::{self, BAD_ANSWER, OK, ROW_END};
+use crate::status::{BAD_ANSWER, OK, ROW_END, status_of_learning};
 use bully_base::NODES_MAX;
 use bully_member::{Member, StoreAnswer};
 use bully_rows::RowReader;
@@ -57,25 +57,25 @@ pub fn learn(alloc: Global, session: &mut MemberSession, text: &[u8], taken: &mu
         return ROW_END;
     }
     if has_mark(text) {
-        let status = of_mark(session.member.follower());
+        let status = status_of_mark(session.member.learned());
         session.member.broken();
         return status;
     }
-    let before = session.member.follower().rows();
+    let before = session.member.learned().rows();
     let status = learn_rows(alloc, &mut session.member, text);
-    *taken = (session.member.follower().rows() - before) as usize;
+    *taken = (session.member.learned().rows() - before) as usize;
     status
 }
 
 // Has the member learn the rows of the text up to the first that isn't learned, and tells why it isn't.
 fn learn_rows(alloc: Global, member: &mut Member, text: &[u8]) -> u32
     ensures learned { LearnsRows text.now member.old result member.new }
-    ensures counted { member.old.follower.rows ≤ member.new.follower.rows }
+    ensures counted { member.old.learned.rows ≤ member.new.learned.rows }
 {
     let mut reader = RowReader::open(alloc, text);
     match member.learn(alloc, &mut reader) {
         Ok(()) => OK,
-        Err(fault) => status::of_follow(fault),
+        Err(fault) => status_of_learning(fault),
     }
 }
 
@@ -138,6 +138,6 @@ fn follow(alloc: Global, session: &mut MemberSession, now: u64, opening: Opening
     let Opening { header, terms } = opening;
     match session.member.followed(alloc, now, header, terms) {
         Ok(()) => OK,
-        Err(fault) => of_member(fault),
+        Err(fault) => status_of_member(fault),
     }
 }

@@ -20,7 +20,7 @@ use crate::member_told::{learn, tell_answer, tell_follow, tell_look, tell_next};
 use crate::openings::{TermsTold, opened_member};
 use crate::presences::CPresence;
 use crate::replicas::{CGroup, group_of, show_node};
-use crate::settlements::{copy_owned, events_rows, of_settling};
+use crate::settlements::{copy_owned, events_rows, status_of_settling};
 use crate::shown::{CState, copy_owners, copy_text};
 use crate::status::{CLOSED, OK, OPEN, OUT_OF_MEMORY};
 use bully_member::Member;
@@ -299,7 +299,7 @@ fn member_rows(alloc: Global, member: &Member) -> Result<String, u32>
             Ok(text) => Ok(text),
             Err(_) => Err(OUT_OF_MEMORY),
         },
-        Err(fault) => Err(of_settling(fault)),
+        Err(fault) => Err(status_of_settling(fault)),
     }
 }
 
@@ -366,7 +366,7 @@ pub extern "C" fn bully_c_member_node(
     node: u16,
     state: &mut CState,
 ) -> u32
-    ensures open { AtMember (ShowsMember (λ session status. IsStateShown session.member.follower.replica.world node state.old status state.new)) member.old.value result member.new.value }
+    ensures open { AtMember (ShowsMember (λ session status. IsStateShown session.member.learned.replica.world node state.old status state.new)) member.old.value result member.new.value }
     ensures closed { member.old.value ≡ None → state.new ≡ state.old }
 {
     let Some(session) = member.take(alloc) else {
@@ -384,13 +384,13 @@ pub extern "C" fn bully_c_member_group(
     member: &mut MemberHandle,
     group: &mut CGroup,
 ) -> u32
-    ensures open { AtMember (ShowsMember (λ session status. (status ≡ OkNumber) × (group.new ≡ group_shown session.member.follower))) member.old.value result member.new.value }
+    ensures open { AtMember (ShowsMember (λ session status. (status ≡ OkNumber) × (group.new ≡ group_shown session.member.learned))) member.old.value result member.new.value }
     ensures closed { member.old.value ≡ None → group.new ≡ group.old }
 {
     let Some(session) = member.take(alloc) else {
         return CLOSED;
     };
-    *group = group_of(session.member.follower());
+    *group = group_of(session.member.learned());
     member.put(alloc, session);
     OK
 }
@@ -403,7 +403,7 @@ pub extern "C" fn bully_c_member_planned(
     owners: &mut [u16],
     count: &mut usize,
 ) -> u32
-    ensures open { AtMember (ShowsMember (λ session status. IsCopied (table_shown session.member.follower.replica) owners.old status owners.new count.new)) member.old.value result member.new.value }
+    ensures open { AtMember (ShowsMember (λ session status. IsCopied (table_shown session.member.learned.replica) owners.old status owners.new count.new)) member.old.value result member.new.value }
     ensures closed { member.old.value ≡ None → (owners.new ≡ owners.old) × (count.new ≡ count.old) }
 {
     let Some(session) = member.take(alloc) else {

@@ -77,7 +77,7 @@ pub fn opened_member(
             Ok(session) => Ok(session),
             Err(_) => Err(OUT_OF_MEMORY),
         },
-        Err(fault) => Err(of_member(fault)),
+        Err(fault) => Err(status_of_member(fault)),
     }
 }
 
@@ -89,7 +89,7 @@ fn boxed(alloc: Global, member: Member) -> Result<Box<MemberSession>, OutOfMemor
 }
 
 /// Of a member that doesn't begin.
-pub fn of_member(fault: MemberFault) -> u32
+pub fn status_of_member(fault: MemberFault) -> u32
     ensures { result ≡ member_number fault }
 {
     match fault {

@@ -1,9 +1,9 @@
 //! What C holds of a replica.
 ghost use Rattle.std.specs.Prelude.{◌≡◌, Option, None, Some, MatchOption};
-ghost use Rattle.bully_c.specs.declared.logs.LogSession.{LogSession};
+ghost use Rattle.bully_replica.specs.RowReplica.{RowReplicaState};
 
-use crate::logs::LogSession;
-use crate::loose::Loose;
+use crate::raw_box::RawBox;
+use bully_replica::RowReplica;
 use std::alloc::Global;
 use std::marker::Model;
 
@@ -11,41 +11,41 @@ use std::marker::Model;
 #[repr(C)]
 pub struct ReplicaHandle {
     at: *mut u8,
-    pub ghost value: { Option LogSession },
+    pub ghost value: { Option RowReplicaState },
 }
 
 impl Model for ReplicaHandle {
     ghost use Rattle.std.specs.Prelude.{Option};
-    ghost use Rattle.bully_c.specs.Ownership.{loose_owns};
-    ghost use Rattle.bully_c.specs.contracts.logs.LogSession.{the_row};
+    ghost use Rattle.bully_c.specs.Ownership.{raw_box_owns};
+    ghost use Rattle.bully_replica.specs.contracts.row_replica.RowReplica.{the_row};
 
-    ghost also_owns = { λ h. loose_owns the_row h.at h.value };
+    ghost also_owns = { λ h. raw_box_owns the_row h.at h.value };
 }
 
 impl ReplicaHandle {
     // Puts `with` in the place of what the handle has.
-    fn swap(&mut self, with: Loose<LogSession>) -> Loose<LogSession>
+    fn swap(&mut self, with: RawBox<RowReplica>) -> RawBox<RowReplica>
         ensures now { self.new.value ≡ with.value }
         ensures before { result.value ≡ self.old.value }
     {
-        let Loose { at } = with;
-        let before = self.at as *mut LogSession;
+        let RawBox { at } = with;
+        let before = self.at as *mut RowReplica;
         self.at = at as *mut u8;
-        Loose { at: before }
+        RawBox { at: before }
     }
 
     /// Takes what the handle has, and leaves it closed.
-    pub fn take(&mut self, alloc: Global) -> Option<Box<LogSession>>
+    pub fn take(&mut self, alloc: Global) -> Option<Box<RowReplica>>
         ensures taken { MatchOption result (self.old.value ≡ None) (λ session. self.old.value ≡ Some session.value) }
         ensures closed { self.new.value ≡ None }
     {
-        self.swap(Loose::none()).into_box(alloc)
+        self.swap(RawBox::none()).into_box(alloc)
     }
 
     /// Puts this in, and drops what was there.
-    pub fn put(&mut self, alloc: Global, session: Box<LogSession>)
+    pub fn put(&mut self, alloc: Global, session: Box<RowReplica>)
         ensures { self.new.value ≡ Some session.value }
     {
-        drop(self.swap(Loose::of(session)).into_box(alloc));
+        drop(self.swap(RawBox::of(session)).into_box(alloc));
     }
 }

@@ -12,7 +12,7 @@ use crate::settlements::{write_owned, write_rest, write_settlement};
 use crate::shown::{CState, copy_owners, copy_text, copy_up, number_of, state_in};
 use crate::status::{CLOSED, OK, OPEN, OUT_OF_MEMORY};
 use crate::tables::{CSetup, node_of, setup_of};
-use bully_replica::Follower;
+use bully_replica::RowReplica;
 use bully_rows::{push_header, version_for};
 use bully_world::World;
 use std::alloc::Global;
@@ -60,7 +60,7 @@ fn header_row(alloc: Global, setup: &CSetup, weights: &[u16]) -> Result<String, 
     }
 }
 
-/// Opens the handle: the replica of a log behind this header, [`Follower::new`].
+/// Opens the handle: the replica of a log behind this header, [`RowReplica::new`].
 #[unsafe(no_mangle)]
 pub extern "C" fn bully_c_replica_open(
     alloc: Global,
@@ -93,7 +93,7 @@ pub extern "C" fn bully_c_replica_close(alloc: Global, replica: &mut ReplicaHand
     }
 }
 
-/// Learns the rows that stand next in the log: [`Follower::take_all`].
+/// Learns the rows that stand next in the log: [`RowReplica::take_all`].
 #[unsafe(no_mangle)]
 pub extern "C" fn bully_c_replica_learn(
     alloc: Global,
@@ -121,13 +121,13 @@ pub extern "C" fn bully_c_replica_next(
     row: &mut [u8],
     length: &mut usize,
 ) -> u32
-    ensures open { AtLog (ShowsLog (λ session status. IsWritten (IsNextRow session.follower node) (RefusesNext session.follower node) row.old length.old status row.new length.new)) replica.old.value result replica.new.value }
+    ensures open { AtLog (ShowsLog (λ session status. IsWritten (IsNextRow session node) (RefusesNext session node) row.old length.old status row.new length.new)) replica.old.value result replica.new.value }
     ensures closed { replica.old.value ≡ None → (row.new ≡ row.old) × (length.new ≡ length.old) }
 {
     let Some(session) = replica.take(alloc) else {
         return CLOSED;
     };
-    let status = write_next(alloc, &session.follower, node, row, length);
+    let status = write_next(alloc, &session, node, row, length);
     replica.put(alloc, session);
     status
 }
@@ -142,13 +142,13 @@ pub extern "C" fn bully_c_replica_event(
     row: &mut [u8],
     length: &mut usize,
 ) -> u32
-    ensures open { AtLog (ShowsLog (λ session status. IsWritten (IsEventRow session.follower node event) (RefusesEvent session.follower node event) row.old length.old status row.new length.new)) replica.old.value result replica.new.value }
+    ensures open { AtLog (ShowsLog (λ session status. IsWritten (IsEventRow session node event) (RefusesEvent session node event) row.old length.old status row.new length.new)) replica.old.value result replica.new.value }
     ensures closed { replica.old.value ≡ None → (row.new ≡ row.old) × (length.new ≡ length.old) }
 {
     let Some(session) = replica.take(alloc) else {
         return CLOSED;
     };
-    let status = write_event(alloc, &session.follower, node, event, row, length);
+    let status = write_event(alloc, &session, node, event, row, length);
     replica.put(alloc, session);
     status
 }
@@ -161,13 +161,13 @@ pub extern "C" fn bully_c_replica_show(
     node: u16,
     state: &mut CState,
 ) -> u32
-    ensures open { AtLog (ShowsLog (λ session status. IsStateShown session.follower.replica.world node state.old status state.new)) replica.old.value result replica.new.value }
+    ensures open { AtLog (ShowsLog (λ session status. IsStateShown session.replica.world node state.old status state.new)) replica.old.value result replica.new.value }
     ensures closed { replica.old.value ≡ None → state.new ≡ state.old }
 {
     let Some(session) = replica.take(alloc) else {
         return CLOSED;
     };
-    let status = show_node(session.follower.replica().world(), node, state);
+    let status = show_node(session.replica().world(), node, state);
     replica.put(alloc, session);
     status
 }
@@ -194,13 +194,13 @@ pub extern "C" fn bully_c_replica_up(
     nodes: &mut [u16],
     count: &mut usize,
 ) -> u32
-    ensures open { AtLog (ShowsLog (λ session status. let w = session.follower.replica.world in IsListShown w node (up_in w node) nodes.old count.old status nodes.new count.new)) replica.old.value result replica.new.value }
+    ensures open { AtLog (ShowsLog (λ session status. let w = session.replica.world in IsListShown w node (up_in w node) nodes.old count.old status nodes.new count.new)) replica.old.value result replica.new.value }
     ensures closed { replica.old.value ≡ None → (nodes.new ≡ nodes.old) × (count.new ≡ count.old) }
 {
     let Some(session) = replica.take(alloc) else {
         return CLOSED;
     };
-    let status = show_up(session.follower.replica().world(), node, nodes, count);
+    let status = show_up(session.replica().world(), node, nodes, count);
     replica.put(alloc, session);
     status
 }
@@ -224,13 +224,13 @@ pub extern "C" fn bully_c_replica_task(
     owners: &mut [u16],
     count: &mut usize,
 ) -> u32
-    ensures open { AtLog (ShowsLog (λ session status. let w = session.follower.replica.world in IsListShown w node (task_in w node) owners.old count.old status owners.new count.new)) replica.old.value result replica.new.value }
+    ensures open { AtLog (ShowsLog (λ session status. let w = session.replica.world in IsListShown w node (task_in w node) owners.old count.old status owners.new count.new)) replica.old.value result replica.new.value }
     ensures closed { replica.old.value ≡ None → (owners.new ≡ owners.old) × (count.new ≡ count.old) }
 {
     let Some(session) = replica.take(alloc) else {
         return CLOSED;
     };
-    let status = show_task(session.follower.replica().world(), node, owners, count);
+    let status = show_task(session.replica().world(), node, owners, count);
     replica.put(alloc, session);
     status
 }
@@ -252,25 +252,25 @@ pub extern "C" fn bully_c_replica_group(
     replica: &mut ReplicaHandle,
     group: &mut CGroup,
 ) -> u32
-    ensures open { AtLog (ShowsLog (λ session status. (status ≡ OkNumber) × (group.new ≡ group_shown session.follower))) replica.old.value result replica.new.value }
+    ensures open { AtLog (ShowsLog (λ session status. (status ≡ OkNumber) × (group.new ≡ group_shown session))) replica.old.value result replica.new.value }
     ensures closed { replica.old.value ≡ None → group.new ≡ group.old }
 {
     let Some(session) = replica.take(alloc) else {
         return CLOSED;
     };
-    *group = group_of(&session.follower);
+    *group = group_of(&session);
     replica.put(alloc, session);
     OK
 }
 
 /// How the group stands of which this was learned.
-pub fn group_of(follower: &Follower) -> CGroup
-    ensures { result ≡ group_shown follower.now }
+pub fn group_of(learned: &RowReplica) -> CGroup
+    ensures { result ≡ group_shown learned.now }
 {
-    let replica = follower.replica();
+    let replica = learned.replica();
     let setup = replica.world().setup();
     CGroup {
-        rows: follower.rows(),
+        rows: learned.rows(),
         events: replica.events(),
         token: replica.token(),
         planner: number_of(replica.planner()),
@@ -288,13 +288,13 @@ pub extern "C" fn bully_c_replica_planned(
     owners: &mut [u16],
     count: &mut usize,
 ) -> u32
-    ensures open { AtLog (ShowsLog (λ session status. IsCopied (table_shown session.follower.replica) owners.old status owners.new count.new)) replica.old.value result replica.new.value }
+    ensures open { AtLog (ShowsLog (λ session status. IsCopied (table_shown session.replica) owners.old status owners.new count.new)) replica.old.value result replica.new.value }
     ensures closed { replica.old.value ≡ None → (owners.new ≡ owners.old) × (count.new ≡ count.old) }
 {
     let Some(session) = replica.take(alloc) else {
         return CLOSED;
     };
-    let status = copy_owners(session.follower.replica().last_table(), owners, count);
+    let status = copy_owners(session.replica().last_table(), owners, count);
     replica.put(alloc, session);
     status
 }
@@ -309,13 +309,13 @@ pub extern "C" fn bully_c_replica_settle(
     rows: &mut [u8],
     length: &mut usize,
 ) -> u32
-    ensures open { AtLog (ShowsLog (λ session status. IsWritten (IsSettlementOf session.follower present.now old.now) (RefusesSettlement session.follower present.now old.now) rows.old length.old status rows.new length.new)) replica.old.value result replica.new.value }
+    ensures open { AtLog (ShowsLog (λ session status. IsWritten (IsSettlementOf session present.now old.now) (RefusesSettlement session present.now old.now) rows.old length.old status rows.new length.new)) replica.old.value result replica.new.value }
     ensures closed { replica.old.value ≡ None → (rows.new ≡ rows.old) × (length.new ≡ length.old) }
 {
     let Some(session) = replica.take(alloc) else {
         return CLOSED;
     };
-    let status = write_settlement(alloc, &session.follower, present, old, rows, length);
+    let status = write_settlement(alloc, &session, present, old, rows, length);
     replica.put(alloc, session);
     status
 }
@@ -329,13 +329,13 @@ pub extern "C" fn bully_c_replica_is_at_rest(
     place: u32,
     rests: &mut u32,
 ) -> u32
-    ensures open { AtLog (ShowsLog (λ session status. IsAtRestShown session.follower.replica present.now place rests.old status rests.new)) replica.old.value result replica.new.value }
+    ensures open { AtLog (ShowsLog (λ session status. IsAtRestShown session.replica present.now place rests.old status rests.new)) replica.old.value result replica.new.value }
     ensures closed { replica.old.value ≡ None → rests.new ≡ rests.old }
 {
     let Some(session) = replica.take(alloc) else {
         return CLOSED;
     };
-    let status = write_rest(&session.follower, present, place, rests);
+    let status = write_rest(&session, present, place, rests);
     replica.put(alloc, session);
     status
 }
@@ -351,7 +351,7 @@ pub extern "C" fn bully_c_replica_owned(
     partitions: &mut [u16],
     count: &mut usize,
 ) -> u32
-    ensures open { AtLog (ShowsLog (λ session status. IsOwnedShown session.follower.replica node place token.old partitions.old count.old status token.new partitions.new count.new)) replica.old.value result replica.new.value }
+    ensures open { AtLog (ShowsLog (λ session status. IsOwnedShown session.replica node place token.old partitions.old count.old status token.new partitions.new count.new)) replica.old.value result replica.new.value }
     ensures closed { replica.old.value ≡ None → (token.new ≡ token.old) × (partitions.new ≡ partitions.old) × (count.new ≡ count.old) }
 {
     let Some(session) = replica.take(alloc) else {
@@ -359,7 +359,7 @@ pub extern "C" fn bully_c_replica_owned(
     };
     let status = write_owned(
         alloc,
-        session.follower.replica(),
+        session.replica(),
         node,
         place,
         token,

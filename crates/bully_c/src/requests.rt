@@ -8,7 +8,10 @@ ghost use Rattle.bully_c.specs.Numbers.{step_number};
 use crate::handle::AgentHandle;
 use crate::session::AgentSession;
 use crate::shown::copy_text;
-use crate::status::{self, CLOSED, LINE_WORD, OK, OUT_OF_MEMORY, SHORT};
+use crate::status::{
+    CLOSED, LINE_WORD, OK, OUT_OF_MEMORY, SHORT, number_of_answer, status_of_refusal,
+    status_of_reply, status_of_request,
+};
 use bully_agent::Agent;
 use bully_base::{OutOfMemory, Setup};
 use bully_calls::{Answer, Reply, Request};
@@ -27,10 +30,10 @@ fn answered(taken: Result<Answer, Refused>, answer: &mut u32) -> u32
 {
     match taken {
         Ok(told) => {
-            *answer = status::of_answer(told);
+            *answer = number_of_answer(told);
             OK
         }
-        Err(why) => status::of_refusal(why),
+        Err(why) => status_of_refusal(why),
     }
 }
 
@@ -112,7 +115,7 @@ fn served(
     }
     match session.serve(&request) {
         Ok(_) => copy_text(&text, reply, length),
-        Err(why) => status::of_refusal(why),
+        Err(why) => status_of_refusal(why),
     }
 }
 
@@ -140,7 +143,7 @@ fn request_in(alloc: Global, setup: &Setup, line: &[u8]) -> Result<Request, u32>
     };
     match read_request(alloc, setup, line) {
         Ok(request) => Ok(request),
-        Err(fault) => Err(status::of_request(fault)),
+        Err(fault) => Err(status_of_request(fault)),
     }
 }
 
@@ -176,7 +179,7 @@ fn reply_in(setup: &Setup, line: &[u8]) -> Result<Reply, u32>
     };
     match read_reply(setup, line) {
         Ok(reply) => Ok(reply),
-        Err(fault) => Err(status::of_reply(fault)),
+        Err(fault) => Err(status_of_reply(fault)),
     }
 }
 

@@ -12,7 +12,7 @@ use crate::status::{FULL, OK, OUT_OF_MEMORY, SHORT};
 use crate::tables::node_of;
 use crate::traces::members_of;
 use bully_base::OutOfMemory;
-use bully_replica::{Follower, Replica};
+use bully_replica::{Replica, RowReplica};
 use bully_rows::{ROWS_MAX, push_event};
 use bully_settling::{Owned, SettleFault, is_at_rest, owned, settle};
 use bully_world::Event;
@@ -21,20 +21,20 @@ use std::alloc::Global;
 /// The rows of what settles the group among these nodes, from the old table of these owners if the log has no plan.
 pub fn settlement_of(
     alloc: Global,
-    follower: &Follower,
+    learned: &RowReplica,
     present: &[u16],
     old: &[u16],
 ) -> Result<String, u32>
-    ensures ok { IfOk result (λ text. IsSettlementOf follower.now present.now old.now (string_bytes text)) }
-    ensures err { IfErr result (RefusesSettlement follower.now present.now old.now) }
+    ensures ok { IfOk result (λ text. IsSettlementOf learned.now present.now old.now (string_bytes text)) }
+    ensures err { IfErr result (RefusesSettlement learned.now present.now old.now) }
 {
-    let replica = follower.replica();
+    let replica = learned.replica();
     let setup = replica.world().setup();
     let present = members_of(setup, present)?;
     let old = old_table(alloc, setup, old)?;
     match settle(alloc, replica, &present, old.as_ref()) {
-        Ok(events) => rows_behind(alloc, follower.rows(), &events),
-        Err(fault) => Err(of_settling(fault)),
+        Ok(events) => rows_behind(alloc, learned.rows(), &events),
+        Err(fault) => Err(status_of_settling(fault)),
     }
 }
 
@@ -65,7 +65,7 @@ pub fn events_rows(alloc: Global, events: &[Event]) -> Result<String, OutOfMemor
 }
 
 /// Of what settles no group.
-pub fn of_settling(fault: SettleFault) -> u32
+pub fn status_of_settling(fault: SettleFault) -> u32
     ensures { result ≡ settle_number fault }
 {
     match fault {
@@ -77,25 +77,25 @@ pub fn of_settling(fault: SettleFault) -> u32
 /// Writes the rows of what settles the group, or tells why there are none.
 pub fn write_settlement(
     alloc: Global,
-    follower: &Follower,
+    learned: &RowReplica,
     present: &[u16],
     old: &[u16],
     rows: &mut [u8],
     length: &mut usize,
 ) -> u32
-    ensures { IsWritten (IsSettlementOf follower.now present.now old.now) (RefusesSettlement follower.now present.now old.now) rows.old length.old result rows.new length.new }
+    ensures { IsWritten (IsSettlementOf learned.now present.now old.now) (RefusesSettlement learned.now present.now old.now) rows.old length.old result rows.new length.new }
 {
-    match settlement_of(alloc, follower, present, old) {
+    match settlement_of(alloc, learned, present, old) {
         Ok(text) => copy_text(&text, rows, length),
         Err(status) => status,
     }
 }
 
 /// Writes whether the group is at rest among these nodes, by a plan at or behind this place.
-pub fn write_rest(follower: &Follower, present: &[u16], place: u32, rests: &mut u32) -> u32
-    ensures { IsAtRestShown follower.now.replica present.now place rests.old result rests.new }
+pub fn write_rest(learned: &RowReplica, present: &[u16], place: u32, rests: &mut u32) -> u32
+    ensures { IsAtRestShown learned.now.replica present.now place rests.old result rests.new }
 {
-    let replica = follower.replica();
+    let replica = learned.replica();
     match members_of(replica.world().setup(), present) {
         Ok(present) => {
             *rests = u32::from(is_at_rest(replica, &present, place));

@@ -6,7 +6,7 @@ ghost use Rattle.bully_c.specs.Exports.{callee_in, kind_in, number_or_none, show
 ghost use Rattle.bully_c.specs.Replicas.{agent_in};
 ghost use Rattle.bully_agent.specs.Agent.{wanted};
 
-use crate::status::{self, OK, SHORT};
+use crate::status::{OK, SHORT, number_of_kind, number_of_status, number_of_want};
 use crate::tables::put_owners;
 use bully_agent::Agent;
 use bully_base::{Node, NodeSet};
@@ -79,8 +79,8 @@ fn node_shown(vector: &Vector, slot: &Slot, generation: u32, wants: Want) -> CSt
     ensures { result ≡ node_shown vector.now.vector slot.now generation wants }
 {
     CState {
-        status: status::of_status(vector.status()),
-        wants: status::of_want(wants),
+        status: number_of_status(vector.status()),
+        wants: number_of_want(wants),
         events: 0,
         generation,
         call: kind_of(slot.call()),
@@ -98,7 +98,7 @@ fn kind_of(call: Option<Call>) -> u32
     ensures { result ≡ kind_in call }
 {
     match call {
-        Some(call) => status::of_kind(call.kind),
+        Some(call) => number_of_kind(call.kind),
         None => 0,
     }
 }

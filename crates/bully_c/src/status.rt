@@ -4,12 +4,12 @@ ghost use Rattle.bully_calls.specs.declared.event.Refused.{Refused};
 ghost use Rattle.bully_lines.specs.declared.fault.RequestFault.{RequestFault};
 ghost use Rattle.bully_c.specs.declared.status.TheConstants.{BAD_ANSWER, BAD_EVENT, BAD_HEADER, BAD_NODE, BAD_ROW, BAD_ROWS_MAX, BAD_TTL, CLOSED, FULL, LINE_WORD, NO_MEMBER, OK, OPEN, OUT_OF_MEMORY, ROW_DIFFERS, ROW_END, SHORT, TABLE_LENGTH, TABLE_OWNER};
 ghost use Rattle.bully_calls.specs.Events.{refusal_number};
-ghost use Rattle.bully_c.specs.Numbers.{answer_number, event_numbered, follow_number, kind_number, reply_number, request_number, setup_number, status_number, trace_number, want_number};
+ghost use Rattle.bully_c.specs.Numbers.{answer_number, event_numbered, learn_number, kind_number, reply_number, request_number, setup_number, status_number, trace_number, want_number};
 
 use bully_base::{Node, SetupFault, Status};
 use bully_calls::{Answer, CallKind};
 use bully_lines::{ReplyFault, RequestFault};
-use bully_replica::FollowFault;
+use bully_replica::LearnFault;
 use bully_rows::TraceCause;
 use bully_steps::Want;
 use bully_table::TableFault;
@@ -78,14 +78,14 @@ pub fn numbers()
 {}
 
 /// Of an event that is refused.
-pub fn of_refusal(why: Refused) -> u32
+pub fn status_of_refusal(why: Refused) -> u32
     ensures { result ≡ refusal_number why }
 {
     why.number()
 }
 
 /// Of a setup that is refused.
-pub fn of_setup(fault: SetupFault) -> u32
+pub fn status_of_setup(fault: SetupFault) -> u32
     ensures { result ≡ setup_number fault }
 {
     match fault {
@@ -97,7 +97,7 @@ pub fn of_setup(fault: SetupFault) -> u32
 }
 
 /// Of a line that is no request.
-pub fn of_request(fault: RequestFault) -> u32
+pub fn status_of_request(fault: RequestFault) -> u32
     ensures { result ≡ request_number fault }
 {
     match fault {
@@ -106,12 +106,12 @@ pub fn of_request(fault: RequestFault) -> u32
         RequestFault::Number => 42,
         RequestFault::Callee => 43,
         RequestFault::Kind => 44,
-        RequestFault::Table(fault) => of_table(fault),
+        RequestFault::Table(fault) => status_of_table(fault),
     }
 }
 
 // Of the table of a line.
-fn of_table(fault: TableFault) -> u32
+fn status_of_table(fault: TableFault) -> u32
     ensures { result ≡ request_number (RequestFault.Table fault) }
 {
     match fault {
@@ -121,7 +121,7 @@ fn of_table(fault: TableFault) -> u32
 }
 
 /// Of a line that is no reply.
-pub fn of_reply(fault: ReplyFault) -> u32
+pub fn status_of_reply(fault: ReplyFault) -> u32
     ensures { result ≡ reply_number fault }
 {
     match fault {
@@ -134,7 +134,7 @@ pub fn of_reply(fault: ReplyFault) -> u32
 
 /// Of a trace that isn't well-formed, or can't be judged. Its bytes are here and its verdict is written here, so that a read or a
 /// write fails for want of memory alone.
-pub fn of_trace(cause: TraceCause) -> u32
+pub fn status_of_trace(cause: TraceCause) -> u32
     ensures { result ≡ trace_number cause }
 {
     match cause {
@@ -146,13 +146,13 @@ pub fn of_trace(cause: TraceCause) -> u32
 }
 
 /// Of a row of a log that isn't learned.
-pub fn of_follow(fault: FollowFault) -> u32
-    ensures { result ≡ follow_number fault }
+pub fn status_of_learning(fault: LearnFault) -> u32
+    ensures { result ≡ learn_number fault }
 {
     match fault {
-        FollowFault::Form(cause) => of_trace(cause),
-        FollowFault::Violation(Violation::Refused(why)) => of_refusal(why),
-        FollowFault::Violation(Violation::Differs) => ROW_DIFFERS,
+        LearnFault::Form(cause) => status_of_trace(cause),
+        LearnFault::Violation(Violation::Refused(why)) => status_of_refusal(why),
+        LearnFault::Violation(Violation::Differs) => ROW_DIFFERS,
     }
 }
 
@@ -171,7 +171,7 @@ pub fn event_of(number: u32, node: Node) -> Option<Event>
 }
 
 /// Of what a call brought.
-pub fn of_answer(answer: Answer) -> u32
+pub fn number_of_answer(answer: Answer) -> u32
     ensures { result ≡ answer_number answer }
 {
     match answer {
@@ -184,7 +184,7 @@ pub fn of_answer(answer: Answer) -> u32
 }
 
 /// Of a node's status.
-pub fn of_status(status: Status) -> u32
+pub fn number_of_status(status: Status) -> u32
     ensures { result ≡ status_number status }
 {
     match status {
@@ -196,7 +196,7 @@ pub fn of_status(status: Status) -> u32
 }
 
 /// Of what a node wants to do next.
-pub fn of_want(want: Want) -> u32
+pub fn number_of_want(want: Want) -> u32
     ensures { result ≡ want_number want }
 {
     match want {
@@ -209,7 +209,7 @@ pub fn of_want(want: Want) -> u32
 }
 
 /// Of the kind of a call.
-pub fn of_kind(kind: CallKind) -> u32
+pub fn number_of_kind(kind: CallKind) -> u32
     ensures { result ≡ kind_number kind }
 {
     match kind {

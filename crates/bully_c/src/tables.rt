@@ -5,7 +5,7 @@ ghost use Rattle.bully_rows.specs.ReadBack.{AreOwners};
 ghost use Rattle.bully_table.specs.TableText.{owners_text};
 ghost use Rattle.bully_c.specs.Arguments.{AreGiven, IsSetupRefusal, RefusesGiven, RefusesOwners, setup_given, setup_with, table_given};
 
-use crate::status::{self, BAD_NODE, OUT_OF_MEMORY, TABLE_LENGTH, TABLE_OWNER};
+use crate::status::{BAD_NODE, OUT_OF_MEMORY, TABLE_LENGTH, TABLE_OWNER, status_of_setup};
 use bully_base::{NODES_MAX, Node, OutOfMemory, Setup};
 use bully_table::Table;
 use std::alloc::Global;
@@ -57,7 +57,7 @@ fn weighted_setup(setup: &CSetup, weights: &[u16]) -> Result<Setup, u32>
         keeps,
     ) {
         Ok(setup) => Ok(setup),
-        Err(fault) => Err(status::of_setup(fault)),
+        Err(fault) => Err(status_of_setup(fault)),
     }
 }
 

@@ -5,7 +5,9 @@ ghost use Rattle.bully_c.specs.Arguments.{setup_given};
 ghost use Rattle.bully_c.specs.Judged.{IsCheck, IsPlannedTable, IsSetOf, IsTable, RefusesTable, verdict_numbers};
 ghost use Rattle.bully_c.specs.declared.status.TheConstants.{BAD_NODE as BadNode};
 
-use crate::status::{self, NO_MEMBER, OK, OUT_OF_MEMORY, TABLE_LENGTH};
+use crate::status::{
+    NO_MEMBER, OK, OUT_OF_MEMORY, TABLE_LENGTH, status_of_refusal, status_of_trace,
+};
 use crate::tables::{CSetup, node_of, put_owners, setup_of, table_of};
 use bully_base::{NodeSet, Setup};
 use bully_table::{PlanFault, TablePlan, plan_in};
@@ -33,7 +35,7 @@ pub extern "C" fn bully_c_check(alloc: Global, trace: &[u8], verdict: &mut CVerd
             OK
         }
         Err(fault) => {
-            let status = status::of_trace(fault.cause);
+            let status = status_of_trace(fault.cause);
             verdict.number = if status == OUT_OF_MEMORY {
                 0
             } else {
@@ -50,7 +52,7 @@ fn verdict_of(verdict: Verdict) -> CVerdict
 {
     let (kind, number, cause) = match verdict {
         Verdict::Lawful(count) => (0, count, OK),
-        Verdict::Refused(row, why) => (1, row, status::of_refusal(why)),
+        Verdict::Refused(row, why) => (1, row, status_of_refusal(why)),
         Verdict::Differs(row) => (2, row, OK),
     };
     CVerdict {

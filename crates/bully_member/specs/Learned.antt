@@ -7,20 +7,20 @@ use Rattle.bully_member.specs.declared.opening.Terms.{Terms}
 use Rattle.bully_member.specs.declared.values.Asked.{Asked}
 use Rattle.bully_member.specs.declared.values.Ending.{Ending}
 use Rattle.bully_member.specs.declared.values.Request.{Request}
-use Rattle.bully_replica.specs.Following.{FollowerState}
+use Rattle.bully_replica.specs.RowReplica.{RowReplicaState}
 use Rattle.bully_replica.specs.Replica.{first_replica}
-use Rattle.bully_replica.specs.declared.follower.FollowFault.{FollowFault}
+use Rattle.bully_replica.specs.declared.row_replica.LearnFault.{LearnFault}
 use Rattle.bully_rows.specs.declared.header.Header.{Header}
 use Rattle.bully_rows.specs.declared.trace.TraceCause.{TraceCause}
 
 -- whether the fault is the log's, and not one of memory or of reading
-abbrev pub is_of_log : FollowFault → Bool
-is_of_log (FollowFault.Form TraceCause.OutOfMemory) = false
-is_of_log (FollowFault.Form TraceCause.Read) = false
+abbrev pub is_of_log : LearnFault → Bool
+is_of_log (LearnFault.Form TraceCause.OutOfMemory) = false
+is_of_log (LearnFault.Form TraceCause.Read) = false
 is_of_log fault = true
 
 -- whether no member can go on behind what was learned: a row isn't learned, or was one that tells no event
-abbrev pub is_broken : FollowerState → Result (Unit {0}) FollowFault → Bool
+abbrev pub is_broken : RowReplicaState → Result (Unit {0}) LearnFault → Bool
 is_broken f (Ok done) = not (f.rows == f.replica.world.events)
 is_broken f (Err fault) = is_of_log fault
 
@@ -30,8 +30,8 @@ ending_behind None true = Some Ending.Broken
 ending_behind ending is_broken = ending
 
 -- what was learned, by how that ended
-abbrev pub learned : MemberState → FollowerState → Result (Unit {0}) FollowFault → MemberState
-learned m f taken = record m { follower = f; ending = ending_behind m.ending (is_broken f taken) }
+abbrev pub after_learning : MemberState → RowReplicaState → Result (Unit {0}) LearnFault → MemberState
+after_learning m f taken = record m { learned = f; ending = ending_behind m.ending (is_broken f taken) }
 
 abbrev pub is_follow : Request → Bool
 is_follow Request.Follow = true
@@ -42,9 +42,9 @@ is_following None = false
 is_following (Some asked) = is_follow asked.request
 
 -- behind a log of this epoch of which nothing was learned. The life stays, and has promised nothing of it
-abbrev pub in_epoch : MemberState → (now : ℕ) → FollowerState → Terms → MemberState
+abbrev pub in_epoch : MemberState → (now : ℕ) → RowReplicaState → Terms → MemberState
 in_epoch m now f t = record m {
-  follower = f;
+  learned = f;
   terms = t;
   promised = 0;
   own = record { epoch = 0; place = 0 };

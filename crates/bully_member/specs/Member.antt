@@ -15,7 +15,7 @@ use Rattle.bully_member.specs.declared.values.Presence.{Presence}
 use Rattle.bully_member.specs.declared.values.Promise.{Promise}
 use Rattle.bully_member.specs.declared.values.Unrest.{Unrest}
 use Rattle.bully_member.specs.declared.values.Work.{Work}
-use Rattle.bully_replica.specs.Following.{FollowerState}
+use Rattle.bully_replica.specs.RowReplica.{RowReplicaState}
 use Rattle.bully_replica.specs.Replica.{ReplicaState, first_replica, token_of}
 use Rattle.bully_rows.specs.declared.header.Header.{Header}
 use Rattle.bully_settling.specs.Resting.{IsAtRest}
@@ -27,7 +27,7 @@ use Rattle.std.specs.Option.{option_map_or}
 -- that has ever promised to be idle, told or not, and its promise as the store is known to have it; what the last look found, and whether
 -- another one is due; its work; why it ends, if it does; what it asked for last, and when it wasn't answered last
 pub record MemberState : Type 0 where
-  pub follower : FollowerState
+  pub learned : RowReplicaState
   pub terms : Terms
   pub process : ℕ
   pub ttl : ℕ
@@ -49,7 +49,7 @@ pub record MemberState : Type 0 where
   pub asked : Option Asked
 
 abbrev pub replica_of : MemberState → ReplicaState
-replica_of m = m.follower.replica
+replica_of m = m.learned.replica
 
 -- the end of the log, as far as it was learned
 abbrev pub place_of : MemberState → ℕ
@@ -144,11 +144,11 @@ abbrev pub above : MemberState → ℕ
 above m = min (count_by (λ p. nat_lt m.terms.node p.node) m.presences) NODES_MAX
 
 -- all that are present are present for nodes of the group
-abbrev pub AreNodes : FollowerState → List Presence → Type 0
+abbrev pub AreNodes : RowReplicaState → List Presence → Type 0
 AreNodes f presences = All (λ (p : Presence). p.node ≤ f.replica.world.setup.nodes) presences
 
 -- what its type keeps
-pub record IsMember (f : FollowerState) (t : Terms) (ttl : ℕ) (presences : List Presence) (arrivals : List Arrival) : Type 0 where
+pub record IsMember (f : RowReplicaState) (t : Terms) (ttl : ℕ) (presences : List Presence) (arrivals : List Arrival) : Type 0 where
   pub fits : terms_fault f.replica.world.setup t ≡ None
   pub paced : ttl ≤ TTL_MAX
   pub nodes : AreNodes f presences
@@ -158,9 +158,9 @@ pub record IsMember (f : FollowerState) (t : Terms) (ttl : ℕ) (presences : Lis
 abbrev pub nobody_yet : Arrival
 nobody_yet = record { life = None; at = 0; stay = 0 }
 
-abbrev pub member_with : FollowerState → List Arrival → Terms → (process ttl : ℕ) → MemberState
+abbrev pub member_with : RowReplicaState → List Arrival → Terms → (process ttl : ℕ) → MemberState
 member_with f arrivals t process ttl = record {
-  follower = f;
+  learned = f;
   terms = t;
   process = process;
   ttl = ttl;

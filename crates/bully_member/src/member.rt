@@ -14,7 +14,7 @@ use crate::opening::{MemberFault, TTL_MAX, TTL_MIN, Terms, terms_fault};
 use crate::times::sure_left;
 use crate::values::{Arrival, Asked, Ending, LifeState, Presence, Promise, Unrest, Work};
 use bully_base::OutOfMemory;
-use bully_replica::{Follower, Replica};
+use bully_replica::{Replica, RowReplica};
 use bully_rows::Header;
 use std::alloc::Global;
 use std::marker::Model;
@@ -22,7 +22,7 @@ use std::marker::Model;
 /// A process that acts for one node of a group: what it knows, and what it does next.
 #[derive(Drop)]
 pub struct Member {
-    follower: Follower,
+    learned: RowReplica,
     terms: Terms,
     process: u64,
     ttl: u64,
@@ -51,7 +51,7 @@ impl Model for Member {
     ghost Value = { MemberState };
 
     ghost view = { λ m. record {
-      follower = m.follower;
+      learned = m.learned;
       terms = m.terms;
       process = m.process;
       ttl = m.ttl;
@@ -73,25 +73,25 @@ impl Model for Member {
       asked = m.asked;
     } };
 
-    ghost invariant = { λ m. IsMember m.follower m.terms m.ttl m.presences.items m.arrivals.items };
+    ghost invariant = { λ m. IsMember m.learned m.terms m.ttl m.presences.items m.arrivals.items };
 }
 
 // What a member begins an epoch with: a log of which it has learned nothing, and nobody who was seen.
 #[derive(Drop)]
 struct Beginning {
-    follower: Follower,
+    learned: RowReplica,
     arrivals: Vec<Arrival>,
 }
 
 impl Beginning {
     fn new(alloc: Global, header: Header) -> Result<Beginning, OutOfMemory>
-        ensures follower { IfOk result (λ b. b.follower ≡ record { replica = first_replica header; rows = 0 }) }
+        ensures learned { IfOk result (λ b. b.learned ≡ record { replica = first_replica header; rows = 0 }) }
         ensures arrivals { IfOk result (λ b. b.arrivals.items ≡ replicate header.setup.nodes nobody_yet) }
     {
         let nodes = usize::from(header.setup.nodes());
         let arrivals = vec![in alloc; NOBODY_YET; nodes]?;
-        let follower = Follower::new(alloc, header)?;
-        Ok(Beginning { follower, arrivals })
+        let learned = RowReplica::new(alloc, header)?;
+        Ok(Beginning { learned, arrivals })
     }
 }
 
@@ -131,11 +131,11 @@ impl Member {
 
     // The same behind a log of which nothing was learned, if nothing is wrong with the terms.
     fn with(alloc: Global, beginning: Beginning, terms: Terms, process: u64, ttl: u64) -> Member
-        requires { IsMember beginning.follower terms ttl [] beginning.arrivals.items }
-        ensures { result ≡ member_with beginning.follower beginning.arrivals.items terms process ttl }
+        requires { IsMember beginning.learned terms ttl [] beginning.arrivals.items }
+        ensures { result ≡ member_with beginning.learned beginning.arrivals.items terms process ttl }
     {
         Member {
-            follower: beginning.follower,
+            learned: beginning.learned,
             terms,
             process,
             ttl,
@@ -159,24 +159,24 @@ impl Member {
     }
 
     /// What it has learned, and of how many rows.
-    pub fn follower(&self) -> &Follower
-        ensures { result.now ≡ self.now.follower }
+    pub fn learned(&self) -> &RowReplica
+        ensures { result.now ≡ self.now.learned }
     {
-        &self.follower
+        &self.learned
     }
 
     /// What it has learned.
     pub fn replica(&self) -> &Replica
         ensures { result.now ≡ replica_of self.now }
     {
-        self.follower.replica()
+        self.learned.replica()
     }
 
     /// The end of the log, as far as it was learned: how many rows stand behind the header.
     pub fn place(&self) -> u32
         ensures { result ≡ place_of self.now }
     {
-        self.follower.replica().events()
+        self.learned.replica().events()
     }
 
     /// Which epoch it is in, for which node, and what else that began with.

@@ -91,9 +91,9 @@ Replica::learn
 Replica::next
 settle
 owned
-Follower::take_all
-Follower::take_all/2
-Follower::take_all/3
+RowReplica::take_all
+RowReplica::take_all/2
+RowReplica::take_all/3
 upgrade
 upgrade/2
 upgrade/3

@@ -1,7 +1,7 @@
 use crate::texts::{Version, trace_of};
 use crate::trying::{Outcome, Text, Trial};
 use bully_base::{Node, NodeSet};
-use bully_replica::{Follower, Replica};
+use bully_replica::{Replica, RowReplica};
 use bully_rows::{Header, RowReader};
 use bully_settling::{owned, settle};
 use bully_world::Event;
@@ -119,8 +119,8 @@ fn text_of(alloc: Global, replica: &Replica) -> Text {
 pub fn follow_call<R: Print>(trial: &Trial<R>, version: Version) -> Option<Outcome> {
     let mut rows = RowReader::open(trial.alloc, trace_of(version).as_bytes());
     match header_of(&mut rows) {
-        Some(header) => match Follower::new(trial.alloc, header) {
-            Ok(mut follower) => take_call(trial, &mut follower, &mut rows),
+        Some(header) => match RowReplica::new(trial.alloc, header) {
+            Ok(mut learned) => take_call(trial, &mut learned, &mut rows),
             Err(_) => None,
         },
         None => None,
@@ -136,14 +136,14 @@ fn header_of<I: Read + Drop>(rows: &mut RowReader<I>) -> Option<Header> {
 
 fn take_call<R: Print, I: Read + Drop>(
     trial: &Trial<R>,
-    follower: &mut Follower,
+    learned: &mut RowReplica,
     rows: &mut RowReader<I>,
 ) -> Option<Outcome> {
     trial.begin();
-    let answer = follower.take_all(trial.alloc, rows);
+    let answer = learned.take_all(trial.alloc, rows);
     trial.end();
     match answer {
-        Ok(()) => trial.tell(false, &text_of(trial.alloc, follower.replica())),
+        Ok(()) => trial.tell(false, &text_of(trial.alloc, learned.replica())),
         Err(fault) => trial.refused(&fault, "Form(OutOfMemory)"),
     }
 }

@@ -1,6 +1,6 @@
 //! A trace that a replica learns row by row, and what comes of it, as `bully check` writes it.
 
-use bully_replica::{FollowFault, Follower};
+use bully_replica::{LearnFault, RowReplica};
 use bully_rows::RowReader;
 use bully_trace::{Verdict, verdict_lines};
 use std::alloc::Global;
@@ -14,16 +14,16 @@ pub fn learn_trace<R: Read + Drop, W: Write>(
     output: &mut W,
 ) -> Option<()> {
     let mut rows = RowReader::open(alloc, input);
-    let mut follower = begun(alloc, &mut rows)?;
-    let verdict = learned(alloc, &mut follower, &mut rows)?;
-    write_verdict(alloc, output, verdict, &follower)
+    let mut learned = begun(alloc, &mut rows)?;
+    let verdict = verdict_behind(alloc, &mut learned, &mut rows)?;
+    write_verdict(alloc, output, verdict, &learned)
 }
 
-// The follower behind the header, which is the first row.
-fn begun<R: Read + Drop>(alloc: Global, rows: &mut RowReader<R>) -> Option<Follower> {
+// The replica behind the header, which is the first row.
+fn begun<R: Read + Drop>(alloc: Global, rows: &mut RowReader<R>) -> Option<RowReplica> {
     match rows.advance() {
         Ok(true) => match rows.header() {
-            Ok(header) => Follower::new(alloc, header).ok(),
+            Ok(header) => RowReplica::new(alloc, header).ok(),
             Err(_) => None,
         },
         _ => None,
@@ -31,15 +31,15 @@ fn begun<R: Read + Drop>(alloc: Global, rows: &mut RowReader<R>) -> Option<Follo
 }
 
 // The verdict on the rows that the reader still gives.
-fn learned<R: Read + Drop>(
+fn verdict_behind<R: Read + Drop>(
     alloc: Global,
-    follower: &mut Follower,
+    learned: &mut RowReplica,
     rows: &mut RowReader<R>,
 ) -> Option<Verdict> {
-    match follower.take_all(alloc, rows) {
-        Ok(()) => Some(Verdict::Lawful(follower.replica().events())),
-        Err(FollowFault::Violation(violation)) => Some(violation.at(rows.number())),
-        Err(FollowFault::Form(_)) => None,
+    match learned.take_all(alloc, rows) {
+        Ok(()) => Some(Verdict::Lawful(learned.replica().events())),
+        Err(LearnFault::Violation(violation)) => Some(violation.at(rows.number())),
+        Err(LearnFault::Form(_)) => None,
     }
 }
 
@@ -47,9 +47,9 @@ fn write_verdict<W: Write>(
     alloc: Global,
     output: &mut W,
     verdict: Verdict,
-    follower: &Follower,
+    learned: &RowReplica,
 ) -> Option<()> {
-    let Ok(text) = verdict_lines(alloc, verdict, follower.replica().world()) else {
+    let Ok(text) = verdict_lines(alloc, verdict, learned.replica().world()) else {
         return None;
     };
     output.write_all(text.as_bytes()).ok()

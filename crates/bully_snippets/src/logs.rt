@@ -1,5 +1,5 @@
 use bully_base::Node;
-use bully_replica::{Follower, Replica};
+use bully_replica::{Replica, RowReplica};
 use bully_rows::{RowReader, push_event};
 use std::alloc::Global;
 
@@ -10,9 +10,9 @@ pub fn next_row(alloc: Global, log: &str, node: Node) -> Option<String> {
         return None;
     };
     let header = rows.header().ok()?;
-    let mut follower = Follower::new(alloc, header).ok()?;
-    match follower.take_all(alloc, &mut rows) {
-        Ok(()) => row_of(alloc, follower.replica(), node),
+    let mut learned = RowReplica::new(alloc, header).ok()?;
+    match learned.take_all(alloc, &mut rows) {
+        Ok(()) => row_of(alloc, learned.replica(), node),
         Err(_) => None, // the first row that isn't learned: it, and all behind it, every replica refuses
     }
 }

@@ -1,9 +1,9 @@
 //! What a member learns of its epoch's log, and how it goes on in the next one.
 ghost use Rattle.std.specs.Prelude.{◌≡◌, ◌≤◌, IfErr, IfOk, List, None, OnOk, Some, [], true, false, replicate};
-ghost use Rattle.bully_member.specs.Learned.{RefusesTerms, ending_behind, followed, in_epoch, is_broken, is_following, is_of_log, learned, not_there};
+ghost use Rattle.bully_member.specs.Learned.{RefusesTerms, after_learning, ending_behind, followed, in_epoch, is_broken, is_following, is_of_log, not_there};
 ghost use Rattle.bully_member.specs.Member.{nobody_yet};
 ghost use Rattle.bully_member.specs.Opening.{terms_fault};
-ghost use Rattle.bully_replica.specs.Following.{FollowsUpTo, Stops};
+ghost use Rattle.bully_replica.specs.RowReplica.{FollowsUpTo, Stops};
 ghost use Rattle.bully_rows.specs.Headers.{Record};
 ghost use Rattle.bully_rows.specs.declared.TheConstants.{ROWS_MAX};
 ghost use Rattle.bully_member.specs.Told.{end_for, to_pause};
@@ -12,28 +12,28 @@ ghost use Rattle.bully_member.specs.declared.values.Ending.{Ending as EndingStat
 use super::{Beginning, Member};
 use crate::opening::{MemberFault, Terms, terms_fault};
 use crate::values::{Asked, Ending, Promise, Request, Unrest};
-use bully_replica::{FollowFault, Follower};
+use bully_replica::{LearnFault, RowReplica};
 use bully_rows::{Header, RowReader, TraceCause};
 use std::alloc::Global;
 use std::io::Read;
 
 impl Member {
-    /// Learns the rows that a look found behind all that it has learned, as [`Follower::take_all`] does. If one isn't learned, but
+    /// Learns the rows that a look found behind all that it has learned, as [`RowReplica::take_all`] does. If one isn't learned, but
     /// for want of memory or since it can't be read, or if one tells no event, the member ends as `Broken`.
     pub fn learn<R: Read + Drop>(
         &mut self,
         alloc: Global,
         reader: &mut RowReader<R>,
-    ) -> Result<(), FollowFault>
-        ensures all { OnOk result ((records : List Record) → reader.old.records ≡ Some records → FollowsUpTo records self.old.follower self.new.follower []) }
+    ) -> Result<(), LearnFault>
+        ensures all { OnOk result ((records : List Record) → reader.old.records ≡ Some records → FollowsUpTo records self.old.learned self.new.learned []) }
         ensures part { IfErr result (λ fault. (records : List Record) → reader.old.records ≡ Some records
-            → (left : List Record) × FollowsUpTo records self.old.follower self.new.follower left × Stops reader.old self.old.follower left self.new.follower fault) }
-        ensures rest { self.new ≡ learned self.old self.new.follower result }
-        ensures counted { self.old.follower.rows ≤ self.new.follower.rows }
-        ensures within { self.new.follower.rows ≤ ROWS_MAX }
+            → (left : List Record) × FollowsUpTo records self.old.learned self.new.learned left × Stops reader.old self.old.learned left self.new.learned fault) }
+        ensures rest { self.new ≡ after_learning self.old self.new.learned result }
+        ensures counted { self.old.learned.rows ≤ self.new.learned.rows }
+        ensures within { self.new.learned.rows ≤ ROWS_MAX }
     {
-        let taken = self.follower.take_all(alloc, reader);
-        self.ending = ending_behind(self.ending, is_broken(&self.follower, &taken));
+        let taken = self.learned.take_all(alloc, reader);
+        self.ending = ending_behind(self.ending, is_broken(&self.learned, &taken));
         taken
     }
 
@@ -100,11 +100,11 @@ impl Member {
 
     // It goes on in this epoch, of whose log nothing was learned.
     fn begin_epoch(&mut self, alloc: Global, now: u64, beginning: Beginning, terms: Terms)
-        requires fits { terms_fault beginning.follower.replica.world.setup terms ≡ None }
-        requires nobody { beginning.arrivals.items ≡ replicate beginning.follower.replica.world.setup.nodes nobody_yet }
-        ensures { self.new ≡ in_epoch self.old now beginning.follower terms }
+        requires fits { terms_fault beginning.learned.replica.world.setup terms ≡ None }
+        requires nobody { beginning.arrivals.items ≡ replicate beginning.learned.replica.world.setup.nodes nobody_yet }
+        ensures { self.new ≡ in_epoch self.old now beginning.learned terms }
     {
-        self.follower = beginning.follower;
+        self.learned = beginning.learned;
         self.arrivals = beginning.arrivals;
         self.terms = terms;
         self.promised = 0;
@@ -121,11 +121,11 @@ impl Member {
 }
 
 // Whether no member can go on behind what was learned.
-fn is_broken(follower: &Follower, taken: &Result<(), FollowFault>) -> bool
-    ensures { result ≡ is_broken follower.now taken.now }
+fn is_broken(learned: &RowReplica, taken: &Result<(), LearnFault>) -> bool
+    ensures { result ≡ is_broken learned.now taken.now }
 {
     match taken {
-        Ok(()) => follower.rows() != follower.replica().events(),
+        Ok(()) => learned.rows() != learned.replica().events(),
         Err(fault) => is_of_log(*fault),
     }
 }
@@ -141,12 +141,12 @@ fn ending_behind(ending: Option<Ending>, is_broken: bool) -> Option<Ending>
 }
 
 // Whether the fault is the log's.
-fn is_of_log(fault: FollowFault) -> bool
+fn is_of_log(fault: LearnFault) -> bool
     ensures { result ≡ is_of_log fault }
 {
     match fault {
-        FollowFault::Form(TraceCause::OutOfMemory | TraceCause::Read) => false,
-        FollowFault::Form(_) | FollowFault::Violation(_) => true,
+        LearnFault::Form(TraceCause::OutOfMemory | TraceCause::Read) => false,
+        LearnFault::Form(_) | LearnFault::Violation(_) => true,
     }
 }
 

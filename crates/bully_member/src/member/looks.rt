@@ -21,7 +21,7 @@ impl Member {
         has_strangers: bool,
         is_wished: bool,
     )
-        requires { epoch ≡ self.old.terms.epoch → AreNodes self.old.follower presences.items }
+        requires { epoch ≡ self.old.terms.epoch → AreNodes self.old.learned presences.items }
         ensures { self.new ≡ looked self.old now epoch presences.items has_strangers is_wished }
     {
         if !is_looking(self.asked) {
@@ -43,7 +43,7 @@ impl Member {
         has_strangers: bool,
         is_wished: bool,
     )
-        requires { AreNodes self.old.follower presences.items }
+        requires { AreNodes self.old.learned presences.items }
         ensures { self.new ≡ seen_here self.old now presences.items has_strangers is_wished }
     {
         self.take_arrivals(now, &presences);
@@ -58,7 +58,7 @@ impl Member {
         has_strangers: bool,
         is_wished: bool,
     )
-        requires { AreNodes self.old.follower presences.items }
+        requires { AreNodes self.old.learned presences.items }
         ensures { self.new ≡ found self.old now presences.items has_strangers is_wished }
     {
         self.unrest = self.unrest_then(now, &presences, is_wished);

@@ -22,7 +22,7 @@ impl Member {
     {
         owned(
             alloc,
-            self.follower.replica(),
+            self.learned.replica(),
             self.terms.node,
             self.promised,
         )
@@ -39,7 +39,7 @@ impl Member {
     {
         settle(
             alloc,
-            self.follower.replica(),
+            self.learned.replica(),
             &self.settlers(),
             self.terms.old.as_ref(),
         )

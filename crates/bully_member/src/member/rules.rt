@@ -120,7 +120,7 @@ impl Member {
     fn token_now(&self) -> Option<u32>
         ensures { result ≡ token_now self.now }
     {
-        may_work(self.follower.replica(), self.terms.node, self.promised)
+        may_work(self.learned.replica(), self.terms.node, self.promised)
     }
 
     // Nothing is to be stopped, and something may be asked.
@@ -308,10 +308,10 @@ impl Member {
         ensures { IsTrue result ↔ Rests self.now now }
     {
         is_at_rest(
-            self.follower.replica(),
+            self.learned.replica(),
             &self.group(now),
             self.most_idle(now),
-        ) && self.promised < self.follower.replica().token()
+        ) && self.promised < self.learned.replica().token()
             && !self.is_closing()
     }
 
@@ -319,7 +319,7 @@ impl Member {
     fn are_down(&self) -> bool
         ensures { IsTrue result ↔ AllAreDown self.now }
     {
-        is_at_rest(self.follower.replica(), &NodeSet::new(), 0)
+        is_at_rest(self.learned.replica(), &NodeSet::new(), 0)
     }
 
     // The end of the log, as far as it was learned.
@@ -367,7 +367,7 @@ impl Member {
     fn is_down(&self, node: Node) -> bool
         ensures { result ≡ is_down self.now node }
     {
-        let world = self.follower.replica().world();
+        let world = self.learned.replica().world();
         world.setup().nodes() < node.number() || world.vector(node).status() == Status::Down
     }
 
@@ -400,7 +400,7 @@ impl Member {
     fn has_room(&self) -> bool
         ensures { result ≡ has_room self.now }
     {
-        let nodes = u32::from(self.follower.replica().world().setup().nodes());
+        let nodes = u32::from(self.learned.replica().world().setup().nodes());
         self.place() + SETTLING_MAX * nodes <= self.terms.rows_max
     }
 

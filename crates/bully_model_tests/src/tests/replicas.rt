@@ -2,7 +2,7 @@
 
 use super::scripts::{ALL_UP, ALONE, OTHERS_DOWN};
 use bully_base::Node;
-use bully_replica::{FollowFault, Follower, Replica};
+use bully_replica::{LearnFault, Replica, RowReplica};
 use bully_rows::{Header, Row, RowReader, TraceCause, push_event, read_trace};
 use bully_trace::Violation;
 use bully_world::{Event, Refused};
@@ -86,14 +86,14 @@ fn what_is_appended_next(rt: HostRuntime) {
     assert!(rt; is_grown(rt.alloc(), ALL_UP, 26, 19, 3));
 }
 
-// The follower of a text, and what ended it.
-fn followed(alloc: Global, text: &str) -> Option<(u32, u32, Option<FollowFault>)> {
+// The replica of a text, and what ended it.
+fn followed(alloc: Global, text: &str) -> Option<(u32, u32, Option<LearnFault>)> {
     let mut rows = RowReader::open(alloc, text.as_bytes());
     let header = header_of(&mut rows)?;
-    match Follower::new(alloc, header) {
-        Ok(mut follower) => {
-            let fault = follower.take_all(alloc, &mut rows).err();
-            Some((follower.rows(), follower.replica().token(), fault))
+    match RowReplica::new(alloc, header) {
+        Ok(mut learned) => {
+            let fault = learned.take_all(alloc, &mut rows).err();
+            Some((learned.rows(), learned.replica().token(), fault))
         }
         Err(_) => None,
     }
@@ -107,32 +107,32 @@ fn header_of<R: Read + Drop>(rows: &mut RowReader<R>) -> Option<Header> {
 }
 
 /// A log, how many of its rows are learned, and why the next one isn't.
-const FOLLOWED: [(&str, u32, u32, Option<FollowFault>); 6] = [
+const FOLLOWED: [(&str, u32, u32, Option<LearnFault>); 6] = [
     (ALL_UP, 26, 19, None),
     ("bully,1,1,1\n", 0, 0, None),
     (
         "bully,1,1,1\nrecover,1\nrecover,1\n",
         1,
         0,
-        Some(FollowFault::Violation(Violation::Refused(Refused::IsUp))),
+        Some(LearnFault::Violation(Violation::Refused(Refused::IsUp))),
     ),
     (
         "bully,1,1,1\nrecover,1\nsaw,1,normal,1\n",
         1,
         0,
-        Some(FollowFault::Violation(Violation::Differs)),
+        Some(LearnFault::Violation(Violation::Differs)),
     ),
     (
         "bully,3,2,1,1 1,clear\nrecover,1\nstart,1,halt,2\n",
         1,
         0,
-        Some(FollowFault::Violation(Violation::Differs)),
+        Some(LearnFault::Violation(Violation::Differs)),
     ),
     (
         "bully,1,1,1\nrecover,1\nmove\n",
         1,
         0,
-        Some(FollowFault::Form(TraceCause::BadRow)),
+        Some(LearnFault::Form(TraceCause::BadRow)),
     ),
 ];
 

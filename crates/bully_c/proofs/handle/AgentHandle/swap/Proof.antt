@@ -19,9 +19,9 @@ use denote.Signature.{plain}
 use denote.Steps.{nothing, opens, closes, peeks}
 use denote.Triple.Walked.{Stays, walk_of, says, stay_ref, stay_dropped, Goes-ref, Goes-dropped, ends_at}
 use Rattle.std.proofs.raw_atomic.Walks.{proved}
-use Rattle.bully_c.proofs.LooseLemmas.{word, word-Good, word_in, Ptr-Good}
-use Rattle.bully_c.specs.contracts.loose.Loose as loose
-use Rattle.bully_c.proofs.loose.Loose.TheLaws as loose_laws
+use Rattle.bully_c.proofs.RawBoxLemmas.{word, word-Good, word_in, Ptr-Good}
+use Rattle.bully_c.specs.contracts.raw_box.RawBox as raw_box
+use Rattle.bully_c.proofs.raw_box.RawBox.TheLaws as raw_box_laws
 use Rattle.bully_c.specs.contracts.session.AgentSession as held
 use Rattle.bully_c.proofs.session.AgentSession.TheLaws as held_laws
 use Rattle.bully_c.specs.contracts.handle.AgentHandle as handle
@@ -34,7 +34,7 @@ abbrev H : RattleType
 H = handle.the_row
 
 abbrev L : RattleType
-L = loose.the_row held.the_row
+L = raw_box.the_row held.the_row
 
 abbrev stayed : Stays f.ended.signature.params f.ended.kept
 stayed = (stay_ref (0 ∷ []) tt (plain (λ _. H)), (stay_dropped (plain (λ _. L)) yes, tt))
@@ -44,7 +44,7 @@ swap_spec 𝓤 𝓛 𝓜 𝓡 wired =
     let c = f.clauses 𝓛 𝓜.mem 𝓡.returns in let W = walk_of 𝓛 f.ended stayed c in
     proved 𝓛 f.ended stayed c 𝓜 𝓡 (Goes-ref 𝓛 1 0 tt (plain (λ _. H)), (Goes-dropped 𝓛 1 (plain (λ _. L)) yes (λ κs x e. refl), tt))
     f.Key.name code.function (code.unfolded 𝓤 𝓛.H 𝓜 𝓡 wired)
-    (λ κs. (mut_vals, ((λ l. word l.at ∷ []), tt))) (λ κs. (mut_Tells (named 0) κs.0 H, ((loose_laws.lowers held.the_row held_laws.the_row_laws).val_is, tt))) (λ κs qs bounds a _ are.
+    (λ κs. (mut_vals, ((λ l. word l.at ∷ []), tt))) (λ κs. (mut_Tells (named 0) κs.0 H, ((raw_box_laws.lowers held.the_row held_laws.the_row_laws).val_is, tt))) (λ κs qs bounds a _ are.
     let b = a.0.ref_ptr.0 in let o = a.0.ref_ptr.1 in let h = a.0.now in let l = a.1.0 in
     let y : W.Ghost = ((κs, qs, bounds, a, (mut_vals a.0, (word l.at ∷ [], tt))), tt) in
     qed 𝓛 (((‵ (flft κs.0 qs.0) ⊛ ‵ ftrue) ⊛ ‵ ((MutRef (named 0) κs.0 H).own_val a.0 (mut_vals a.0)) ⊛ ‵ (L.own_val l (word l.at ∷ [])) ⊛ ‵ ftrue) ∷ ‵ ftrue ∷ []) ∵

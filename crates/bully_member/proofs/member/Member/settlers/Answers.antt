@@ -7,5 +7,5 @@ pub returns-in-None-clause-nodes : goal.returns-in-None-clause-nodes
 returns-in-None-clause-nodes c =
     let m = c.args.self.now in
     let bound = (replica_of m).world.setup.nodes in
-    let nodes = subst (λ (m : MemberState). AreNodes m.follower m.presences) c.self.view_is c.self.invariant.nodes in
+    let nodes = subst (λ (m : MemberState). AreNodes m.learned m.presences) c.self.view_is c.self.invariant.nodes in
     subst (All (λ m. m ≤ bound)) (sym c.present.ensures) (present_within bound m.presences nodes)

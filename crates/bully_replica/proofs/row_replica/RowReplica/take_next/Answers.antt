@@ -1,5 +1,5 @@
-use Rattle.bully_replica.proofs.FollowLemmas.{fails_at, stays_at, took}
-use Rattle.bully_replica.proofs.follower.Follower.take_next.Goals as goal
+use Rattle.bully_replica.proofs.RowReplicaLemmas.{fails_at, stays_at, took}
+use Rattle.bully_replica.proofs.row_replica.RowReplica.take_next.Goals as goal
 
 pub returns-clause-takes : goal.returns-clause-takes
 returns-clause-takes g c = took c.take_next-taken.result c.args.reader.now c.take_next-taken.new.rows _ _ c.take_next-taken.ensures.taken c.take_next-taken.ensures.ended

@@ -1,5 +1,5 @@
 ghost use Rattle.std.specs.Prelude.{◌≡◌, ◌≤◌, ◌+◌, [], List, IfErr, IfOk, OnOk, None, Some, false, length, true};
-ghost use Rattle.bully_replica.specs.Following.{FailsAt, FailsOn, Follows, FollowsUpTo, LearnsFields, Stops};
+ghost use Rattle.bully_replica.specs.RowReplica.{FailsAt, FailsOn, Follows, FollowsUpTo, LearnsFields, Stops};
 ghost use Rattle.bully_replica.specs.Replica.{HasLearned, first_replica};
 ghost use Rattle.bully_rows.specs.Headers.{Record};
 ghost use Rattle.bully_rows.specs.RecordsLeft.{Takes};
@@ -18,7 +18,7 @@ use std::marker::Model;
 
 /// Why the next row of a log isn't learned.
 #[derive(Clone, Copy, PartialEq, Eq, Debug)]
-pub enum FollowFault {
+pub enum LearnFault {
     /// It has no form of a row (`BadRow`), comes behind as many rows as a trace has at most (`TooManyRows`), or couldn't be
     /// read (`Read`, `OutOfMemory`).
     Form(TraceCause),
@@ -26,43 +26,43 @@ pub enum FollowFault {
     Violation(Violation),
 }
 
-impl From<TraceFault> for FollowFault {
+impl From<TraceFault> for LearnFault {
     ghost use Rattle.std.specs.Prelude.{◌≡◌};
-    ghost use Rattle.bully_replica.specs.declared.follower.FollowFault.{FollowFault};
+    ghost use Rattle.bully_replica.specs.declared.row_replica.LearnFault.{LearnFault};
 
-    ghost from_gives = { λ fault follow. follow ≡ FollowFault.Form fault.cause };
+    ghost from_gives = { λ fault follow. follow ≡ LearnFault.Form fault.cause };
 
-    fn from(fault: TraceFault) -> FollowFault {
-        FollowFault::Form(fault.cause)
+    fn from(fault: TraceFault) -> LearnFault {
+        LearnFault::Form(fault.cause)
     }
 }
 
 /// The replica of a log whose rows are read one by one, and how many it learned.
 #[derive(Drop)]
-pub struct Follower {
+pub struct RowReplica {
     replica: Replica,
     rows: u32,
 }
 
-impl Model for Follower {
+impl Model for RowReplica {
     ghost use Rattle.std.specs.Prelude.{◌≤◌};
-    ghost use Rattle.bully_replica.specs.Following.{FollowerState};
+    ghost use Rattle.bully_replica.specs.RowReplica.{RowReplicaState};
     ghost use Rattle.bully_rows.specs.declared.TheConstants.{ROWS_MAX};
 
-    ghost Value = { FollowerState };
+    ghost Value = { RowReplicaState };
 
     ghost view = { λ f. record { replica = f.replica; rows = f.rows } };
 
     ghost invariant = { λ f. f.rows ≤ ROWS_MAX };
 }
 
-impl Follower {
+impl RowReplica {
     /// Behind this header, before any row. It reserves all memory that the events will need. Refused if an allocation fails.
-    pub fn new(alloc: Global, header: Header) -> Result<Follower, OutOfMemory>
+    pub fn new(alloc: Global, header: Header) -> Result<RowReplica, OutOfMemory>
         ensures ok { IfOk result (λ f. f ≡ record { replica = first_replica header; rows = 0 }) }
         ensures learned { IfOk result (λ f. HasLearned f.replica []) }
     {
-        Ok(Follower {
+        Ok(RowReplica {
             replica: Replica::behind(alloc, header)?,
             rows: 0,
         })
@@ -89,7 +89,7 @@ impl Follower {
         &mut self,
         alloc: Global,
         reader: &mut RowReader<R>,
-    ) -> Result<bool, FollowFault>
+    ) -> Result<bool, LearnFault>
         ensures takes { IfOk result (λ found. Takes reader.old.records reader.new.records found reader.new.fields) }
         ensures follows { IfOk result (λ found. found ≡ true → Follows reader.new.fields self.old self.new) }
         ensures counted { IfOk result (λ found. found ≡ true → reader.new.number ≡ reader.old.number + 1) }
@@ -104,13 +104,13 @@ impl Follower {
         taken
     }
 
-    /// Learns the rows that the reader still gives, in their order, up to the first that [`Follower::take_next`] refuses; what was
+    /// Learns the rows that the reader still gives, in their order, up to the first that [`RowReplica::take_next`] refuses; what was
     /// learned before it stays.
     pub fn take_all<R: Read + Drop>(
         &mut self,
         alloc: Global,
         reader: &mut RowReader<R>,
-    ) -> Result<(), FollowFault>
+    ) -> Result<(), LearnFault>
         ensures all { OnOk result ((records : List Record) → reader.old.records ≡ Some records → FollowsUpTo records self.old self.new []) }
         ensures part { IfErr result (λ fault. (records : List Record) → reader.old.records ≡ Some records
             → (left : List Record) × FollowsUpTo records self.old self.new left × Stops reader.old self.old left self.new fault) }
@@ -125,19 +125,19 @@ impl Follower {
     }
 }
 
-impl<R: Read + Drop> RowTaker<R> for Follower {
+impl<R: Read + Drop> RowTaker<R> for RowReplica {
     ghost use Rattle.std.specs.Prelude.{◌≡◌};
-    ghost use Rattle.bully_replica.specs.Following.{FailsBehind, Follows};
+    ghost use Rattle.bully_replica.specs.RowReplica.{FailsBehind, Follows};
 
-    type Fault = FollowFault;
+    type Fault = LearnFault;
 
     ghost takes = { λ reader f after. Follows reader.fields f after };
 
     ghost refuses = { λ reader f after fault. FailsBehind reader.fields f fault × (after ≡ f) };
 
-    fn take(&mut self, alloc: Global, rows: &RowReader<R>) -> Result<(), FollowFault> {
+    fn take(&mut self, alloc: Global, rows: &RowReader<R>) -> Result<(), LearnFault> {
         if self.rows == ROWS_MAX {
-            return Err(FollowFault::Form(TraceCause::TooManyRows));
+            return Err(LearnFault::Form(TraceCause::TooManyRows));
         }
         learn_next(alloc, &mut self.replica, rows)?;
         self.rows += 1;
@@ -151,7 +151,7 @@ fn learn_next<R: Read + Drop>(
     alloc: Global,
     replica: &mut Replica,
     reader: &RowReader<R>,
-) -> Result<(), FollowFault>
+) -> Result<(), LearnFault>
     ensures learned { OnOk result (LearnsFields reader.now.fields replica.old replica.new) }
     ensures fault { IfErr result (FailsOn reader.now.fields replica.old) }
     ensures unchanged { IfErr result (λ _. replica.new ≡ replica.old) }
@@ -159,7 +159,7 @@ fn learn_next<R: Read + Drop>(
     match reader.node_event(replica.version()) {
         Some(event) => match replica.learn_node_event(event) {
             Ok(()) => Ok(()),
-            Err(violation) => Err(FollowFault::Violation(violation)),
+            Err(violation) => Err(LearnFault::Violation(violation)),
         },
         None => learn_longer(alloc, replica, reader),
     }
@@ -171,7 +171,7 @@ fn learn_longer<R: Read + Drop>(
     alloc: Global,
     replica: &mut Replica,
     reader: &RowReader<R>,
-) -> Result<(), FollowFault>
+) -> Result<(), LearnFault>
     requires { length reader.now.fields ≡ 2 → row_of replica.old.version replica.old.world.setup reader.now.fields ≡ None }
     ensures learned { OnOk result (LearnsFields reader.now.fields replica.old replica.new) }
     ensures fault { IfErr result (FailsOn reader.now.fields replica.old) }
@@ -180,9 +180,9 @@ fn learn_longer<R: Read + Drop>(
     match &reader.longer_row(alloc, replica.version(), replica.world().setup()) {
         Ok(Some(row)) => match replica.learn_row(row) {
             Ok(()) => Ok(()),
-            Err(violation) => Err(FollowFault::Violation(violation)),
+            Err(violation) => Err(LearnFault::Violation(violation)),
         },
-        Ok(None) => Err(FollowFault::Form(TraceCause::BadRow)),
-        Err(_) => Err(FollowFault::Form(TraceCause::OutOfMemory)),
+        Ok(None) => Err(LearnFault::Form(TraceCause::BadRow)),
+        Err(_) => Err(LearnFault::Form(TraceCause::OutOfMemory)),
     }
 }

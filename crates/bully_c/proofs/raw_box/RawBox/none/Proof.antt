@@ -12,10 +12,10 @@ use denote.Param.{layouts}
 use denote.Steps.{nothing}
 use denote.Triple.Walked.{ends_at, says}
 use Rattle.std.proofs.raw_atomic.Walks.{proved}
-use Rattle.bully_c.proofs.LooseLemmas.{word, word-Good, word_in}
-use Rattle.bully_c.specs.contracts.loose.Loose.none as f
-use Rattle.bully_c.proofs.loose.Loose.none.Statement.{statement}
-use Rattle.bully_c.proofs.loose.Loose.none.Code as code
+use Rattle.bully_c.proofs.RawBoxLemmas.{word, word-Good, word_in}
+use Rattle.bully_c.specs.contracts.raw_box.RawBox.none as f
+use Rattle.bully_c.proofs.raw_box.RawBox.none.Statement.{statement}
+use Rattle.bully_c.proofs.raw_box.RawBox.none.Code as code
 
 pub none_spec : {M : Type 1} → statement M
 none_spec 𝓤 𝓛 𝓜 𝓡 wired T L =

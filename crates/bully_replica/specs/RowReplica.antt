@@ -7,11 +7,11 @@ use Rattle.bully_rows.specs.declared.TheConstants.{ROWS_MAX}
 use Rattle.bully_rows.specs.declared.trace.Row.{Row}
 use Rattle.bully_rows.specs.declared.trace.TraceCause.{TraceCause}
 use Rattle.bully_replica.specs.Replica.{HasLearned, Learns, ReplicaState}
-use Rattle.bully_replica.specs.declared.follower.FollowFault.{FollowFault}
+use Rattle.bully_replica.specs.declared.row_replica.LearnFault.{LearnFault}
 use Rattle.bully_trace.specs.OneRow.{violation_of}
 
 -- the replica, and how many rows it learned
-pub record FollowerState : Type 0 where
+pub record RowReplicaState : Type 0 where
   pub replica : ReplicaState
   pub rows : ℕ
 
@@ -24,31 +24,31 @@ abbrev pub LearnsFields : Record → ReplicaState → ReplicaState → Type 0
 LearnsFields fields before after = (row : Row) × (row_in before fields ≡ Some row) × Learns row before after
 
 -- and counted; there was room for it
-abbrev pub Follows : Record → FollowerState → FollowerState → Type 0
+abbrev pub Follows : Record → RowReplicaState → RowReplicaState → Type 0
 Follows fields before after = LearnsFields fields before.replica after.replica × (before.rows < ROWS_MAX) × (after.rows ≡ before.rows + 1)
 
 -- why these fields aren't learned: they mean no row, or something is wrong with the row; or there is no memory
-abbrev pub FailsOn : Record → ReplicaState → FollowFault → Type 0
-FailsOn fields r (FollowFault.Form cause) = (cause ≡ TraceCause.OutOfMemory) ⊎ ((cause ≡ TraceCause.BadRow) × (row_in r fields ≡ None))
-FailsOn fields r (FollowFault.Violation violation) = (row : Row) × (row_in r fields ≡ Some row) × (violation_of r.world row ≡ Some violation)
+abbrev pub FailsOn : Record → ReplicaState → LearnFault → Type 0
+FailsOn fields r (LearnFault.Form cause) = (cause ≡ TraceCause.OutOfMemory) ⊎ ((cause ≡ TraceCause.BadRow) × (row_in r fields ≡ None))
+FailsOn fields r (LearnFault.Violation violation) = (row : Row) × (row_in r fields ≡ Some row) × (violation_of r.world row ≡ Some violation)
 
 -- why these fields aren't learned behind the rows so far: a trace has no more rows, or FailsOn
-abbrev pub FailsBehind : Record → FollowerState → FollowFault → Type 0
+abbrev pub FailsBehind : Record → RowReplicaState → LearnFault → Type 0
 FailsBehind fields f fault =
-    ((f.rows ≡ ROWS_MAX) × (fault ≡ FollowFault.Form TraceCause.TooManyRows)) ⊎ ((f.rows < ROWS_MAX) × FailsOn fields f.replica fault)
+    ((f.rows ≡ ROWS_MAX) × (fault ≡ LearnFault.Form TraceCause.TooManyRows)) ⊎ ((f.rows < ROWS_MAX) × FailsOn fields f.replica fault)
 
 -- why no row can be had: the reader fails, or there is no memory; or it has given as many as a trace has with its header
-abbrev pub FailsOutside : ReadSoFar → FollowFault → Type 0
+abbrev pub FailsOutside : ReadSoFar → LearnFault → Type 0
 FailsOutside reader fault =
-    (fault ≡ FollowFault.Form TraceCause.Read) ⊎ (fault ≡ FollowFault.Form TraceCause.OutOfMemory)
-    ⊎ ((fault ≡ FollowFault.Form TraceCause.TooManyRows) × (reader.number ≡ ROWS_MAX + 1))
+    (fault ≡ LearnFault.Form TraceCause.Read) ⊎ (fault ≡ LearnFault.Form TraceCause.OutOfMemory)
+    ⊎ ((fault ≡ LearnFault.Form TraceCause.TooManyRows) × (reader.number ≡ ROWS_MAX + 1))
 
 -- why the next row isn't learned
-abbrev pub FailsAt : ReadSoFar → ReadSoFar → FollowerState → FollowFault → Type 0
+abbrev pub FailsAt : ReadSoFar → ReadSoFar → RowReplicaState → LearnFault → Type 0
 FailsAt before after f fault = FailsOutside before fault ⊎ (Takes before.records after.records true after.fields × FailsBehind after.fields f fault)
 
 -- of these records the first were learned, as the rows that they mean, behind those before; and the others are left
-pub record FollowsUpTo (records : List Record) (before after : FollowerState) (left : List Record) : Type 0 where
+pub record FollowsUpTo (records : List Record) (before after : RowReplicaState) (left : List Record) : Type 0 where
   pub rows : List Row
   pub read : List Record
   pub parts : records ≡ read ++ left
@@ -59,12 +59,12 @@ pub record FollowsUpTo (records : List Record) (before after : FollowerState) (l
   pub learned : (earlier : List Row) → HasLearned before.replica earlier → HasLearned after.replica (earlier ++ rows)
 
 -- why the first of those that are left isn't learned: it can't be read, or there is no memory, or FailsBehind
-abbrev pub StopsAt : List Record → FollowerState → FollowFault → Type 0
+abbrev pub StopsAt : List Record → RowReplicaState → LearnFault → Type 0
 StopsAt left f fault =
-    (fault ≡ FollowFault.Form TraceCause.Read) ⊎ (fault ≡ FollowFault.Form TraceCause.OutOfMemory)
+    (fault ≡ LearnFault.Form TraceCause.Read) ⊎ (fault ≡ LearnFault.Form TraceCause.OutOfMemory)
     ⊎ ((fields : Record) × (rest : List Record) × (left ≡ fields ∷ rest) × FailsBehind fields f fault)
 
--- or a reader that stood here when the follower was at `before` has given as many as a trace has with its header
-abbrev pub Stops : ReadSoFar → FollowerState → List Record → FollowerState → FollowFault → Type 0
+-- or a reader that stood here when the replica was at `before` has given as many as a trace has with its header
+abbrev pub Stops : ReadSoFar → RowReplicaState → List Record → RowReplicaState → LearnFault → Type 0
 Stops reader before left f fault =
-    StopsAt left f fault ⊎ ((fault ≡ FollowFault.Form TraceCause.TooManyRows) × (reader.number + f.rows ≡ before.rows + (ROWS_MAX + 1)))
+    StopsAt left f fault ⊎ ((fault ≡ LearnFault.Form TraceCause.TooManyRows) × (reader.number + f.rows ≡ before.rows + (ROWS_MAX + 1)))

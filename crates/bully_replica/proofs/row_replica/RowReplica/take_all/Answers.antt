@@ -1,5 +1,5 @@
-use Rattle.bully_replica.proofs.FollowLemmas.{all_followed, part_followed, rows_grow, setup_stays}
-use Rattle.bully_replica.proofs.follower.Follower.take_all.Goals as goal
+use Rattle.bully_replica.proofs.RowReplicaLemmas.{all_followed, part_followed, rows_grow, setup_stays}
+use Rattle.bully_replica.proofs.row_replica.RowReplica.take_all.Goals as goal
 
 pub returns-clause-all : goal.returns-clause-all
 returns-clause-all g c = all_followed c.take_each-taken.result c.args.reader.now c.take_each-taken.new.rows c.args.self.now c.take_each-taken.new.taker c.take_each-taken.ensures.all

@@ -1,37 +1,37 @@
 //! A box as its pointer, for what C holds.
 ghost use Rattle.std.specs.Prelude.{◌≡◌, Option, None, Some, MatchOption};
-ghost use Rattle.bully_c.specs.Ownership.{loose_owns};
+ghost use Rattle.bully_c.specs.Ownership.{raw_box_owns};
 
 use std::alloc::Global;
 use std::marker::Model;
 use std::ptr::null_mut;
 
-/// A box as its pointer, which it owns, or null where there is none. To let it go without [`Loose::into_box`] is to lose the box.
-pub struct Loose<T> {
+/// A box as its pointer, which it owns, or null where there is none. To let it go without [`RawBox::into_box`] is to lose the box.
+pub struct RawBox<T> {
     pub at: *mut T,
     /// What lies there; none where the pointer is null.
     pub ghost value: { Option T },
 }
 
-impl<T> Model for Loose<T> {
-    ghost also_owns = { λ l. loose_owns T.row l.at l.value };
+impl<T> Model for RawBox<T> {
+    ghost also_owns = { λ l. raw_box_owns T.row l.at l.value };
 }
 
-impl<T> Loose<T> {
+impl<T> RawBox<T> {
     /// Null.
-    pub fn none() -> Loose<T>
+    pub fn none() -> RawBox<T>
         ensures { result.value ≡ None }
     {
-        Loose { at: null_mut() }
+        RawBox { at: null_mut() }
     }
 
     /// The box as its pointer.
-    pub fn of(value: Box<T>) -> Loose<T>
+    pub fn of(value: Box<T>) -> RawBox<T>
     where
         T: Drop,
         ensures { result.value ≡ Some value.value }
     {
-        Loose {
+        RawBox {
             at: Box::into_raw(value),
         }
     }
@@ -40,7 +40,7 @@ impl<T> Loose<T> {
     pub fn into_box(self, alloc: Global) -> Option<Box<T>>
         ensures { MatchOption result (self.value ≡ None) (λ b. self.value ≡ Some b.value) }
     {
-        let Loose { at } = self;
+        let RawBox { at } = self;
         if at.is_null() {
             return None;
         }

@@ -1,6 +1,6 @@
 use Rattle.bully_calls.specs.Events.{event_at}
 use Rattle.bully_rows.specs.declared.trace.Row.{Row}
-use Rattle.bully_replica.proofs.follower.learn_next.Goals as goal
+use Rattle.bully_replica.proofs.row_replica.learn_next.Goals as goal
 
 pub returns-in-Err-clause-fault : goal.returns-in-Err-clause-fault
 returns-in-Err-clause-fault g c = (

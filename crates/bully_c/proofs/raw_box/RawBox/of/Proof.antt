@@ -37,10 +37,10 @@ use Rattle.std_alloc.proofs.boxed.Box.TheLaws as box_laws
 use Rattle.std_alloc.specs.contracts.boxed.Box.into_raw as g
 use Rattle.std_alloc.proofs.boxed.Box.into_raw.Met.{met}
 use Rattle.bully_c.proofs.Heap.{Heap, heap_told, drops, dropped}
-use Rattle.bully_c.proofs.LooseLemmas.{word, word-Good, word_in, Ptr-Good}
-use Rattle.bully_c.specs.contracts.loose.Loose.of as f
-use Rattle.bully_c.proofs.loose.Loose.of.Statement.{statement}
-use Rattle.bully_c.proofs.loose.Loose.of.Code as code
+use Rattle.bully_c.proofs.RawBoxLemmas.{word, word-Good, word_in, Ptr-Good}
+use Rattle.bully_c.specs.contracts.raw_box.RawBox.of as f
+use Rattle.bully_c.proofs.raw_box.RawBox.of.Statement.{statement}
+use Rattle.bully_c.proofs.raw_box.RawBox.of.Code as code
 use denote.Param.Laws.{param_laws}
 
 pub of_spec : {M : Type 1} → statement M

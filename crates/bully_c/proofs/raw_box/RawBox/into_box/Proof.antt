@@ -42,28 +42,28 @@ use Rattle.std_alloc.proofs.ResultValues.{and_tt}
 use Rattle.std_alloc.specs.contracts.boxed.Box.from_raw as g
 use Rattle.std_alloc.proofs.boxed.Box.from_raw.Met.{met}
 use Rattle.bully_c.proofs.Heap.{Heap, heap_told, drops, dropped}
-use Rattle.bully_c.proofs.LooseLemmas.{word, word-Good, loose_cases, Ptr-Good}
-use Rattle.bully_c.specs.contracts.loose.Loose as loose
-use Rattle.bully_c.proofs.loose.Loose.TheLaws as loose_laws
-use Rattle.bully_c.specs.contracts.loose.Loose.into_box as f
-use Rattle.bully_c.proofs.loose.Loose.into_box.Statement.{statement}
-use Rattle.bully_c.proofs.loose.Loose.into_box.Code as code
+use Rattle.bully_c.proofs.RawBoxLemmas.{word, word-Good, raw_box_cases, Ptr-Good}
+use Rattle.bully_c.specs.contracts.raw_box.RawBox as raw_box
+use Rattle.bully_c.proofs.raw_box.RawBox.TheLaws as raw_box_laws
+use Rattle.bully_c.specs.contracts.raw_box.RawBox.into_box as f
+use Rattle.bully_c.proofs.raw_box.RawBox.into_box.Statement.{statement}
+use Rattle.bully_c.proofs.raw_box.RawBox.into_box.Code as code
 
 pub into_box_spec : {M : Type 1} → statement M
 into_box_spec {M} 𝓤 𝓛 𝓜 𝓡 wired T L =
     let H = 𝓛.H in let 𝓣 = tables 𝓤 H 𝓜 𝓡 𝓡.env in let En = f.ended T in let c = f.clauses T 𝓛 𝓜.mem 𝓡.returns in
     let types = layouts (a_type ∷ []) (T, tt) in let fn = inst_fn types code.function in let R : RattleType = param 0 T in
     let B : RattleType = box.the_row R heap.the_row ghosts in let LB = box_laws.the_row_laws R heap.the_row ghosts (param_laws 0 T L) heap_laws.the_row_laws in
-    let hs : Stays En.signature.params En.kept = (stay_dropped (plain (λ _. loose.the_row R)) no, (stay_dropped (plain (λ _. heap.the_row)) yes, tt)) in
-    proved_at 𝓛 En hs c 𝓜 𝓡 (Goes-dropped 𝓛 1 (plain (λ _. loose.the_row R)) no (λ κs x e. refl), (Goes-dropped 𝓛 1 (plain (λ _. heap.the_row)) yes (λ κs x e. refl), tt))
+    let hs : Stays En.signature.params En.kept = (stay_dropped (plain (λ _. raw_box.the_row R)) no, (stay_dropped (plain (λ _. heap.the_row)) yes, tt)) in
+    proved_at 𝓛 En hs c 𝓜 𝓡 (Goes-dropped 𝓛 1 (plain (λ _. raw_box.the_row R)) no (λ κs x e. refl), (Goes-dropped 𝓛 1 (plain (λ _. heap.the_row)) yes (λ κs x e. refl), tt))
     (f.Key.name types) fn (code.unfolded 𝓤 H 𝓜 𝓡 wired (T, tt)) (λ z are.
     let κs = z.0.0 in let qs = z.0.1 in let d = z.0.3.0 in let a = z.0.3.1.0 in let Post : Val → SProp 𝓤 = (walk_of 𝓛 En hs c).post z in
     let told = one (layout heap.the_row) z.0.4.1.0 ((heap_laws.the_row_laws.lawful 𝓛).typed a z.0.4.1.0 are.1.0) in let h = told.0 in let Out : RattleType = type_at En.signature.result κs in
     qed 𝓛 (((‵ (flft κs.0 qs.0) ⊛ ‵ ftrue) ⊛ ‵ (owns (types_at En.signature.params κs) z.0.3 z.0.4)) ∷ raw ((c κs z.0.3).requires z.1) ∷ []) ∵
-    regoal ! (λ (us : List Val). prop (WpFn 𝓤 H 𝓣.C 𝓣.Λ fn us Post)) (λ i. (loose_laws.lowers R (param_laws 0 T L)).val_is d z.0.4.0 are.0 i ++ (told.1 i ++ [])) refl $
+    regoal ! (λ (us : List Val). prop (WpFn 𝓤 H 𝓣.C 𝓣.Λ fn us Post)) (λ i. (raw_box_laws.lowers R (param_laws 0 T L)).val_is d z.0.4.0 are.0 i ++ (told.1 i ++ [])) refl $
     split ! $ move ! (1 ∷ []) $ fsplit ! $ fsplit ! $ drop ! $
     -- [what the pointer owns; the allocator; the token; the `requires`]
-    loose_cases R ! d.at d.value
+    raw_box_cases R ! d.at d.value
     (λ null empty. regoal ! (λ (p : Ptr). prop (WpFn 𝓤 H 𝓣.C 𝓣.Λ fn (word p ∷ h ∷ []) Post)) null refl $
     drop ! $ move ! (1 ∷ []) $ drop ! $
     enter ! _ _ _ _ _ $ alloc_all ! (λ l. pass_all ! refl (word-Good [] null_ptr, (told.2, tt)) $
