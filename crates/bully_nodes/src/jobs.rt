@@ -4,10 +4,10 @@ ghost use Rattle.bully_nodes.specs.Run.{IsGivenBack, HasDueLog, IsRoleOf, proced
 ghost use Rattle.bully_steps.specs.ProcedureState.{ProcedureState};
 
 use crate::access::GroupAccess;
-use crate::running::{Gate, Scheduled};
+use crate::running::{Gate, Run, Scheduled};
 use bully_base::{Node, OutOfMemory};
 use bully_config::Config;
-use bully_group::{Group, Naming, Pass, Seat};
+use bully_group::{Naming, Pass, Seat};
 use bully_play::{Schedule, take_node_turn, take_operator_turn};
 use bully_steps::Procedure;
 use std::alloc::Global;
@@ -92,28 +92,22 @@ fn split_job<L: Scheduled>(
 
 /// The turns of one thread, with a new seat and a new pass.
 pub(crate) fn do_job<L: Scheduled, R: Wait, G: Gate>(
-    rt: &R,
-    alloc: Global,
-    group: &Group<L>,
-    config: &Config,
-    gate: &G,
+    run: &Run<L, R, G>,
     job: Job<L>,
 ) -> Result<Job<L>, OutOfMemory>
-    requires setup { config.now.setup ≡ L.setup }
-    requires faults { config.now.faults ≡ L.faults }
     requires new { (job.seat.actor ≤ L.setup.nodes) × (job.seat.log ≡ []) × (job.pass ≡ 0) }
-    ensures turns { IfOk result (λ back. (last : Option ProcedureState) × ActorsTurns (IsLocked L.setup L.publisher L.parts) config.now config.now.turns 1 (record { seat = job.seat; counted = job.pass }) (first_of config.now.setup job.seat.actor) (record { seat = back.seat; counted = back.pass }) last) }
+    ensures turns { IfOk result (λ back. (last : Option ProcedureState) × ActorsTurns (IsLocked L.setup L.publisher L.parts) run.now run.now.turns 1 (record { seat = job.seat; counted = job.pass }) (first_of run.now.setup job.seat.actor) (record { seat = back.seat; counted = back.pass }) last) }
     ensures kept { IfOk result (λ back. IsGivenBack L.faults job.seat.actor (record { seat = back.seat; counted = back.pass })) }
 {
     let Job { seat, pass } = job;
     let mut access = GroupAccess {
-        rt,
-        alloc,
-        group,
+        rt: run.rt,
+        alloc: run.alloc,
+        group: run.group,
         seat,
         pass,
     };
-    let ended = take_turns(&mut access, config, gate);
+    let ended = take_turns(&mut access, run.config, run.gate);
     let GroupAccess {
         rt: _,
         alloc: _,

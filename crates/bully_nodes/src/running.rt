@@ -9,7 +9,7 @@ use bully_base::OutOfMemory;
 use bully_config::Config;
 use bully_group::{Closed, FinishFault, Group, Naming, Pass, Seat};
 use std::alloc::Global;
-use std::marker::Brand;
+use std::marker::{Brand, Model};
 use std::sync::Wait;
 use std::sync::ledger::Blank;
 use std::thread;
@@ -68,6 +68,27 @@ impl Scheduled for Brand {
     ghost faults = { [] };
 }
 
+/// What the threads of a run share. Its configuration is that of the group.
+#[derive(Drop)]
+pub(crate) struct Run<'a, L: Scheduled, R, G> {
+    pub rt: &'a R,
+    pub alloc: Global,
+    pub group: &'a Group<L>,
+    pub config: &'a Config,
+    pub gate: &'a G,
+}
+
+impl<'a, L: Scheduled, R, G> Model for Run<'a, L, R, G> {
+    ghost use Rattle.std.specs.Prelude.{◌≡◌};
+    ghost use Rattle.bully_config.specs.Configuration.{Configuration};
+
+    ghost Value = { Configuration };
+
+    ghost view = { λ r. r.config.now };
+
+    ghost invariant = { λ r. (r.config.now.setup ≡ L.setup) × (r.config.now.faults ≡ L.faults) };
+}
+
 fn run_group<L: Scheduled + Send + Sync, R: Threads + Wait + Sync, G: Gate>(
     rt: &R,
     alloc: Global,
@@ -87,7 +108,14 @@ fn run_group<L: Scheduled + Send + Sync, R: Threads + Wait + Sync, G: Gate>(
     let Ok((group, seats, passes)) = Group::<L>::open(alloc, *config.setup(), blank) else {
         return Err(NodesFault::OutOfMemory);
     };
-    let (seats, passes) = match run_jobs(rt, alloc, &group, config, gate, seats, passes) {
+    let run = Run {
+        rt,
+        alloc,
+        group: &group,
+        config,
+        gate,
+    };
+    let (seats, passes) = match run_jobs(&run, seats, passes) {
         Ok(back) => back,
         Err(fault) => {
             group.close().end(rt);
@@ -105,26 +133,20 @@ fn run_group<L: Scheduled + Send + Sync, R: Threads + Wait + Sync, G: Gate>(
 
 // A thread for each seat, with a pass. What they give back, once all have ended and none wanted for memory.
 fn run_jobs<L: Scheduled + Send + Sync, R: Threads + Wait + Sync, G: Gate>(
-    rt: &R,
-    alloc: Global,
-    group: &Group<L>,
-    config: &Config,
-    gate: &G,
+    run: &Run<L, R, G>,
     seats: Vec<Seat>,
     passes: Vec<Pass<L>>,
 ) -> Result<(Vec<Seat>, Vec<Pass<L>>), NodesFault>
-    requires setup { config.now.setup ≡ L.setup }
-    requires faults { config.now.faults ≡ L.faults }
-    requires seats { AreNewSeats (config.now.setup.nodes + 1) seats.items }
+    requires seats { AreNewSeats (run.now.setup.nodes + 1) seats.items }
     requires passes { All (λ p. p ≡ 0) passes.items }
     ensures due { IfOk result (λ back. All (HasDueLog L.faults) back.0.items) }
     ensures fault { IfErr result IsNodesFault }
 {
-    let Ok(jobs) = pair_jobs(alloc, seats, passes) else {
+    let Ok(jobs) = pair_jobs(run.alloc, seats, passes) else {
         return Err(NodesFault::OutOfMemory);
     };
-    let done = in_threads(rt, alloc, group, config, gate, jobs)?;
-    match split_jobs(alloc, done) {
+    let done = in_threads(run, jobs)?;
+    match split_jobs(run.alloc, done) {
         Ok(back) => Ok(back),
         Err(_) => Err(NodesFault::OutOfMemory),
     }
@@ -143,51 +165,37 @@ fn fault_of_finish(fault: FinishFault) -> NodesFault
 
 // A thread for each job. What they give back, once all have ended.
 fn in_threads<L: Scheduled + Send + Sync, R: Threads + Wait + Sync, G: Gate>(
-    rt: &R,
-    alloc: Global,
-    group: &Group<L>,
-    config: &Config,
-    gate: &G,
+    run: &Run<L, R, G>,
     jobs: Vec<Job<L>>,
 ) -> Result<Vec<Result<Job<L>, OutOfMemory>>, NodesFault>
-    requires setup { config.now.setup ≡ L.setup }
-    requires faults { config.now.faults ≡ L.faults }
     requires jobs { All (λ j. (j.seat.actor ≤ L.setup.nodes) × (j.seat.log ≡ []) × (j.pass ≡ 0)) jobs.items }
     ensures due { IfOk result (λ done. All (λ r. IfOk r (λ job. HasDueLog L.faults job.seat)) done.items) }
     ensures fault { IfErr result IsNodesFault }
 {
     thread::scope(
         thread::scope_env(),
-        rt,
+        run.rt,
         |scope| -> Result<Vec<Result<Job<L>, OutOfMemory>>, NodesFault>
-            requires setup { config.now.setup ≡ L.setup }
-            requires faults { config.now.faults ≡ L.faults }
             requires jobs { All (λ j. (j.seat.actor ≤ L.setup.nodes) × (j.seat.log ≡ []) × (j.pass ≡ 0)) jobs.items }
             ensures due { IfOk result (λ done. All (λ r. IfOk r (λ job. HasDueLog L.faults job.seat)) done.items) }
             ensures fault { IfErr result IsNodesFault }
-        { in_scope(scope, rt, alloc, group, config, gate, jobs) },
+        { in_scope(scope, run, jobs) },
     )
 }
 
 // Starts the threads, and waits for them.
 fn in_scope<'s, E, L: Scheduled + Send + Sync, R: Threads + Wait + Sync, G: Gate>(
     scope: &Scope<'s, E>,
-    rt: &'s R,
-    alloc: Global,
-    group: &'s Group<L>,
-    config: &'s Config,
-    gate: &'s G,
+    run: &'s Run<'s, L, R, G>,
     jobs: Vec<Job<L>>,
 ) -> Result<Vec<Result<Job<L>, OutOfMemory>>, NodesFault>
-    requires setup { config.now.setup ≡ L.setup }
-    requires faults { config.now.faults ≡ L.faults }
     requires jobs { All (λ j. (j.seat.actor ≤ L.setup.nodes) × (j.seat.log ≡ []) × (j.pass ≡ 0)) jobs.items }
     ensures due { IfOk result (λ done. All (λ r. IfOk r (λ job. HasDueLog L.faults job.seat)) done.items) }
     ensures fault { IfErr result IsNodesFault }
 {
-    let mut handles = Vec::new(alloc);
-    start_jobs(scope, rt, alloc, group, config, gate, jobs, &mut handles)?;
-    match thread::join_promised(rt, handles) {
+    let mut handles = Vec::new(run.alloc);
+    start_jobs(scope, run, jobs, &mut handles)?;
+    match thread::join_promised(run.rt, handles) {
         Ok(done) => Ok(done),
         Err(_) => Err(NodesFault::OutOfMemory),
     }
@@ -196,21 +204,15 @@ fn in_scope<'s, E, L: Scheduled + Send + Sync, R: Threads + Wait + Sync, G: Gate
 // Starts a thread for each job.
 fn start_jobs<'s, E, L: Scheduled + Send + Sync, R: Threads + Wait + Sync, G: Gate>(
     scope: &Scope<'s, E>,
-    rt: &'s R,
-    alloc: Global,
-    group: &'s Group<L>,
-    config: &'s Config,
-    gate: &'s G,
+    run: &'s Run<'s, L, R, G>,
     jobs: Vec<Job<L>>,
     handles: &mut Vec<PromisedHandle<Result<Job<L>, OutOfMemory>, SeatOf>>,
 ) -> Result<(), NodesFault>
-    requires setup { config.now.setup ≡ L.setup }
-    requires faults { config.now.faults ≡ L.faults }
     requires jobs { All (λ j. (j.seat.actor ≤ L.setup.nodes) × (j.seat.log ≡ []) × (j.pass ≡ 0)) jobs.items }
     ensures fault { IfErr result IsNodesFault }
 {
     for job in jobs {
-        let Some(handle) = start_job(scope, rt, alloc, group, config, gate, job) else {
+        let Some(handle) = start_job(scope, run, job) else {
             return Err(NodesFault::Spawn);
         };
         if handles.push(handle).is_err() {
@@ -223,24 +225,16 @@ fn start_jobs<'s, E, L: Scheduled + Send + Sync, R: Threads + Wait + Sync, G: Ga
 // Starts a thread for the job, where the system makes one.
 fn start_job<'s, E, L: Scheduled + Send + Sync, R: Threads + Wait + Sync, G: Gate>(
     scope: &Scope<'s, E>,
-    rt: &'s R,
-    alloc: Global,
-    group: &'s Group<L>,
-    config: &'s Config,
-    gate: &'s G,
+    run: &'s Run<'s, L, R, G>,
     job: Job<L>,
 ) -> Option<PromisedHandle<Result<Job<L>, OutOfMemory>, SeatOf>>
-    requires setup { config.now.setup ≡ L.setup }
-    requires faults { config.now.faults ≡ L.faults }
     requires new { (job.seat.actor ≤ L.setup.nodes) × (job.seat.log ≡ []) × (job.pass ≡ 0) }
 {
     let actor = job.seat.actor();
     let thread = move || -> Result<Job<L>, OutOfMemory>
-        requires setup { config.now.setup ≡ L.setup }
-        requires faults { config.now.faults ≡ L.faults }
         requires new { (job.seat.actor ≤ L.setup.nodes) × (job.seat.log ≡ []) × (job.pass ≡ 0) }
         ensures { IfOk result (λ back. IsGivenBack L.faults job.seat.actor (record { seat = back.seat; counted = back.pass })) }
-    { do_job(rt, alloc, group, config, gate, job) };
+    { do_job(run, job) };
     match scope.spawn_with(SeatOf(actor), thread) {
         Ok(handle) => Some(handle),
         Err(_) => None,
