@@ -198,11 +198,15 @@ fn byte_before_end(bytes: &[u8], count: usize) -> Option<u8> {
     Some(bytes[bytes.len() - 1 - count])
 }
 
-// Appends that one of these names may stand there.
+// Appends that one of these names may stand there. An item that can't be a name isn't offered.
 fn push_names(text: &mut Draft, names: &[Value]) {
-    text.push_str("one of the names:");
+    text.push_str("one of the names");
+    let mut gap = ": ";
     for name in names {
-        push_quoted(text, " ", text_of(name));
+        if fits(name, Key::Names) {
+            push_quoted(text, gap, text_of(name));
+            gap = " ";
+        }
     }
 }
 
