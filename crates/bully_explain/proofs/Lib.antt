@@ -1,3 +1,4 @@
 pub mod ConfigLemmas
 pub mod DraftLemmas
+pub mod SheetLemmas
 pub mod ShownLemmas

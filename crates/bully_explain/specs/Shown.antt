@@ -7,7 +7,7 @@ use Rattle.std.specs.Str.{chars, encode_utf8_all}
 -- (U+2066 to U+2069)
 abbrev pub is_control : ℕ → Bool
 is_control c =
-    nat_lt c 32 || (nat_le 127 c && nat_lt c 160) || c == 0x61C || (nat_le 0x200E c && nat_le c 0x200F)
+    nat_lt c 32 || (nat_le 127 c && nat_lt c 160) || (c == 0x61C) || (nat_le 0x200E c && nat_le c 0x200F)
     || (nat_le 0x2028 c && nat_le c 0x202E) || (nat_le 0x2066 c && nat_le c 0x2069)
 
 -- a letter as it is shown: a question mark in place of one of these

@@ -10,14 +10,14 @@ use crate::{ROOM_FROM, ROOM_STEP};
 use bully_account::{Account, Lines};
 use bully_base::OutOfMemory;
 use bully_explain::account_sheet;
-use bully_json::{SheetObject, head_object, json_line, verdict_object};
+use bully_json::{sheet_line, verdict_line};
 use bully_rows::{
     ROWS_MAX, RowReader, RowTaker, Started, TraceFault, no_header, not_written, take_each,
 };
 use bully_trace::{Verdict, verdict_lines};
 use bully_world::World;
 use jiff::Timestamp;
-use std::alloc::{AllocError, Global};
+use std::alloc::Global;
 use std::io::{Read, Write};
 use std::rt::Clock;
 
@@ -102,10 +102,10 @@ fn tell<C: Clock, W: Write>(
     let time = time_text(clock, alloc)?;
     let mut text = String::new(alloc);
     let world = watch.account.world();
-    telling.push_changed(alloc, &mut text, time.as_str(), row, world, watch.changed)?;
+    telling.push_changed(&mut text, time.as_str(), row, world, watch.changed)?;
     if tells_room {
         let room = (ROWS_MAX + 1).saturating_sub(row);
-        telling.push_room(alloc, &mut text, time.as_str(), row, room)?;
+        telling.push_room(&mut text, time.as_str(), row, room)?;
     }
     put(text.as_str(), output)
 }
@@ -238,9 +238,7 @@ fn lawful_text(
 ) -> Result<String, OutOfMemory> {
     match telling {
         Telling::Words => verdict_lines(alloc, verdict, world),
-        Telling::Json => {
-            json_line(alloc, &verdict_object(alloc, verdict, world)?).ok_or(AllocError)
-        }
+        Telling::Json => verdict_line(alloc, verdict, world),
     }
 }
 
@@ -254,10 +252,6 @@ fn stopped_text(
     let sheet = account_sheet(alloc, account)?;
     match telling {
         Telling::Words => Ok(sheet),
-        Telling::Json => {
-            let verdict = head_object(verdict);
-            let sheet = sheet.as_str();
-            json_line(alloc, &SheetObject { verdict, sheet }).ok_or(AllocError)
-        }
+        Telling::Json => sheet_line(alloc, verdict, sheet.as_str()),
     }
 }
