@@ -45,11 +45,21 @@ task_text (Some owners) = codes "[" ++ owners_text 44 owners ++ codes "]"
 
 -- ---- objects
 
+-- the members that each object of a node has: its status, and its coordinator
+unfoldable pub place_members : Vector → List ℕ
+place_members v = codes "\"status\":\"" ++ status_word v.status ++ codes "\",\"coordinator\":" ++ number_text v.coordinator
+
+-- its halter
+unfoldable pub halter_member : Vector → List ℕ
+halter_member v = codes ",\"halter\":" ++ number_text v.halter
+
+-- its task, behind which it ends
+unfoldable pub task_member : Vector → List ℕ
+task_member v = codes ",\"task\":" ++ task_text v.task ++ codes "}"
+
 -- node i with this vector
-abbrev pub node_object : ℕ → Vector → List ℕ
-node_object i v =
-    codes "{\"node\":" ++ decimal i ++ codes ",\"status\":\"" ++ status_word v.status ++ codes "\",\"coordinator\":" ++ number_text v.coordinator
-    ++ codes ",\"halter\":" ++ number_text v.halter ++ codes ",\"task\":" ++ task_text v.task ++ codes "}"
+unfoldable pub node_object : ℕ → Vector → List ℕ
+node_object i v = codes "{\"node\":" ++ decimal i ++ codes "," ++ place_members v ++ halter_member v ++ task_member v
 
 -- the comma behind so many objects
 abbrev pub comma_behind : ℕ → List ℕ
@@ -82,11 +92,13 @@ sheet_line verdict sheet = codes "{" ++ verdict_members verdict ++ codes ",\"she
 abbrev pub plan_line : TablePlan → List ℕ
 plan_line plan = codes "{\"owners\":[" ++ owners_text 44 plan.table ++ codes "],\"moves\":" ++ decimal plan.moves ++ codes ",\"bound\":" ++ decimal plan.bound ++ codes "}\n"
 
--- what node i shows with this vector behind a row that came at this time; and for how many more rows there is room behind one
+-- how a line begins that tells of a row which came at this time
+unfoldable pub row_members : List ℕ → ℕ → List ℕ
+row_members time row = codes "{\"time\":" ++ quoted time ++ codes ",\"row\":" ++ decimal row ++ codes ","
+
+-- what node i shows with this vector behind the row; and for how many more rows there is room behind it
 abbrev pub change_line : List ℕ → ℕ → ℕ → Vector → List ℕ
-change_line time row i v =
-    codes "{\"time\":" ++ quoted time ++ codes ",\"row\":" ++ decimal row ++ codes ",\"node\":" ++ decimal i ++ codes ",\"status\":\"" ++ status_word v.status
-    ++ codes "\",\"coordinator\":" ++ number_text v.coordinator ++ codes ",\"task\":" ++ task_text v.task ++ codes "}\n"
+change_line time row i v = row_members time row ++ codes "\"node\":" ++ decimal i ++ codes "," ++ place_members v ++ task_member v ++ codes "\n"
 
 abbrev pub room_line : List ℕ → ℕ → ℕ → List ℕ
-room_line time row room = codes "{\"time\":" ++ quoted time ++ codes ",\"row\":" ++ decimal row ++ codes ",\"room\":" ++ decimal room ++ codes "}\n"
+room_line time row room = row_members time row ++ codes "\"room\":" ++ decimal room ++ codes "}\n"

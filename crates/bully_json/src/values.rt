@@ -1,10 +1,12 @@
-//! Values: text in quotes, numbers, and null for none.
+//! Values: text in quotes, numbers, and null for none; and the members that each object of a node has.
 ghost use Rattle.std.specs.Prelude.{◌≡◌, ◌/◌, ◌%◌, ◌++◌, ◌<◌, OnOk, codes, encode_utf8, string_bytes};
 ghost use Rattle.std.specs.Option.{option_copied};
 ghost use Rattle.std.specs.Str.{chars};
-ghost use Rattle.bully_json.specs.Objects.{escaped, escaped_letter, hex_digit, number_text, quoted, task_text};
+ghost use Rattle.bully_json.specs.Objects.{escaped, escaped_letter, halter_member, hex_digit, number_text, place_members, quoted, task_member, task_text};
 
 use bully_base::{Node, OutOfMemory};
+use bully_handlers::Vector;
+use bully_rows::status_word;
 use bully_table::{Table, push_owners};
 
 /// Appends the text in quotes.
@@ -64,8 +66,8 @@ fn hex_digit(digit: u8) -> char
     }
 }
 
-/// Appends the number of the node, or null.
-pub fn push_number(text: &mut String, node: Option<Node>) -> Result<(), OutOfMemory>
+// Appends the number of the node, or null.
+fn push_number(text: &mut String, node: Option<Node>) -> Result<(), OutOfMemory>
     ensures { OnOk result (string_bytes text.new ≡ string_bytes text.old ++ number_text node) }
 {
     match node {
@@ -77,8 +79,8 @@ pub fn push_number(text: &mut String, node: Option<Node>) -> Result<(), OutOfMem
     }
 }
 
-/// Appends the owners of the task, from partition 0 on, or null.
-pub fn push_task(text: &mut String, task: Option<&Table>) -> Result<(), OutOfMemory>
+// Appends the owners of the task, from partition 0 on, or null.
+fn push_task(text: &mut String, task: Option<&Table>) -> Result<(), OutOfMemory>
     ensures { OnOk result (string_bytes text.new ≡ string_bytes text.old ++ task_text (option_copied task.entry)) }
 {
     match task {
@@ -89,4 +91,33 @@ pub fn push_task(text: &mut String, task: Option<&Table>) -> Result<(), OutOfMem
         }
         None => text.push_str("null"),
     }
+}
+
+/// Appends the members with the vector's status and coordinator.
+#[tactic(auto, unfolding(crate::specs::Objects::place_members))]
+pub fn push_place(text: &mut String, vector: &Vector) -> Result<(), OutOfMemory>
+    ensures { OnOk result (string_bytes text.new ≡ string_bytes text.old ++ place_members vector.now.vector) }
+{
+    let status = status_word(vector.status());
+    write!(text, "\"status\":\"{status}\",\"coordinator\":")?;
+    push_number(text, vector.coordinator())
+}
+
+/// Appends the member with the vector's halter, behind others.
+#[tactic(auto, unfolding(crate::specs::Objects::halter_member))]
+pub fn push_halter(text: &mut String, vector: &Vector) -> Result<(), OutOfMemory>
+    ensures { OnOk result (string_bytes text.new ≡ string_bytes text.old ++ halter_member vector.now.vector) }
+{
+    text.push_str(",\"halter\":")?;
+    push_number(text, vector.halter())
+}
+
+/// Appends the last member, behind others: that with the vector's task.
+#[tactic(auto, unfolding(crate::specs::Objects::task_member))]
+pub fn push_last(text: &mut String, vector: &Vector) -> Result<(), OutOfMemory>
+    ensures { OnOk result (string_bytes text.new ≡ string_bytes text.old ++ task_member vector.now.vector) }
+{
+    text.push_str(",\"task\":")?;
+    push_task(text, vector.task())?;
+    text.push('}')
 }

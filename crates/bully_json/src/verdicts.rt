@@ -3,10 +3,9 @@ ghost use Rattle.std.specs.Prelude.{◌≡◌, ◌++◌, IfOk, OnOk, codes, stri
 ghost use Rattle.bully_json.specs.Objects.{comma_behind, node_object, node_objects, nodes_member, sheet_line, verdict_line, verdict_members};
 ghost use Rattle.bully_world.specs.State.{world_of};
 
-use crate::values::{push_number, push_quoted, push_task};
+use crate::values::{push_halter, push_last, push_place, push_quoted};
 use bully_base::{Node, OutOfMemory};
 use bully_handlers::Vector;
-use bully_rows::status_word;
 use bully_trace::Verdict;
 use bully_world::World;
 use std::alloc::Global;
@@ -86,17 +85,14 @@ fn push_node(text: &mut String, before: u16, node: Node, vector: &Vector) -> Res
 }
 
 // Appends the object of the node with this vector.
+#[tactic(auto, unfolding(crate::specs::Objects::node_object))]
 fn push_node_object(text: &mut String, node: Node, vector: &Vector) -> Result<(), OutOfMemory>
     ensures { OnOk result (string_bytes text.new ≡ string_bytes text.old ++ node_object node vector.now.vector) }
 {
     let number = node.number();
-    let status = status_word(vector.status());
     text.push_str("{\"node\":")?;
-    write!(text, "{number},\"status\":\"{status}\",\"coordinator\":")?;
-    push_number(text, vector.coordinator())?;
-    text.push_str(",\"halter\":")?;
-    push_number(text, vector.halter())?;
-    text.push_str(",\"task\":")?;
-    push_task(text, vector.task())?;
-    text.push('}')
+    write!(text, "{number},")?;
+    push_place(text, vector)?;
+    push_halter(text, vector)?;
+    push_last(text, vector)
 }
