@@ -1,5 +1,5 @@
 -- What stands in a draft behind several pieces.
-use Rattle.std.proofs.Common.{◌≡◌, ◌∙◌, false, ℕ, zero, suc, ◌+◌, ◌-◌, ◌++◌, length, List, [], ◌∷◌, Option, Some, refl, sym, ap, subst, arith, codes, replicate, append_assoc, append-nil}
+use Rattle.std.proofs.Common.{◌≡◌, ◌∙◌, false, ℕ, zero, suc, ◌+◌, ◌-◌, ◌++◌, length, length-append, List, [], ◌∷◌, Option, Some, refl, sym, ap, subst, arith, codes, replicate, append_assoc, append-nil}
 use Rattle.std.specs.Str.{chars}
 use Rattle.bully_config.specs.declared.fault.ConfigFault.{ConfigFault}
 use Rattle.bully_explain.specs.ConfigTold.{ArePlain, IsConfigText, lines_text}
@@ -36,7 +36,7 @@ gap-behind : {b c d : Drafted} (start : ℕ) (said : List ℕ) → start ≡ len
 gap-behind {b} {c} {d} start said begins pushed filled = record {
   memory = filled.memory;
   text = λ good.
-      let longer : length c.text ≡ length b.text + length said = ap length (pushed.text (filled.memory good)) ∙ length_append b.text said in
+      let longer : length c.text ≡ length b.text + length said = ap length (pushed.text (filled.memory good)) ∙ length-append b.text said in
       let taken : length c.text - start ≡ length said = omega (arith, begins, longer) in
       filled.text good ∙ ap (λ n. c.text ++ gap n) taken;
 }
