@@ -96,4 +96,5 @@ no-text-line = record {
   plain = (subst (λ t. AllPlain (chars t)) no-text-shown (shown-plain no_text no-text-letters), tt);
   whole = refl;
   one = λ other. absurd (other refl);
+  begins = λ other. absurd (other refl);
 }

@@ -2,10 +2,10 @@
 use Rattle.std.proofs.Common.{◌≡◌, ◌∙◌, false, ℕ, zero, suc, ◌+◌, ◌-◌, ◌++◌, length, length-append, List, [], ◌∷◌, Option, Some, refl, sym, ap, subst, arith, codes, replicate, append_assoc, append-nil}
 use Rattle.std.specs.Str.{chars}
 use Rattle.bully_config.specs.declared.fault.ConfigFault.{ConfigFault}
-use Rattle.bully_explain.specs.ConfigTold.{ArePlain, IsConfigText, lines_text}
+use Rattle.bully_explain.specs.ConfigTold.{ArePlain, IsConfigText, document_head, lines_text}
 use Rattle.bully_explain.specs.Differing.{gap, part_name, sides}
 use Rattle.bully_explain.specs.Drafted.{Appends, AppendsLines, AppendsPrinted, Drafted, blank}
-use Rattle.bully_explain.specs.Shown.{AllPlain, AllPrinted}
+use Rattle.bully_explain.specs.Shown.{AllPlain, AllPrinted, shown}
 
 -- nothing was appended
 pub appends_nothing : (a : Drafted) → Appends a a []
@@ -99,13 +99,20 @@ one-line start a b c line so_far first plain second =
 
 -- ---- the text of a sheet
 
--- a document's is one line
-pub line-text : (told : Option ConfigFault) (text line : List ℕ) → text ≡ line ++ codes "\n" → AllPlain (chars line) → IsConfigText told text
-line-text told text line is plain = record { lines = line ∷ []; plain = (plain, tt); whole = is; one = λ other. refl }
+-- a document's is one line, which begins so
+pub line-text : {b c : Drafted} (told : Option ConfigFault) (text rest : List ℕ) → text ≡ shown c.text ++ codes "\n" → AllPlain (chars (shown c.text)) → c.has_failed ≡ false
+    → Appends blank b (document_head told) → Appends b c rest → IsConfigText told text
+line-text {b} {c} told text rest is plain good head behind = record {
+  lines = shown c.text ∷ [];
+  plain = (plain, tt);
+  whole = is;
+  one = λ other. refl;
+  begins = λ other. (rest, is ∙ ap (λ t. shown t ++ codes "\n") ((appends_then head behind).text good));
+}
 
 -- that of another text has several
 pub toml-text : (told : Option ConfigFault) (draft : Drafted) (text : List ℕ) → told ≡ Some ConfigFault.Toml → AppendsLines blank draft → draft.has_failed ≡ false → text ≡ draft.text
     → IsConfigText told text
 toml-text told draft text toml appended good same =
     let (lines, are, is) = appended.text good in
-    record { lines = lines; plain = are; whole = same ∙ is; one = λ other. absurd (other toml) }
+    record { lines = lines; plain = are; whole = same ∙ is; one = λ other. absurd (other toml); begins = λ other. absurd (other toml) }

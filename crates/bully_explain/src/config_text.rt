@@ -8,9 +8,8 @@ use bully_config::{
 };
 use toml::{Table, Value};
 
-/// Appends what is wrong with the document, whose first fault this is: a line, without its end.
+/// Appends what stands behind the name of the document's first fault: what is wrong with it, without the line's end.
 pub fn push_fault(text: &mut Draft, document: &Table, fault: ConfigFault) {
-    text.push_between("", fault, ": ");
     match fault.key() {
         Some(key) => push_key_fault(text, document, fault, key),
         None => push_other_fault(text, document, fault),
