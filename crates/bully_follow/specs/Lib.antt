@@ -1,1 +1,2 @@
+pub mod LastText
 pub mod Watched
