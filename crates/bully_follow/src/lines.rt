@@ -1,4 +1,7 @@
 //! The lines that tell of a trace that grows.
+ghost use Rattle.std.specs.Prelude.{◌≡◌, ◌++◌, OnOk, Some, string_bytes};
+ghost use Rattle.bully_follow.specs.Lines.{change_words, changed_told, node_told, room_told};
+ghost use Rattle.bully_world.specs.State.{world_of};
 
 use crate::changes::{Changed, vector_of};
 use bully_base::{Node, OutOfMemory};
@@ -23,7 +26,9 @@ impl Telling {
         row: u32,
         world: &World,
         changed: Changed,
-    ) -> Result<(), OutOfMemory> {
+    ) -> Result<(), OutOfMemory>
+        ensures { OnOk result (string_bytes text.new ≡ string_bytes text.old ++ changed_told self time.now row world.now.setup (world_of world.now) changed) }
+    {
         if let Some(node) = changed.named {
             self.push_node(text, time, row, world, node)?;
         }
@@ -41,7 +46,9 @@ impl Telling {
         row: u32,
         world: &World,
         node: Node,
-    ) -> Result<(), OutOfMemory> {
+    ) -> Result<(), OutOfMemory>
+        ensures { OnOk result (string_bytes text.new ≡ string_bytes text.old ++ node_told self time.now row world.now.setup (world_of world.now) (Some node)) }
+    {
         let Some(vector) = vector_of(world, node) else {
             return Ok(());
         };
@@ -58,7 +65,9 @@ impl Telling {
         time: &str,
         row: u32,
         room: u32,
-    ) -> Result<(), OutOfMemory> {
+    ) -> Result<(), OutOfMemory>
+        ensures { OnOk result (string_bytes text.new ≡ string_bytes text.old ++ room_told self time.now row room) }
+    {
         match self {
             Telling::Words => writeln!(text, "{time} row {row} room for {room} rows"),
             Telling::Json => bully_json::push_room(text, time, row, room),
@@ -73,7 +82,9 @@ fn push_node_words(
     row: u32,
     node: Node,
     vector: &Vector,
-) -> Result<(), OutOfMemory> {
+) -> Result<(), OutOfMemory>
+    ensures { OnOk result (string_bytes text.new ≡ string_bytes text.old ++ change_words time.now row node vector.now.vector) }
+{
     let number = node.number();
     let status = status_word(vector.status());
     write!(text, "{time} row {row} node {number} {status} ")?;
