@@ -100,14 +100,14 @@ one-line start a b c line so_far first plain second =
 -- ---- the text of a sheet
 
 -- a document's is one line, which begins so
-pub line-text : {b c : Drafted} (told : Option ConfigFault) (text rest : List ℕ) → text ≡ shown c.text ++ codes "\n" → AllPlain (chars (shown c.text)) → c.has_failed ≡ false
-    → Appends blank b (document_head told) → Appends b c rest → IsConfigText told text
-line-text {b} {c} told text rest is plain good head behind = record {
+pub line-text : {a b c : Drafted} (told : Option ConfigFault) (text rest : List ℕ) → text ≡ shown c.text ++ codes "\n" → AllPlain (chars (shown c.text)) → c.has_failed ≡ false → a ≡ blank
+    → Appends a b (document_head told) → Appends b c rest → IsConfigText told text
+line-text {a} {b} {c} told text rest is plain good begun head behind = record {
   lines = shown c.text ∷ [];
   plain = (plain, tt);
   whole = is;
   one = λ other. refl;
-  begins = λ other. (rest, is ∙ ap (λ t. shown t ++ codes "\n") ((appends_then head behind).text good));
+  begins = λ other. (rest, is ∙ ap (λ t. shown t ++ codes "\n") ((appends_then head behind).text good ∙ ap (λ (d : Drafted). d.text ++ (document_head told ++ rest)) begun));
 }
 
 -- that of another text has several

@@ -23,7 +23,7 @@ use Rattle.bully_account.specs.declared.account.Stop.{Stop}
 use Rattle.bully_account.specs.declared.showing.NodeSheet.{NodeSheet}
 use Rattle.bully_explain.specs.Differing.{decided_text}
 use Rattle.bully_explain.specs.Drafted.{Appends, AppendsPrinted, Drafted, blank}
-use Rattle.bully_explain.specs.SheetText.{AppendsForm, Begins, BeginsSheet, IsDecided, IsFormText, IsRowShown, IsSheet, IsSheetOf, IsSheetText, head_text, place_text}
+use Rattle.bully_explain.specs.SheetText.{AppendsForm, Begins, BeginsSheet, IsDecided, IsFormText, IsRowShown, IsSheet, IsSheetOf, IsSheetText, form_head, head_text, place_text}
 
 -- ---- more text behind a head
 
@@ -39,16 +39,17 @@ sheet_more account text rest new head more = record {
 }
 
 pub form_more : (fault : TraceFault) (text rest new : List ℕ) → IsFormText fault text → new ≡ text ++ rest → IsFormText fault new
-form_more fault text rest new (place, shown, begins) more = (place, shown, begins_more text _ rest new begins more)
+form_more fault text rest new (place, shown, begins) more = (place, shown, begins_more text (form_head fault place) rest new begins more)
 
 -- all of a draft that was blank
-pub sheet_whole : {A E : Type 0} (bytes : A → List ℕ) (account : AccountState) (verdict : Verdict) (head : List ℕ) (draft : Drafted) (r : Result A E)
+pub sheet_whole : {A E : Type 0} (bytes : A → List ℕ) (account : AccountState) (verdict : Verdict) (head : List ℕ) (start draft : Drafted) (r : Result A E) → start ≡ blank
     → ((setup : Setup) (rows : List Row) → HasJudged setup rows account.judge → IsJudged setup (first_world setup) 0 2 rows verdict (world_of account.judge.world))
-    → StopsAt account.judge.stopped account.stop → Appends blank draft head → head ≡ head_text account.judge.world.setup (world_of account.judge.world) verdict account.stop
+    → StopsAt account.judge.stopped account.stop → Appends start draft head → head ≡ head_text account.judge.world.setup (world_of account.judge.world) verdict account.stop
     → IfOk r (λ a. draft.has_failed ≡ false) → IfOk r (λ a. bytes a ≡ draft.text) → IfOk r (λ a. BeginsSheet account (bytes a))
-sheet_whole bytes account verdict head draft (Ok a) judged stops pushed is good same =
-    record { verdict = verdict; judged = judged; stops = stops; begins = ([], same ∙ pushed.text good ∙ is ∙ sym (append-nil _)) }
-sheet_whole bytes account verdict head draft (Err e) judged stops pushed is good same = tt
+sheet_whole bytes account verdict head start draft (Ok a) begun judged stops pushed is good same =
+    let whole : bytes a ≡ head = same ∙ pushed.text good ∙ ap (λ (d : Drafted). d.text ++ head) begun in
+    record { verdict = verdict; judged = judged; stops = stops; begins = ([], whole ∙ is ∙ sym (append-nil _)) }
+sheet_whole bytes account verdict head start draft (Err e) begun judged stops pushed is good same = tt
 
 pub form_whole : {A E : Type 0} (bytes : A → List ℕ) (fault : TraceFault) (draft : Drafted) (r : Result A E) → AppendsForm fault blank draft
     → IfOk r (λ a. draft.has_failed ≡ false) → IfOk r (λ a. bytes a ≡ draft.text) → IfOk r (λ a. IsFormText fault (bytes a))
@@ -59,16 +60,25 @@ form_whole bytes fault draft (Err e) pushed good same = tt
 
 -- ---- a fault of form
 
+grouped-no_row : (a p n t x y z : List ℕ) → (a ++ (p ++ n ++ t)) ++ (x ++ y ++ z) ≡ a ++ (p ++ n ++ t ++ x ++ y ++ z)
+grouped-no_row a p n t x y z = simp append_assoc
+
 -- there is no row
 pub form_no_row : {a b c : Drafted} (fault : TraceFault) → Appends a b (codes "row " ++ decimal fault.row ++ codes ": there is none")
     → Appends b c (codes "\n" ++ trace_cause_text fault.cause ++ codes ": ") → AppendsForm fault a c
 form_no_row {a} {b} {c} fault first second = record {
   memory = λ good. first.memory (second.memory good);
   text = λ good.
-      let one = first.text (second.memory good) in
-      let two = second.text good in
-      (codes ": there is none", inl refl, grind (one, two, append_assoc));
+      let tail = codes "\n" ++ trace_cause_text fault.cause ++ codes ": " in (
+        codes ": there is none",
+        inl refl,
+        second.text good ∙ ap (λ t. t ++ tail) (first.text (second.memory good))
+            ∙ grouped-no_row a.text (codes "row ") (decimal fault.row) (codes ": there is none") (codes "\n") (trace_cause_text fault.cause) (codes ": "),
+      );
 }
+
+grouped-row : (a p n l d e row x y z : List ℕ) → (a ++ (p ++ n ++ l ++ d ++ e) ++ row) ++ (x ++ y ++ z) ≡ a ++ (p ++ n ++ (l ++ d ++ e ++ row) ++ x ++ y ++ z)
+grouped-row a p n l d e row x y z = simp append_assoc
 
 -- the row at this line, of which printed ASCII characters are shown
 pub form_row : {a b c d : Drafted} (fault : TraceFault) (line : ℕ) → Appends a b (place_text fault.row line) → AppendsPrinted b c
@@ -79,7 +89,12 @@ form_row {a} {b} {c} {d} fault line first second third = record {
       let three = third.text good in
       let (row, are, two) = second.text (third.memory good) in
       let one = first.text (second.memory (third.memory good)) in
-      (codes " (line " ++ decimal line ++ codes "): " ++ row, inr (line, row, are, refl), grind (one, two, three, append_assoc));
+      let so_far = two ∙ ap (λ t. t ++ row) one in (
+        codes " (line " ++ decimal line ++ codes "): " ++ row,
+        inr (line, row, are, refl),
+        three ∙ ap (λ t. t ++ (codes "\n" ++ trace_cause_text fault.cause ++ codes ": ")) so_far
+            ∙ grouped-row a.text (codes "row ") (decimal fault.row) (codes " (line ") (decimal line) (codes "): ") row (codes "\n") (trace_cause_text fault.cause) (codes ": "),
+      );
 }
 
 -- ---- the sheet of a trace
@@ -142,6 +157,6 @@ pub sheet-of : (known : Option (List ℕ)) (account : Option AccountState) (shee
     → IfOk told (λ verdict. IsSome account) → IfOk told (λ verdict. IfSome account (λ a. OfTrace known (λ trace. HasTaken trace.setup trace.rows a)))
     → IfOk told (λ verdict. IfSome account (λ a. BeginsSheet a text)) → IfErr told (λ fault. IsFormText fault text) → IsSheetOf known sheets text told
 sheet-of known account sheets text (Err fault) is some taken head form = (is, form)
-sheet-of known None sheets text (Ok verdict) is some taken head form = absurd some
+sheet-of known None sheets text (Ok verdict) is some taken head form = absurd (cc some)
 sheet-of None (Some account) sheets text (Ok verdict) is some taken head form = tt
 sheet-of (Some bytes) (Some account) sheets text (Ok verdict) is some taken head form = sheet-told bytes account verdict sheets text is taken head

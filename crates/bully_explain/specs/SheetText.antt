@@ -47,15 +47,16 @@ abbrev pub IsRowShown : List ℕ → Type 0
 IsRowShown place =
     (place ≡ codes ": there is none") ⊎ ((line : ℕ) × (row : List ℕ) × AllPrinted row × (place ≡ codes " (line " ++ decimal line ++ codes "): " ++ row))
 
+abbrev pub form_head : TraceFault → List ℕ → List ℕ
+form_head fault place = codes "row " ++ decimal fault.row ++ place ++ codes "\n" ++ trace_cause_text fault.cause ++ codes ": "
+
 abbrev pub IsFormText : TraceFault → List ℕ → Type 0
-IsFormText fault text =
-    (place : List ℕ) × IsRowShown place × Begins text (codes "row " ++ decimal fault.row ++ place ++ codes "\n" ++ trace_cause_text fault.cause ++ codes ": ")
+IsFormText fault text = (place : List ℕ) × IsRowShown place × Begins text (form_head fault place)
 
 -- the same, appended to what stood there, unless memory is wanting
 pub record AppendsForm (fault : TraceFault) (old new : Drafted) : Type 0 where
   pub memory : new.has_failed ≡ false → old.has_failed ≡ false
-  pub text : new.has_failed ≡ false → (place : List ℕ) × IsRowShown place
-      × (new.text ≡ old.text ++ (codes "row " ++ decimal fault.row ++ place ++ codes "\n" ++ trace_cause_text fault.cause ++ codes ": "))
+  pub text : new.has_failed ≡ false → (place : List ℕ) × IsRowShown place × (new.text ≡ old.text ++ form_head fault place)
 
 -- the sheet of a trace with this verdict: what it shows of each node, and its text
 pub record IsSheet (verdict : Verdict) (sheets : List NodeSheet) (text : List ℕ) (trace : Trace) : Type 0 where

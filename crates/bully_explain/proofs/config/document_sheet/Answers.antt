@@ -8,4 +8,4 @@ returns-clause-told c = search rules
 
 pub returns-clause-lines : goal.returns-clause-lines
 returns-clause-lines c =
-    line-text _ _ _ c.in_ok-text.ensures.line c.in_ok-text.ensures.plain c.in_ok-text.ensures.whole c.push_document_head.ensures c.push_shown.ensures.shown
+    line-text _ _ _ c.in_ok-text.ensures.line c.in_ok-text.ensures.plain c.in_ok-text.ensures.whole c.new-draft.ensures c.push_document_head.ensures c.push_shown.ensures.shown
