@@ -10,10 +10,13 @@ use Rattle.bully_json.specs.Objects.{change_line, room_line}
 use Rattle.bully_follow.specs.declared.changes.Changed.{Changed}
 use Rattle.bully_follow.specs.declared.lines.Telling.{Telling}
 
--- what node i shows with this vector behind the row that came at this time; a dash for none
+-- what a node shows with this vector; a dash for none
+unfoldable pub vector_words : Vector → List ℕ
+vector_words v = status_word v.status ++ codes " " ++ node_text v.coordinator ++ codes " " ++ task_text 44 v.task ++ codes "\n"
+
+-- what node i shows behind the row that came at this time
 abbrev pub change_words : List ℕ → ℕ → ℕ → Vector → List ℕ
-change_words time row i v =
-    time ++ codes " row " ++ decimal row ++ codes " node " ++ decimal i ++ codes " " ++ status_word v.status ++ codes " " ++ node_text v.coordinator ++ codes " " ++ task_text 44 v.task ++ codes "\n"
+change_words time row i v = time ++ codes " row " ++ decimal row ++ codes " node " ++ decimal i ++ codes " " ++ vector_words v
 
 abbrev pub change_told : Telling → List ℕ → ℕ → ℕ → Vector → List ℕ
 change_told Telling.Words time row i v = change_words time row i v

@@ -1,6 +1,6 @@
 //! The lines that tell of a trace that grows.
 ghost use Rattle.std.specs.Prelude.{◌≡◌, ◌++◌, OnOk, Some, string_bytes};
-ghost use Rattle.bully_follow.specs.Lines.{change_words, changed_told, node_told, room_told};
+ghost use Rattle.bully_follow.specs.Lines.{change_words, changed_told, node_told, room_told, vector_words};
 ghost use Rattle.bully_world.specs.State.{world_of};
 
 use crate::changes::{Changed, vector_of};
@@ -86,8 +86,17 @@ fn push_node_words(
     ensures { OnOk result (string_bytes text.new ≡ string_bytes text.old ++ change_words time.now row node vector.now.vector) }
 {
     let number = node.number();
-    let status = status_word(vector.status());
-    write!(text, "{time} row {row} node {number} {status} ")?;
+    write!(text, "{time} row {row} node {number} ")?;
+    push_vector(text, vector)
+}
+
+// Appends the vector, and the end of the line.
+#[tactic(auto, unfolding(crate::specs::Lines::vector_words))]
+fn push_vector(text: &mut String, vector: &Vector) -> Result<(), OutOfMemory>
+    ensures { OnOk result (string_bytes text.new ≡ string_bytes text.old ++ vector_words vector.now.vector) }
+{
+    text.push_str(status_word(vector.status()))?;
+    text.push(' ')?;
     push_node(text, vector.coordinator())?;
     text.push(' ')?;
     push_task(text, vector.task(), ',')?;
