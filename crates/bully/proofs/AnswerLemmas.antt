@@ -1,5 +1,5 @@
 -- From what `check` and `upgrade` of bully_trace ensure to what the program answers.
-use Rattle.std.proofs.Common.{◌≡◌, ◌≢◌, ◌⊎◌, inl, inr, ℕ, true, List, Some, None, Ok, Err, refl, ap, arith}
+use Rattle.std.proofs.Common.{◌≡◌, ◌≢◌, ◌⊎◌, inl, inr, ℕ, true, List, Some, None, Ok, Err, refl, ap, arith, subst}
 use Rattle.std.specs.Prelude.{IfSome, IsOk, IsTrue}
 use Rattle.std.specs.Io.KnownBytes.{Appends, Keeps}
 use Rattle.bully_base.specs.Setup.{Setup}
@@ -15,6 +15,7 @@ use Rattle.bully_rows.specs.TraceText.{trace_text}
 use Rattle.bully_trace.specs.Judging.{AreAllJudged, HasJudged, JudgeState}
 use Rattle.bully_trace.specs.Verdict.{IsJudged, IsVerdict}
 use Rattle.bully_trace.specs.VerdictText.{verdict_text}
+use Rattle.bully_json.specs.Objects.{verdict_line}
 use Rattle.bully.specs.Answer.{KnownBytes, Tells, IsAnswer, IsCheckAnswer, IsUntaken, IsUpgradeAnswer, verdict_status, stop_of, stop_line, row_line}
 use Rattle.bully.specs.declared.telling.Stop.{Stop}
 use Rattle.bully.proofs.KnownBytesLemmas.{appends-keeps, keeps-same}
@@ -103,12 +104,22 @@ fault-answer TraceCause.OutOfMemory remaining fault output output' errors errors
 pub told-answer : {E : Type 0} (contents : E → KnownBytes) (known : KnownBytes) (judge : JudgeState) (verdict : Verdict) (text : List ℕ) (output output' : KnownBytes) (errors errors' : E) (status : ℕ)
     → AreAllJudged known judge
     → ((setup : Setup) (rows : List Row) → HasJudged setup rows judge → IsJudged setup (first_world setup) 0 2 rows verdict (world_of judge.world))
+    → text ≡ verdict_line judge.world.setup verdict (world_of judge.world)
     → (((status ≡ verdict_status verdict) × Appends output output' text × (errors' ≡ errors)) ⊎ ((status ≡ 4) × Tells (contents errors) (contents errors') (stop_line Stop.Write)))
     → IfSome known (λ bytes. IsCheckAnswer true bytes output output' (contents errors) (contents errors') status)
-told-answer contents None judge verdict text output output' errors errors' status all says written = tt
-told-answer contents (Some bytes) judge verdict text output output' errors errors' status (header, rows, trace, within, judged) says (inl (done, appended, same)) =
-    inl (headed header rows, verdict, world_of judge.world, text, trace, says header.setup rows judged.0, appended, keeps-same _ _ (ap contents same), done)
-told-answer contents (Some bytes) judge verdict text output output' errors errors' status (header, rows, trace, within, judged) says (inr (stopped, told)) =
+told-answer contents None judge verdict text output output' errors errors' status all says is written = tt
+told-answer contents (Some bytes) judge verdict text output output' errors errors' status (header, rows, trace, within, judged) says is (inl (done, appended, same)) =
+    inl (
+      headed header rows,
+      verdict,
+      world_of judge.world,
+      trace,
+      says header.setup rows judged.0,
+      subst (Appends output output') (is ∙ ap (λ s. verdict_line s verdict (world_of judge.world)) judged.0.same) appended,
+      keeps-same _ _ (ap contents same),
+      done,
+    )
+told-answer contents (Some bytes) judge verdict text output output' errors errors' status (header, rows, trace, within, judged) says is (inr (stopped, told)) =
     inr (inr (Stop.Write, (λ other. absurd (other refl)), (λ _. rw trace refl), told, stopped))
 
 -- or there was no memory for that

@@ -32,7 +32,7 @@ module _ (Opens : KnownBytes → Type 0) (what : Asked) (output output' errors e
 
 -- the words of `explain`
 pub explained-to : (file config json : Option (List ℕ)) (input output output' errors errors' : KnownBytes) (status : ℕ)
-    → MatchOption config (IfSome input (λ bytes. IsExplainAnswer bytes output output' errors errors' status)) (λ _. IsConfigExplained (is_some file) (is_given json) output output' errors errors' status)
+    → MatchOption config (IfSome input (λ bytes. IsExplainAnswer (is_given json) bytes output output' errors errors' status)) (λ _. IsConfigExplained (is_some file) (is_given json) output output' errors errors' status)
     → IsAnswerTo (explaining file config json) input output output' errors errors' status
 explained-to file None json input output output' errors errors' status answered = answered
 explained-to file (Some path) json input output output' errors errors' status answered = answered
@@ -63,7 +63,7 @@ module _ (output output' errors errors' : KnownBytes) (status : ℕ) (short : Is
 
   short-to : (what : Asked) (input : KnownBytes) → IsAnswerTo what input output output' errors errors' status
   short-to (checking file json) input = short-check (is_given json) input
-  short-to (explaining file None json) input = unparsed-answer input output output' errors errors' status short.0 (short.2, short.1)
+  short-to (explaining file None json) input = unparsed-answer input (is_given json) output output' errors errors' status short.0 (short.2, short.1)
   short-to (explaining file (Some path) json) input = short-config (is_some file) (is_given json)
   short-to (following file json) None = tt
   short-to (following file json) (Some bytes) = inr (inr (Stop.OutOfMemory, short.1, short.2))

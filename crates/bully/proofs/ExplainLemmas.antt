@@ -1,5 +1,5 @@
 -- From what `explain` of bully_explain ensures to what the program answers.
-use Rattle.std.proofs.Common.{◌≡◌, ◌⊎◌, ◌++◌, inl, inr, ℕ, true, List, [], ◌∷◌, codes, subst, Some, None, Ok, Err, refl, ap, arith}
+use Rattle.std.proofs.Common.{◌≡◌, ◌⊎◌, ◌++◌, inl, inr, ℕ, Bool, true, List, [], ◌∷◌, codes, subst, Some, None, Ok, Err, refl, ap, arith}
 use Rattle.std.specs.Prelude.{IfSome}
 use Rattle.std.specs.Str.{IsUtf8, chars}
 use Rattle.std.specs.Io.KnownBytes.{Appends, Keeps}
@@ -11,13 +11,13 @@ use Rattle.bully_rows.specs.Rows.{OfTrace, is_of_form}
 use Rattle.bully_config.specs.Configuration.{Configuration}
 use Rattle.bully_config.specs.declared.fault.ConfigFault.{ConfigFault}
 use Rattle.bully_account.specs.declared.showing.NodeSheet.{NodeSheet}
-use Rattle.bully_account.specs.TraceReport.{Explains}
 use Rattle.bully_explain.specs.ConfigTold.{IsConfigText}
+use Rattle.bully_explain.specs.SheetText.{IsFormText, IsSheet}
 use Rattle.bully_explain.specs.Shown.{AllPlain, shown}
 use Rattle.bully_explain.proofs.ShownLemmas.{shown-plain}
 use Rattle.bully.specs.Answer.{KnownBytes, Tells, row_line, stop_line, verdict_status}
 use Rattle.bully.specs.ConfigAnswer.{IsStopped}
-use Rattle.bully.specs.ExplainAnswer.{IsConfigExplainAnswer, IsExplainAnswer}
+use Rattle.bully.specs.ExplainAnswer.{IsConfigExplainAnswer, IsExplainAnswer, sheet_told}
 use Rattle.bully.specs.RefusalText.{refusal_line}
 use Rattle.bully.specs.Wanted.{ReadsAs}
 use Rattle.bully.specs.declared.refusals.Refusal.{Refusal}
@@ -25,32 +25,33 @@ use Rattle.bully.specs.declared.telling.Stop.{Stop}
 use Rattle.bully.proofs.KnownBytesLemmas.{keeps-refl, keeps-same}
 
 -- the sheet of the verdict was written
-pub explained-answer : {E : Type 0} (contents : E → KnownBytes) (remaining : KnownBytes) (verdict : Verdict) (sheets : List NodeSheet) (output output' : KnownBytes) (errors errors' : E) (status : ℕ)
-    → OfTrace remaining (Explains verdict sheets)
-    → (((status ≡ verdict_status verdict) × ((text : List ℕ) × Appends output output' text) × (errors' ≡ errors)) ⊎ IsStopped output output' (contents errors) (contents errors') status)
-    → IfSome remaining (λ bytes. IsExplainAnswer bytes output output' (contents errors) (contents errors') status)
-explained-answer contents None verdict sheets output output' errors errors' status explained written = tt
-explained-answer contents (Some bytes) verdict sheets output output' errors errors' status (trace, is, e) (inl (done, (text, appended), same)) =
-    inl (trace, verdict, world_of e.world, text, is, e.judged, appended, keeps-same _ _ (ap contents same), done)
-explained-answer contents (Some bytes) verdict sheets output output' errors errors' status (trace, is, e) (inr (stop, kept, told, stopped)) =
+pub explained-answer : {E : Type 0} (contents : E → KnownBytes) (remaining : KnownBytes) (is_json : Bool) (verdict : Verdict) (sheets : List NodeSheet) (sheet : List ℕ) (output output' : KnownBytes)
+    (errors errors' : E) (status : ℕ)
+    → OfTrace remaining (IsSheet verdict sheets sheet)
+    → (((status ≡ verdict_status verdict) × Appends output output' (sheet_told is_json verdict sheet) × (errors' ≡ errors)) ⊎ IsStopped output output' (contents errors) (contents errors') status)
+    → IfSome remaining (λ bytes. IsExplainAnswer is_json bytes output output' (contents errors) (contents errors') status)
+explained-answer contents None is_json verdict sheets sheet output output' errors errors' status explained written = tt
+explained-answer contents (Some bytes) is_json verdict sheets sheet output output' errors errors' status (trace, is, e) (inl (done, appended, same)) =
+    inl (trace, verdict, world_of e.explains.world, sheet, is, e.explains.judged, e.begins, appended, keeps-same _ _ (ap contents same), done)
+explained-answer contents (Some bytes) is_json verdict sheets sheet output output' errors errors' status (trace, is, e) (inr (stop, kept, told, stopped)) =
     inr (inr (stop, kept, (λ _. rw is refl), told, stopped))
 
 -- the first faulty row was told with its sheet, or there was no memory for that
-pub form-answer : (remaining : KnownBytes) (fault : TraceFault) (text : List ℕ) (output errors errors' : KnownBytes) (status : ℕ)
-    → EndsReading remaining fault → is_of_form fault.cause ≡ true
+pub form-answer : (remaining : KnownBytes) (is_json : Bool) (fault : TraceFault) (text : List ℕ) (output errors errors' : KnownBytes) (status : ℕ)
+    → EndsReading remaining fault × IsFormText fault text → is_of_form fault.cause ≡ true
     → (((status ≡ 3) × Tells errors errors' (row_line fault ++ text)) ⊎ ((status ≡ 4) × Tells errors errors' (stop_line Stop.OutOfMemory)))
-    → IfSome remaining (λ bytes. IsExplainAnswer bytes output output errors errors' status)
-form-answer None fault text output errors errors' status ends form told = tt
-form-answer (Some bytes) fault text output errors errors' status ends form (inl (done, told)) =
-    inr (inl (fault, text, ends.first form, keeps-same _ _ refl, told, done))
-form-answer (Some bytes) fault text output errors errors' status ends form (inr (done, told)) =
+    → IfSome remaining (λ bytes. IsExplainAnswer is_json bytes output output errors errors' status)
+form-answer None is_json fault text output errors errors' status ends form told = tt
+form-answer (Some bytes) is_json fault text output errors errors' status ends form (inl (done, told)) =
+    inr (inl (fault, text, ends.0.first form, ends.1, keeps-same _ _ refl, told, done))
+form-answer (Some bytes) is_json fault text output errors errors' status ends form (inr (done, told)) =
     inr (inr (Stop.OutOfMemory, (λ _. keeps-same _ _ refl), (λ e. absurd (grind (arith, e))), told, done))
 
 -- there was no memory for the words
-pub unparsed-answer : (remaining : KnownBytes) (output output' errors errors' : KnownBytes) (status : ℕ) → Keeps output output'
-    → (status ≡ 4) × Tells errors errors' (stop_line Stop.OutOfMemory) → IfSome remaining (λ bytes. IsExplainAnswer bytes output output' errors errors' status)
-unparsed-answer None output output' errors errors' status kept told = tt
-unparsed-answer (Some bytes) output output' errors errors' status kept (done, told) =
+pub unparsed-answer : (remaining : KnownBytes) (is_json : Bool) (output output' errors errors' : KnownBytes) (status : ℕ) → Keeps output output'
+    → (status ≡ 4) × Tells errors errors' (stop_line Stop.OutOfMemory) → IfSome remaining (λ bytes. IsExplainAnswer is_json bytes output output' errors errors' status)
+unparsed-answer None is_json output output' errors errors' status kept told = tt
+unparsed-answer (Some bytes) is_json output output' errors errors' status kept (done, told) =
     inr (inr (Stop.OutOfMemory, (λ _. kept), (λ e. absurd (grind (arith, e))), told, done))
 
 -- ---- the answers to `explain --config`
@@ -95,4 +96,5 @@ no-text-line = record {
   plain = (subst (λ t. AllPlain (chars t)) no-text-shown (shown-plain no_text no-text-letters), tt);
   whole = refl;
   one = λ other. absurd (other refl);
+  begins = λ other. absurd (other refl);
 }

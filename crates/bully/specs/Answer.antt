@@ -13,6 +13,7 @@ use Rattle.bully_rows.specs.Trace.{Trace, upgraded}
 use Rattle.bully_rows.specs.TraceText.{trace_text}
 use Rattle.bully_trace.specs.Verdict.{IsVerdict}
 use Rattle.bully_trace.specs.VerdictText.{verdict_text}
+use Rattle.bully_json.specs.Objects.{verdict_line}
 use Rattle.bully.specs.declared.telling.Stop.{Stop}
 
 -- the bytes that a writer holds, where they are known
@@ -81,11 +82,11 @@ IsAnswer bytes output output' errors errors' status =
     IsJudgedAnswer bytes output output' errors errors' status
     ⊎ IsUntaken bytes output output' errors errors' status
 
--- the rows of the input have a verdict, and a text that tells it stands on the output
-abbrev pub IsTold : List ℕ → KnownBytes → KnownBytes → KnownBytes → KnownBytes → ℕ → Type 0
-IsTold bytes output output' errors errors' status =
-    (trace : Trace) × (verdict : Verdict) × (w : World) × (text : List ℕ) × (trace_of (records_of bytes) ≡ Ok trace) × IsVerdict trace verdict w
-    × Appends output output' text × Keeps errors errors' × (status ≡ verdict_status verdict)
+-- the rows of the input have a verdict: as an object it stands on the output
+abbrev pub IsToolsAnswer : List ℕ → KnownBytes → KnownBytes → KnownBytes → KnownBytes → ℕ → Type 0
+IsToolsAnswer bytes output output' errors errors' status =
+    (trace : Trace) × (verdict : Verdict) × (w : World) × (trace_of (records_of bytes) ≡ Ok trace) × IsVerdict trace verdict w
+    × Appends output output' (verdict_line trace.setup verdict w) × Keeps errors errors' × (status ≡ verdict_status verdict)
 
 -- a word is told to be bad, and nothing is done
 abbrev pub IsBadWord : List ℕ → KnownBytes → KnownBytes → KnownBytes → KnownBytes → ℕ → Type 0
@@ -98,7 +99,7 @@ IsShort output output' errors errors' status = Keeps output output' × Tells err
 -- the answer to `check`, as JSON or not
 abbrev pub IsCheckAnswer : Bool → List ℕ → KnownBytes → KnownBytes → KnownBytes → KnownBytes → ℕ → Type 0
 IsCheckAnswer true bytes output output' errors errors' status =
-    IsTold bytes output output' errors errors' status
+    IsToolsAnswer bytes output output' errors errors' status
     ⊎ IsUntaken bytes output output' errors errors' status
 IsCheckAnswer false bytes output output' errors errors' status = IsAnswer bytes output output' errors errors' status
 

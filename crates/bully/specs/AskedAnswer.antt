@@ -41,7 +41,7 @@ path_asked (completing shell) = None
 -- the answer to this, where so much is known of the trace's bytes; of a configuration at a path there are some bytes
 abbrev pub IsAnswerTo : Asked → KnownBytes → KnownBytes → KnownBytes → KnownBytes → KnownBytes → ℕ → Type 0
 IsAnswerTo (checking file json) input output output' errors errors' status = IfSome input (λ bytes. IsCheckAnswer (is_given json) bytes output output' errors errors' status)
-IsAnswerTo (explaining file None json) input output output' errors errors' status = IfSome input (λ bytes. IsExplainAnswer bytes output output' errors errors' status)
+IsAnswerTo (explaining file None json) input output output' errors errors' status = IfSome input (λ bytes. IsExplainAnswer (is_given json) bytes output output' errors errors' status)
 IsAnswerTo (explaining file (Some path) json) input output output' errors errors' status = IsConfigExplained (is_some file) (is_given json) output output' errors errors' status
 IsAnswerTo (following file json) input output output' errors errors' status = IfSome input (λ bytes. IsFollowAnswer bytes errors errors' status)
 IsAnswerTo (upgrading file) input output output' errors errors' status = IfSome input (λ bytes. IsUpgradeAnswer bytes output output' errors errors' status)

@@ -3,26 +3,43 @@ use Rattle.std.specs.Prelude.{◌≡◌, ◌⊎◌, ℕ, Bool, true, false, List
 use Rattle.std.specs.Io.KnownBytes.{Appends, Keeps}
 use Rattle.bully_rows.specs.declared.trace.TraceFault.{TraceFault}
 use Rattle.bully_rows.specs.Rows.{records_of, trace_of}
+use Rattle.bully_rows.specs.Trace.{Trace}
+use Rattle.bully_trace.specs.Verdict.{IsVerdict}
+use Rattle.bully_trace.specs.declared.verdict.Verdict.{Verdict}
+use Rattle.bully_world.specs.World.{World}
+use Rattle.bully_json.specs.Objects.{sheet_line}
 use Rattle.bully_config.specs.Configuration.{Configuration}
 use Rattle.bully_config.specs.declared.fault.ConfigFault.{ConfigFault}
 use Rattle.bully_explain.specs.ConfigTold.{IsConfigText}
-use Rattle.bully.specs.Answer.{IsBadWord, IsShort, IsStopAnswer, IsTold, KnownBytes, Tells, row_line}
+use Rattle.bully_explain.specs.SheetText.{IsFormText, IsSheetText}
+use Rattle.bully.specs.Answer.{IsBadWord, IsShort, IsStopAnswer, KnownBytes, Tells, row_line, verdict_status}
 use Rattle.bully.specs.ConfigAnswer.{IsStopped}
 use Rattle.bully.specs.RefusalText.{refusal_line}
 use Rattle.bully.specs.Wanted.{ReadsAs}
 use Rattle.bully.specs.declared.refusals.Refusal.{Refusal}
 
--- a row of the input is faulty: the first such row is told on the errors, with its sheet behind the line, and nothing stands
--- on the output
+-- what is told of a sheet: itself, or as an object with its verdict
+abbrev pub sheet_told : Bool → Verdict → List ℕ → List ℕ
+sheet_told false verdict sheet = sheet
+sheet_told true verdict sheet = sheet_line verdict sheet
+
+-- the rows of the input have a verdict: its sheet stands on the output, which begins with the row that decided, and how it did
+abbrev pub IsExplainedAnswer : Bool → List ℕ → KnownBytes → KnownBytes → KnownBytes → KnownBytes → ℕ → Type 0
+IsExplainedAnswer is_json bytes output output' errors errors' status =
+    (trace : Trace) × (verdict : Verdict) × (w : World) × (sheet : List ℕ) × (trace_of (records_of bytes) ≡ Ok trace) × IsVerdict trace verdict w
+    × IsSheetText trace.setup trace.rows w verdict sheet × Appends output output' (sheet_told is_json verdict sheet) × Keeps errors errors' × (status ≡ verdict_status verdict)
+
+-- a row of the input is faulty: the first such row is told on the errors, with its sheet behind the line, which begins with that row and the
+-- fault; and nothing stands on the output
 abbrev pub IsUnexplainedAnswer : List ℕ → KnownBytes → KnownBytes → KnownBytes → KnownBytes → ℕ → Type 0
 IsUnexplainedAnswer bytes output output' errors errors' status =
-    (fault : TraceFault) × (sheet : List ℕ) × (trace_of (records_of bytes) ≡ Err fault) × Keeps output output'
+    (fault : TraceFault) × (sheet : List ℕ) × (trace_of (records_of bytes) ≡ Err fault) × IsFormText fault sheet × Keeps output output'
     × Tells errors errors' (row_line fault ++ sheet) × (status ≡ 3)
 
 -- the answer to `explain` with these bytes on the input; where a read fails, nothing stands on the output
-abbrev pub IsExplainAnswer : List ℕ → KnownBytes → KnownBytes → KnownBytes → KnownBytes → ℕ → Type 0
-IsExplainAnswer bytes output output' errors errors' status =
-    IsTold bytes output output' errors errors' status
+abbrev pub IsExplainAnswer : Bool → List ℕ → KnownBytes → KnownBytes → KnownBytes → KnownBytes → ℕ → Type 0
+IsExplainAnswer is_json bytes output output' errors errors' status =
+    IsExplainedAnswer is_json bytes output output' errors errors' status
     ⊎ IsUnexplainedAnswer bytes output output' errors errors' status
     ⊎ IsStopAnswer bytes output output' errors errors' status
 

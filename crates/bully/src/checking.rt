@@ -4,7 +4,7 @@ ghost use Rattle.bully_trace.specs.Judging.{AreAllJudged};
 
 use crate::explaining::write_sheet;
 use crate::telling::{Stop, answer_fault, answer_stop, finish};
-use bully_json::{json_line, verdict_object};
+use bully_json::verdict_line;
 use bully_trace::{Judge, Verdict, check, judge_text};
 use std::alloc::Global;
 use std::io::{Read, Write};
@@ -58,12 +58,9 @@ fn answer_judged<W: Write, E: Write>(
     ensures status { (result ≤ 1) ⊎ (result ≡ 4) }
 {
     let verdict = judge.verdict();
-    let Ok(object) = verdict_object(alloc, verdict, judge.world()) else {
-        return answer_stop(Stop::OutOfMemory, errors);
-    };
-    match json_line(alloc, &object) {
-        Some(line) => write_sheet(verdict_status(verdict), line.as_str(), output, errors),
-        None => answer_stop(Stop::OutOfMemory, errors),
+    match verdict_line(alloc, verdict, judge.world()) {
+        Ok(line) => write_sheet(verdict_status(verdict), line.as_str(), output, errors),
+        Err(_) => answer_stop(Stop::OutOfMemory, errors),
     }
 }
 

@@ -5,7 +5,7 @@ ghost use Rattle.bully.specs.ConfigAnswer.{IsStopped};
 ghost use Rattle.bully_cli.specs.Words.{text_of};
 ghost use Rattle.bully.specs.RefusalText.{refusal_line};
 ghost use Rattle.std.specs.Str.{IsUtf8};
-ghost use Rattle.bully.specs.ExplainAnswer.{IsConfigExplainAnswer, IsConfigExplained, IsExplainAnswer};
+ghost use Rattle.bully.specs.ExplainAnswer.{IsConfigExplainAnswer, IsConfigExplained, IsExplainAnswer, sheet_told};
 
 use crate::checking::verdict_status;
 use crate::configs::bytes_at;
@@ -16,7 +16,7 @@ use bully_base::OutOfMemory;
 use bully_cli::ExplainWords;
 use bully_config::ConfigFault;
 use bully_explain::{explain, explain_config};
-use bully_json::{SheetObject, head_object, json_line};
+use bully_json::sheet_line;
 use bully_rows::TraceFault;
 use bully_trace::Verdict;
 use std::alloc::Global;
@@ -33,7 +33,7 @@ pub fn answer_explain<H: Files + AllocGlobal, R: Read + Drop, W: Write, E: Write
     output: &mut W,
     errors: &mut E,
 ) -> u8
-    ensures answer { MatchOption (text_of words.now.config) (IfSome (R.remaining input) (λ bytes. IsExplainAnswer bytes (W.contents output.old) (W.contents output.new) (E.contents errors.old) (E.contents errors.new) result)) (λ _. IsConfigExplained (is_some (text_of words.now.file)) (is_given (text_of words.now.json)) (W.contents output.old) (W.contents output.new) (E.contents errors.old) (E.contents errors.new) result) }
+    ensures answer { MatchOption (text_of words.now.config) (IfSome (R.remaining input) (λ bytes. IsExplainAnswer (is_given (text_of words.now.json)) bytes (W.contents output.old) (W.contents output.new) (E.contents errors.old) (E.contents errors.new) result)) (λ _. IsConfigExplained (is_some (text_of words.now.file)) (is_given (text_of words.now.json)) (W.contents output.old) (W.contents output.new) (E.contents errors.old) (E.contents errors.new) result) }
     ensures silent { (result ≡ 2) ⊎ (result ≡ 3) → output.new ≡ output.old }
     ensures status { result ≤ 4 }
 {
@@ -61,7 +61,7 @@ fn explain_trace<R: Read + Drop, W: Write, E: Write>(
     output: &mut W,
     errors: &mut E,
 ) -> u8
-    ensures answer { IfSome (R.remaining input) (λ bytes. IsExplainAnswer bytes (W.contents output.old) (W.contents output.new) (E.contents errors.old) (E.contents errors.new) result) }
+    ensures answer { IfSome (R.remaining input) (λ bytes. IsExplainAnswer is_json bytes (W.contents output.old) (W.contents output.new) (E.contents errors.old) (E.contents errors.new) result) }
     ensures silent { (result ≡ 2) ⊎ (result ≡ 3) → output.new ≡ output.old }
     ensures status { result ≤ 4 }
 {
@@ -90,7 +90,7 @@ fn answer_sheet<W: Write, E: Write>(
     output: &mut W,
     errors: &mut E,
 ) -> u8
-    ensures answer { ((result ≡ verdict_status verdict) × ((text : List ℕ) × Appends (W.contents output.old) (W.contents output.new) text) × (errors.new ≡ errors.old))
+    ensures answer { ((result ≡ verdict_status verdict) × Appends (W.contents output.old) (W.contents output.new) (sheet_told is_json verdict sheet.now) × (errors.new ≡ errors.old))
         ⊎ IsStopped (W.contents output.old) (W.contents output.new) (E.contents errors.old) (E.contents errors.new) result }
     ensures status { (result ≤ 1) ⊎ (result ≡ 4) }
 {
@@ -98,15 +98,9 @@ fn answer_sheet<W: Write, E: Write>(
     if !is_json {
         return write_sheet(status, sheet, output, errors);
     }
-    match json_line(
-        alloc,
-        &SheetObject {
-            verdict: head_object(verdict),
-            sheet,
-        },
-    ) {
-        Some(line) => write_sheet(status, line.as_str(), output, errors),
-        None => answer_stop(Stop::OutOfMemory, errors),
+    match sheet_line(alloc, verdict, sheet) {
+        Ok(line) => write_sheet(status, line.as_str(), output, errors),
+        Err(_) => answer_stop(Stop::OutOfMemory, errors),
     }
 }
 

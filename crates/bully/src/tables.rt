@@ -14,7 +14,7 @@ use crate::telling::{Stop, answer_stop, finish};
 use bully_base::{NodeSet, OutOfMemory, Setup};
 use bully_cli::TableWords;
 use bully_config::Config;
-use bully_json::{json_line, plan_object};
+use bully_json::plan_line;
 use bully_table::{Table, TablePlan, plan_in, push_owners};
 use std::alloc::Global;
 use std::io::Write;
@@ -149,11 +149,11 @@ fn answer_plan<W: Write, E: Write>(
 fn told_text(alloc: Global, is_json: bool, plan: &TablePlan) -> Option<String>
     ensures { IfSome result (λ text. IsPlanTold is_json plan.now (string_bytes text)) }
 {
-    if !is_json {
-        return text_of(alloc, plan).ok();
+    if is_json {
+        plan_line(alloc, plan).ok()
+    } else {
+        text_of(alloc, plan).ok()
     }
-    let object = plan_object(alloc, plan).ok()?;
-    json_line(alloc, &object)
 }
 
 // The text of a plan: its owners, its moves and its bound, a line each.

@@ -1,14 +1,19 @@
 -- What stands in a draft behind several pieces.
-use Rattle.std.proofs.Common.{◌≡◌, ◌∙◌, false, ℕ, zero, suc, ◌+◌, ◌++◌, List, [], ◌∷◌, Option, Some, refl, sym, ap, subst, arith, codes, replicate, append_assoc, append-nil}
+use Rattle.std.proofs.Common.{◌≡◌, ◌∙◌, false, ℕ, zero, suc, ◌+◌, ◌-◌, ◌++◌, length, length-append, List, [], ◌∷◌, Option, Some, refl, sym, ap, subst, arith, codes, replicate, append_assoc, append-nil}
 use Rattle.std.specs.Str.{chars}
 use Rattle.bully_config.specs.declared.fault.ConfigFault.{ConfigFault}
-use Rattle.bully_explain.specs.ConfigTold.{ArePlain, IsConfigText, lines_text}
-use Rattle.bully_explain.specs.Drafted.{Appends, AppendsLines, Drafted, blank}
-use Rattle.bully_explain.specs.Shown.{AllPlain}
+use Rattle.bully_explain.specs.ConfigTold.{ArePlain, IsConfigText, document_head, lines_text}
+use Rattle.bully_explain.specs.Differing.{gap, part_name, sides}
+use Rattle.bully_explain.specs.Drafted.{Appends, AppendsLines, AppendsPrinted, Drafted, blank}
+use Rattle.bully_explain.specs.Shown.{AllPlain, AllPrinted, shown}
+
+-- nothing was appended
+pub appends_nothing : (a : Drafted) → Appends a a []
+appends_nothing a = record { memory = λ good. good; text = λ good. sym (append-nil a.text) }
 
 -- two pieces are one
-appends-then : {a b c : Drafted} {p q : List ℕ} → Appends a b p → Appends b c q → Appends a c (p ++ q)
-appends-then {a} {b} {c} {p} {q} first second = record {
+pub appends_then : {a b c : Drafted} {p q : List ℕ} → Appends a b p → Appends b c q → Appends a c (p ++ q)
+appends_then {a} {b} {c} {p} {q} first second = record {
   memory = λ good. first.memory (second.memory good);
   text = λ good. second.text good ∙ ap (λ t. t ++ q) (first.text (second.memory good)) ∙ append_assoc a.text p q;
 }
@@ -22,7 +27,47 @@ spaces-more (suc n) = ap (λ (l : List ℕ). 32 ∷ l) (spaces-more n)
 pub one-space : {a b c : Drafted} (n : ℕ) → Appends a b (replicate n 32) → Appends b c (codes " ") → Appends a c (replicate (n + 1) 32)
 one-space {a} {b} {c} n first second =
     let next : suc n ≡ n + 1 = omega arith in
-    subst (Appends a c) (spaces-more n ∙ ap (λ m. replicate m 32) next) (appends-then first second)
+    subst (Appends a c) (spaces-more n ∙ ap (λ m. replicate m 32) next) (appends_then first second)
+
+-- ---- columns
+
+-- behind what stands in the first column, the gap is that behind so many bytes
+gap-behind : {b c d : Drafted} (start : ℕ) (said : List ℕ) → start ≡ length b.text → Appends b c said → Appends c d (gap (length c.text - start)) → Appends c d (gap (length said))
+gap-behind {b} {c} {d} start said begins pushed filled = record {
+  memory = filled.memory;
+  text = λ good.
+      let longer : length c.text ≡ length b.text + length said = ap length (pushed.text (filled.memory good)) ∙ length-append b.text said in
+      let taken : length c.text - start ≡ length said = omega (arith, begins, longer) in
+      filled.text good ∙ ap (λ n. c.text ++ gap n) taken;
+}
+
+-- the line of a part
+pub beside : {a b c d e f : Drafted} (part said shown : List ℕ) (start : ℕ) → Appends a b (part_name part) → start ≡ length b.text → Appends b c said → Appends c d (gap (length c.text - start))
+    → Appends d e shown → Appends e f (codes "\n") → Appends a f (sides part said shown)
+beside part said shown start named begins pushed filled then ended =
+    appends_then named (appends_then pushed (appends_then (gap-behind start said begins pushed filled) (appends_then then ended)))
+
+-- ---- printed ASCII characters
+
+pub no_printed : (a : Drafted) → AppendsPrinted a a
+no_printed a = record { memory = λ good. good; text = λ good. ([], tt, sym (append-nil a.text)) }
+
+printed-append : (part more : List ℕ) → AllPrinted part → AllPrinted more → AllPrinted (part ++ more)
+printed-append [] more first second = second
+printed-append (byte ∷ part) more (head, first) second = (head, printed-append part more first second)
+
+pub printed_then : {a b c : Drafted} → AppendsPrinted a b → AppendsPrinted b c → AppendsPrinted a c
+printed_then {a} {b} {c} first second = record {
+  memory = λ good. first.memory (second.memory good);
+  text = λ good.
+      let (part, are, is) = first.text (second.memory good) in
+      let (more, also, next) = second.text good in
+      (part ++ more, printed-append part more are also, next ∙ ap (λ t. t ++ more) is ∙ append_assoc a.text part more);
+}
+
+-- what was appended is printed
+pub printed_part : {a b : Drafted} (part : List ℕ) → AllPrinted part → Appends a b part → AppendsPrinted a b
+printed_part part are pushed = record { memory = pushed.memory; text = λ good. (part, are, pushed.text good) }
 
 -- ---- lines
 
@@ -41,7 +86,7 @@ no-lines a = record { memory = λ good. good; text = λ good. ([], tt, sym (appe
 -- one line more
 pub one-line : (start a b c : Drafted) (line : List ℕ) → AppendsLines start a → Appends a b line → AllPlain (chars line) → Appends b c (codes "\n") → AppendsLines start c
 one-line start a b c line so_far first plain second =
-    let both = appends-then first second in
+    let both = appends_then first second in
     record {
       memory = λ good. so_far.memory (both.memory good);
       text = λ good.
@@ -54,13 +99,20 @@ one-line start a b c line so_far first plain second =
 
 -- ---- the text of a sheet
 
--- a document's is one line
-pub line-text : (told : Option ConfigFault) (text line : List ℕ) → text ≡ line ++ codes "\n" → AllPlain (chars line) → IsConfigText told text
-line-text told text line is plain = record { lines = line ∷ []; plain = (plain, tt); whole = is; one = λ other. refl }
+-- a document's is one line, which begins so
+pub line-text : {a b c : Drafted} (told : Option ConfigFault) (text rest : List ℕ) → text ≡ shown c.text ++ codes "\n" → AllPlain (chars (shown c.text)) → c.has_failed ≡ false → a ≡ blank
+    → Appends a b (document_head told) → Appends b c rest → IsConfigText told text
+line-text {a} {b} {c} told text rest is plain good begun head behind = record {
+  lines = shown c.text ∷ [];
+  plain = (plain, tt);
+  whole = is;
+  one = λ other. refl;
+  begins = λ other. (rest, is ∙ ap (λ t. shown t ++ codes "\n") ((appends_then head behind).text good ∙ ap (λ (d : Drafted). d.text ++ (document_head told ++ rest)) begun));
+}
 
 -- that of another text has several
 pub toml-text : (told : Option ConfigFault) (draft : Drafted) (text : List ℕ) → told ≡ Some ConfigFault.Toml → AppendsLines blank draft → draft.has_failed ≡ false → text ≡ draft.text
     → IsConfigText told text
 toml-text told draft text toml appended good same =
     let (lines, are, is) = appended.text good in
-    record { lines = lines; plain = are; whole = same ∙ is; one = λ other. absurd (other toml) }
+    record { lines = lines; plain = are; whole = same ∙ is; one = λ other. absurd (other toml); begins = λ other. absurd (other toml) }

@@ -1,3 +1,5 @@
 pub mod ConfigLemmas
+pub mod DifferingLemmas
 pub mod DraftLemmas
+pub mod SheetLemmas
 pub mod ShownLemmas

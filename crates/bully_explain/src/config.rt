@@ -1,7 +1,7 @@
 ghost use Rattle.std.specs.Prelude.{◌≡◌, Some, None, IfOk, string_bytes};
 ghost use Rattle.bully_config.specs.Answers.{refusal_of};
-ghost use Rattle.bully_explain.specs.ConfigTold.{IsConfigText, IsConfigTold};
-ghost use Rattle.bully_explain.specs.Drafted.{AppendsLines};
+ghost use Rattle.bully_explain.specs.ConfigTold.{IsConfigText, IsConfigTold, document_head};
+ghost use Rattle.bully_explain.specs.Drafted.{Appends, AppendsLines};
 ghost use Rattle.toml.specs.Errors.{IsMemory};
 ghost use Rattle.toml.specs.View.{table_view};
 
@@ -66,11 +66,33 @@ fn document_sheet(alloc: Global, document: &Table) -> Result<ConfigSheet, OutOfM
     ensures lines { IfOk result (λ sheet. IsConfigText sheet.told (string_bytes sheet.text)) }
 {
     let told = first_refusal(document);
+    let rest = document_rest(alloc, document, told)?;
     let mut draft = Draft::new(alloc);
-    match told {
-        Some(fault) => push_fault(&mut draft, document, fault),
-        None => draft.push_str("the configuration has no fault"),
-    }
+    push_document_head(&mut draft, told);
+    draft.push_shown(rest.as_str());
     let text = draft.finish_line(alloc)?;
     Ok(ConfigSheet { told, text })
+}
+
+// Appends how the line of a document begins: with its first fault, or that it has none.
+fn push_document_head(text: &mut Draft, told: Option<ConfigFault>)
+    ensures { Appends text.old text.new (document_head told) }
+{
+    match told {
+        Some(fault) => text.push_between("", fault, ": "),
+        None => text.push_str("the configuration has no fault"),
+    }
+}
+
+// What stands behind that.
+fn document_rest(
+    alloc: Global,
+    document: &Table,
+    told: Option<ConfigFault>,
+) -> Result<String, OutOfMemory> {
+    let mut text = Draft::new(alloc);
+    if let Some(fault) = told {
+        push_fault(&mut text, document, fault);
+    }
+    text.finish()
 }

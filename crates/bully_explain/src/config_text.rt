@@ -8,9 +8,8 @@ use bully_config::{
 };
 use toml::{Table, Value};
 
-/// Appends what is wrong with the document, whose first fault this is: a line, without its end.
+/// Appends what stands behind the name of the document's first fault: what is wrong with it, without the line's end.
 pub fn push_fault(text: &mut Draft, document: &Table, fault: ConfigFault) {
-    text.push_between("", fault, ": ");
     match fault.key() {
         Some(key) => push_key_fault(text, document, fault, key),
         None => push_other_fault(text, document, fault),
@@ -198,11 +197,15 @@ fn byte_before_end(bytes: &[u8], count: usize) -> Option<u8> {
     Some(bytes[bytes.len() - 1 - count])
 }
 
-// Appends that one of these names may stand there.
+// Appends that one of these names may stand there. An item that can't be a name isn't offered.
 fn push_names(text: &mut Draft, names: &[Value]) {
-    text.push_str("one of the names:");
+    text.push_str("one of the names");
+    let mut gap = ": ";
     for name in names {
-        push_quoted(text, " ", text_of(name));
+        if fits(name, Key::Names) {
+            push_quoted(text, gap, text_of(name));
+            gap = " ";
+        }
     }
 }
 

@@ -10,6 +10,7 @@ use bully_account::EventKind;
 use bully_base::{Node, Status};
 use bully_calls::{Answer, Call, CallKind, NodeEventKind, Saying};
 use bully_rows::{Detail, DetailedEvent, answer_word, status_word};
+use bully_steps::Point;
 use bully_trace::said_of;
 
 /// Appends a blank line, and that of the rule for each part of what is said beside the event that differs.
@@ -64,9 +65,12 @@ fn push_callee_rule(text: &mut Draft, scene: &Scene, shown: &Detail) {
     text.push_str(RULE);
     match shown.kind.saying() {
         Saying::Offered => {
-            text.push_str(
-                "others are asked in rising order, and halted, told and readied in falling order: at ",
-            );
+            text.push_str(match scene.shown.point {
+                Point::Inquiring => "a timeout asks the coordinator of its node: at ",
+                _ => {
+                    "others are asked in rising order, and halted, told and readied in falling order: at "
+                }
+            });
             push_point_told(text, scene.setup(), &scene.shown.point);
             text.push_behind(" that is node ", shown.call.callee.number());
         }

@@ -78,6 +78,7 @@ impl Draft {
 
     /// The whole text as a line, which [`push_shown`] shows, whatever was appended. Refused where memory was wanting, or is now.
     pub fn finish_line(self, alloc: Global) -> Result<String, OutOfMemory>
+        ensures whole { IfOk result (λ line. self.has_failed ≡ false) }
         ensures line { IfOk result (λ line. string_bytes line ≡ shown self.text ++ codes "\n") }
         ensures plain { IfOk result (λ line. AllPlain (chars (shown self.text))) }
     {

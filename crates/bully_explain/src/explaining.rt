@@ -1,5 +1,6 @@
-ghost use Rattle.std.specs.Prelude.{◌≡◌, ℕ, List, [], None, Option, true, IfErr, IfOk, IsSome};
-ghost use Rattle.bully_account.specs.TraceReport.{IsToldOf, IsUntold};
+ghost use Rattle.std.specs.Prelude.{◌≡◌, ℕ, List, [], None, Option, true, IfErr, IfOk, IfSome, IsSome, string_bytes};
+ghost use Rattle.bully_account.specs.TraceReport.{IsUntold};
+ghost use Rattle.bully_explain.specs.SheetText.{BeginsSheet, IsFormText, IsSheetOf};
 ghost use Rattle.bully_rows.specs.RecordsLeft.{EndsReading, IsUnread};
 ghost use Rattle.bully_rows.specs.Rows.{is_of_form};
 
@@ -26,7 +27,7 @@ pub struct Sheet {
 /// started. Refused where there is nothing to explain: as `Read` where the reader fails, at the row behind those that were
 /// read; and as `OutOfMemory`, at row 0, where the account or the sheet can't be made. The rule: docs/FORMATS.md.
 pub fn explain<R: Read + Drop>(alloc: Global, reader: R) -> Result<Sheet, TraceFault>
-    ensures told { IfOk result (λ sheet. IsToldOf (R.remaining reader) sheet.nodes.items sheet.told) }
+    ensures told { IfOk result (λ sheet. IsSheetOf (R.remaining reader) sheet.nodes.items (string_bytes sheet.text) sheet.told) }
     ensures form { IfOk result (λ sheet. IfErr sheet.told (λ fault. is_of_form fault.cause ≡ true)) }
     ensures sheets { IfOk result (λ sheet. IfErr sheet.told (λ fault. sheet.nodes.items ≡ [])) }
     ensures fault { IfErr result (EndsReading (R.remaining reader)) }
@@ -44,7 +45,7 @@ fn read_sheet<R: Read + Drop>(
     account: &mut Option<Account>,
 ) -> Result<Sheet, TraceFault>
     requires { account.old ≡ None }
-    ensures told { (known : Option (List ℕ)) → IsUnread known rows.old → IfOk result (λ sheet. IsToldOf known sheet.nodes.items sheet.told) }
+    ensures told { (known : Option (List ℕ)) → IsUnread known rows.old → IfOk result (λ sheet. IsSheetOf known sheet.nodes.items (string_bytes sheet.text) sheet.told) }
     ensures form { IfOk result (λ sheet. IfErr sheet.told (λ fault. is_of_form fault.cause ≡ true)) }
     ensures sheets { IfOk result (λ sheet. IfErr sheet.told (λ fault. sheet.nodes.items ≡ [])) }
     ensures fault { (known : Option (List ℕ)) → IsUnread known rows.old → IfErr result (EndsReading known) }
@@ -67,6 +68,8 @@ fn text_of<R: Read + Drop>(
     told: &TraceReport,
 ) -> Result<String, OutOfMemory>
     requires { IfOk told.now.verdict (λ verdict. IsSome account.now) }
+    ensures sheet { IfOk result (λ text. IfOk told.now.verdict (λ verdict. IfSome account.now (λ a. BeginsSheet a (string_bytes text)))) }
+    ensures form { IfOk result (λ text. IfErr told.now.verdict (λ fault. IsFormText fault (string_bytes text))) }
 {
     match (&told.verdict, account) {
         (Err(fault), _) => form_text(alloc, rows, account, *fault),
@@ -76,7 +79,9 @@ fn text_of<R: Read + Drop>(
 }
 
 /// The sheet of what these rows came to: of the row that decided, where one did. Refused where an allocation fails.
-pub fn account_sheet(alloc: Global, account: &Account) -> Result<String, OutOfMemory> {
+pub fn account_sheet(alloc: Global, account: &Account) -> Result<String, OutOfMemory>
+    ensures { IfOk result (λ text. BeginsSheet account.now (string_bytes text)) }
+{
     let nodes = account.nodes(alloc)?;
     sheet_text(alloc, account, nodes.as_slice())
 }

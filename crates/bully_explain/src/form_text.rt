@@ -1,3 +1,7 @@
+ghost use Rattle.std.specs.Prelude.{IfOk, string_bytes};
+ghost use Rattle.bully_explain.specs.Drafted.{AppendsPrinted};
+ghost use Rattle.bully_explain.specs.SheetText.{AppendsForm, IsFormText};
+
 use crate::draft::Draft;
 use crate::form::{Expected, FieldCounts, Misfit, field_at, misfit_of_header, misfit_of_row};
 use crate::words::push_row_place;
@@ -25,48 +29,81 @@ const OR_NONE: &str = ", or - for none";
 const EACH: &str = " parted by single spaces, each";
 
 /// The sheet of a fault of form, as text: the row at which it is, the field, and what may stand there.
+#[tactic(auto, using(crate::proofs::SheetLemmas::form_more))]
 pub fn form_text<R: Read + Drop>(
     alloc: Global,
     rows: &RowReader<Lines<R>>,
     account: &Option<Account>,
     fault: TraceFault,
-) -> Result<String, OutOfMemory> {
+) -> Result<String, OutOfMemory>
+    ensures { IfOk result (λ text. IsFormText fault (string_bytes text)) }
+{
+    let mut text = form_head(alloc, rows, fault)?;
+    let rest = form_rest(alloc, rows, account, fault.cause)?;
+    text.push_str(rest.as_str())?;
+    Ok(text)
+}
+
+// How the sheet begins: with the row and its place, or that there is none, and the fault.
+#[tactic(auto, using(crate::proofs::SheetLemmas::form_whole))]
+fn form_head<R: Read + Drop>(
+    alloc: Global,
+    rows: &RowReader<Lines<R>>,
+    fault: TraceFault,
+) -> Result<String, OutOfMemory>
+    ensures { IfOk result (λ text. IsFormText fault (string_bytes text)) }
+{
+    let mut text = Draft::new(alloc);
+    push_form_head(&mut text, rows, fault);
+    text.finish()
+}
+
+// Appends the same.
+fn push_form_head<R: Read + Drop>(text: &mut Draft, rows: &RowReader<Lines<R>>, fault: TraceFault)
+    ensures { AppendsForm fault text.old text.new }
+{
     if rows.number() == 0 {
-        return no_row_text(alloc, fault.row);
+        return push_no_row(text, fault);
     }
     let line = line_of(rows.source(), rows.end(), rows.fields());
-    row_text(alloc, line, rows.fields(), account, fault)
+    push_faulty_row(text, line, rows.fields(), fault);
 }
 
-// The sheet of a text without a row, at this row.
-fn no_row_text(alloc: Global, row: u32) -> Result<String, OutOfMemory> {
-    let mut text = Draft::new(alloc);
-    text.push_between(
-        "row ",
-        row,
-        ": there is none\nBadHeader: a trace begins with a header\n",
-    );
-    text.finish()
+// Appends that there is no row, at which the fault is.
+fn push_no_row(text: &mut Draft, fault: TraceFault)
+    ensures { AppendsForm fault text.old text.new }
+{
+    text.push_between("row ", fault.row, ": there is none");
+    text.push_between("\n", fault.cause, ": ");
 }
 
-// The sheet of a fault of form at a row that starts at this line and has these fields.
-fn row_text(
+// Appends the row at which the fault is, which starts at this line and has these fields, and the fault.
+fn push_faulty_row(text: &mut Draft, line: u64, fields: &ByteRecord, fault: TraceFault)
+    ensures { AppendsForm fault text.old text.new }
+{
+    push_row_place(text, fault.row, line);
+    push_cut(text, fields);
+    text.push_between("\n", fault.cause, ": ");
+}
+
+// What stands behind the head of the sheet: where the row breaks its form.
+fn form_rest<R: Read + Drop>(
     alloc: Global,
-    line: u64,
-    fields: &ByteRecord,
+    rows: &RowReader<Lines<R>>,
     account: &Option<Account>,
-    fault: TraceFault,
+    cause: TraceCause,
 ) -> Result<String, OutOfMemory> {
     let mut text = Draft::new(alloc);
-    push_row_place(&mut text, fault.row, line);
-    push_cut(&mut text, fields);
-    push_cause(&mut text, fields, account, fault.cause);
+    if rows.number() == 0 {
+        text.push_str("a trace begins with a header\n");
+    } else {
+        push_cause(&mut text, rows.fields(), account, cause);
+    }
     text.finish()
 }
 
-// Appends the line of the cause: where the row breaks its form.
+// Appends where the row breaks its form, as the cause says.
 fn push_cause(text: &mut Draft, fields: &ByteRecord, account: &Option<Account>, cause: TraceCause) {
-    text.push_between("\n", cause, ": ");
     match cause {
         TraceCause::BadHeader => push_misfit(text, fields, misfit_of_header(fields), None),
         TraceCause::BadRow => push_row_misfit(text, fields, account),
@@ -92,21 +129,32 @@ fn push_limit(text: &mut Draft) {
 }
 
 // Appends the text of a row: its fields, parted by commas, up to so many bytes, and two dots where that isn't all.
-fn push_cut(text: &mut Draft, fields: &ByteRecord) {
+#[tactic(auto, using(crate::proofs::DraftLemmas::no_printed, crate::proofs::DraftLemmas::printed_then, crate::proofs::DraftLemmas::printed_part))]
+fn push_cut(text: &mut Draft, fields: &ByteRecord)
+    ensures { AppendsPrinted text.old text.new }
+{
     let mut room = SHOWN_MAX;
     for place in 0..fields.len() {
-        if place > 0 && room > 0 {
-            text.push_str(",");
-            room -= 1;
-        }
-        let field = field_at(fields, place);
-        let count = field.len().min(room);
-        text.push_bytes(&field[..count]);
-        room -= count;
+        room = push_field(text, place, field_at(fields, place), room);
     }
     if row_len(fields) > SHOWN_MAX {
         text.push_str("..");
     }
+}
+
+// Appends the field at this place, behind a comma where there is one before it, up to so many bytes; and tells how many may follow.
+#[tactic(auto, using(crate::proofs::DraftLemmas::printed_then, crate::proofs::DraftLemmas::printed_part))]
+fn push_field(text: &mut Draft, place: usize, field: &[u8], room: usize) -> usize
+    ensures { AppendsPrinted text.old text.new }
+{
+    let mut left = room;
+    if place > 0 && left > 0 {
+        text.push_str(",");
+        left -= 1;
+    }
+    let count = field.len().min(left);
+    text.push_bytes(&field[..count]);
+    left - count
 }
 
 // How many bytes the fields have, with a comma between each two.

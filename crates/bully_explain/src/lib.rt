@@ -2,9 +2,9 @@
 //! form, or a lawful trace; and the one that explains the first fault of a configuration.
 //!
 //! It stands on bully_account, which takes the rows and tells what they came to, on bully_config, whose refusals are told, and on
-//! the crates below these. The program relies on what is explained being what bully_account tells of the trace, on the first refusal
-//! of a configuration being the one that is told, and on its sheet being lines without controls, one where there is a document. The
-//! sentences of a sheet are tested.
+//! the crates below these. The program relies on what is explained being what bully_account tells of the trace, on its sheet
+//! beginning with the row that decided and how it did, on the first refusal of a configuration being the one that is told, and on its
+//! sheet being lines without controls, one where there is a document. The sentences and the rules of a sheet are tested.
 #![tactic(auto)]
 
 mod claim_rules;

@@ -16,21 +16,14 @@ use bully_table::Table;
 use bully_trace::Verdict;
 use bully_world::{Event, Refused};
 
-/// Appends why the event was refused, as the verdict says: the cause, and a sentence with what it speaks of. A line. Its node
-/// has this sheet, where the group has it.
-pub fn push_refused(
+/// Appends what the cause speaks of that refused the event: a sentence. Its node has this sheet, where the group has it.
+pub fn push_sentence(
     text: &mut Draft,
     setup: &Setup,
     event: &Event,
-    verdict: Verdict,
+    cause: Refused,
     sheet: Option<&NodeSheet>,
 ) {
-    let Verdict::Refused(_, cause) = verdict else {
-        return;
-    };
-    text.push_str("refused, ");
-    text.push_str(cause.word());
-    text.push_str(": ");
     match sheet {
         Some(sheet) => push_cause(text, setup, event, cause, &sheet.shown),
         None => push_no_node(text, setup, event.node()),

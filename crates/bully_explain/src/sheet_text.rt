@@ -1,11 +1,19 @@
+ghost use Rattle.std.specs.Prelude.{◌≡◌, ◌++◌, IfOk, string_bytes};
+ghost use Rattle.std.specs.Option.{option_copied};
+ghost use Rattle.bully_rows.specs.TraceText.{line_of, row_fields};
+ghost use Rattle.bully_world.specs.State.{world_of};
+ghost use Rattle.bully_explain.specs.Differing.{decided_text};
+ghost use Rattle.bully_explain.specs.Drafted.{Appends};
+ghost use Rattle.bully_explain.specs.SheetText.{Begins, BeginsSheet, head_text, stop_text};
+
 use crate::claim_rules::{push_claim_rules, push_whole_rules};
 use crate::detail_rules::push_detail_rules;
-use crate::differing::{push_claimed, push_detailed, push_whole_claimed};
+use crate::differing::push_differing;
 use crate::draft::Draft;
 use crate::point_words::push_step_line;
 use crate::rules::push_nodes_rule;
 use crate::scene::{Scene, last_move, node_at};
-use crate::sentences::{push_cause_rule, push_refused};
+use crate::sentences::{push_cause_rule, push_no_node, push_sentence};
 use crate::words::{push_held, push_offer, push_point, push_row_place, push_vector, push_what};
 use bully_account::{Account, EventKind, Memory, NodeSheet, NodeSummary, Note, Stop, node_sheet};
 use bully_base::{Node, OutOfMemory, Status};
@@ -21,7 +29,77 @@ use std::alloc::Global;
 const TITLE: usize = 16;
 
 /// The sheet of the account's verdict as text, with what it shows of each node, from node 1 on.
+#[tactic(auto, using(crate::proofs::SheetLemmas::sheet_more))]
 pub fn sheet_text(
+    alloc: Global,
+    account: &Account,
+    nodes: &[NodeSheet],
+) -> Result<String, OutOfMemory>
+    ensures { IfOk result (λ text. BeginsSheet account.now (string_bytes text)) }
+{
+    let mut text = sheet_head(alloc, account)?;
+    let rest = sheet_rest(alloc, account, nodes)?;
+    text.push_str(rest.as_str())?;
+    Ok(text)
+}
+
+// How the sheet begins: with the verdict, where it is lawful; else with the row that decided, and how it did.
+fn sheet_head(alloc: Global, account: &Account) -> Result<String, OutOfMemory>
+    ensures { IfOk result (λ text. BeginsSheet account.now (string_bytes text)) }
+{
+    let mut text = Draft::new(alloc);
+    push_head(
+        &mut text,
+        account.world(),
+        account.verdict(),
+        account.stop(),
+    );
+    text.finish()
+}
+
+// Appends the head by this verdict, in this world, where this row decided.
+fn push_head(text: &mut Draft, world: &World, verdict: Verdict, stop: Option<&Stop>)
+    ensures { Appends text.old text.new (head_text world.now.setup (world_of world.now) verdict (option_copied stop.entry)) }
+{
+    match verdict {
+        Verdict::Lawful(count) => text.push_between("lawful ", count, "\n"),
+        Verdict::Refused(_, _) | Verdict::Differs(_) => push_stop(text, world, verdict, stop),
+    }
+}
+
+// Appends the row that decided with its place, and how it did by this verdict, in the world before it.
+#[tactic(auto, using(crate::proofs::DraftLemmas::appends_nothing, crate::proofs::DraftLemmas::appends_then))]
+fn push_stop(text: &mut Draft, world: &World, verdict: Verdict, stop: Option<&Stop>)
+    ensures { Appends text.old text.new (stop_text world.now.setup (world_of world.now) verdict (option_copied stop.entry)) }
+{
+    if let Some(stop) = stop {
+        push_row_place(text, stop.number, stop.line);
+        push_decided(text, world, verdict, &stop.row);
+    }
+}
+
+// Appends the row, and how it decided by this verdict, in the world before it.
+#[tactic(auto, using(crate::proofs::DraftLemmas::appends_nothing, crate::proofs::DraftLemmas::appends_then))]
+fn push_decided(text: &mut Draft, world: &World, verdict: Verdict, row: &Row)
+    ensures { Appends text.old text.new (line_of (row_fields row.now) ++ decided_text world.now.setup (world_of world.now) verdict row.now) }
+{
+    text.push_row(row);
+    match verdict {
+        Verdict::Lawful(_) => {}
+        Verdict::Refused(_, cause) => {
+            text.push_str("refused, ");
+            text.push_str(cause.word());
+            text.push_str(": ");
+        }
+        Verdict::Differs(_) => {
+            text.push_str("differs: ");
+            push_differing(text, world, row);
+        }
+    }
+}
+
+// What stands behind the head of the sheet.
+fn sheet_rest(
     alloc: Global,
     account: &Account,
     nodes: &[NodeSheet],
@@ -54,8 +132,8 @@ fn plan_of(alloc: Global, account: &Account, node: Node) -> Result<Option<Table>
     copied(procedure.table())
 }
 
-// Appends the sheet of the row that decided: what it says, why it decided and by which rules, its node, and the others. Where a
-// plan was refused for its table, this is one that can be planned.
+// Appends what stands behind the head of the sheet of the row that decided: why and by which rules it did, its node, and the others. Where
+// a plan was refused for its table, this is one that can be planned.
 fn push_stopped(
     text: &mut Draft,
     account: &Account,
@@ -65,7 +143,6 @@ fn push_stopped(
 ) {
     let node = node_of(&stop.row);
     let sheet = sheet_of(nodes, node);
-    push_start(text, stop);
     push_reason(text, account.world(), account.verdict(), &stop.row, sheet);
     match sheet {
         Some(sheet) => {
@@ -96,7 +173,8 @@ fn node_of(row: &Row) -> Node {
     }
 }
 
-// Appends why the row decided in this world, by this verdict. Its node has this sheet.
+// Appends in a sentence why the row decided in this world, by this verdict, where what stands before it doesn't say all of it. Its node has
+// this sheet.
 fn push_reason(
     text: &mut Draft,
     world: &World,
@@ -105,14 +183,18 @@ fn push_reason(
     sheet: Option<&NodeSheet>,
 ) {
     let setup = world.setup();
-    match row {
-        Row::Event(event) => push_refused(text, setup, event, verdict, sheet),
-        Row::Detailed(event) if matches!(verdict, Verdict::Differs(_)) => {
-            push_detailed(text, world, event)
+    match (verdict, row) {
+        (Verdict::Refused(_, cause), Row::Event(event)) => {
+            push_sentence(text, setup, event, cause, sheet)
         }
-        Row::Detailed(event) => push_refused(text, setup, &event.event(), verdict, sheet),
-        Row::Claim(claim) => push_claimed(text, setup, *claim, sheet),
-        Row::Whole(whole) => push_whole_claimed(text, world, whole, sheet),
+        (Verdict::Refused(_, cause), Row::Detailed(event)) => {
+            push_sentence(text, setup, &event.event(), cause, sheet)
+        }
+        (Verdict::Differs(_), _) if sheet.is_none() => {
+            push_no_node(text, setup, node_of(row));
+            text.push_str("\n");
+        }
+        _ => {}
     }
 }
 
@@ -133,43 +215,56 @@ fn push_rules(text: &mut Draft, scene: &Scene, row: &Row) {
 
 /// Why the row decided, by this verdict, in the world before it: its text, the cause, and what it speaks of, as a sheet has them. Refused
 /// where an allocation fails.
+#[tactic(auto, using(crate::proofs::SheetLemmas::begins_more))]
 pub fn reason(
+    alloc: Global,
+    world: &World,
+    verdict: Verdict,
+    row: &Row,
+) -> Result<String, OutOfMemory>
+    ensures { IfOk result (λ text. Begins (string_bytes text) (line_of (row_fields row.now) ++ decided_text world.now.setup (world_of world.now) verdict row.now)) }
+{
+    let mut text = reason_head(alloc, world, verdict, row)?;
+    let rest = reason_rest(alloc, world, verdict, row)?;
+    text.push_str(rest.as_str())?;
+    Ok(text)
+}
+
+// How that begins: with the row, and how it decided.
+fn reason_head(
+    alloc: Global,
+    world: &World,
+    verdict: Verdict,
+    row: &Row,
+) -> Result<String, OutOfMemory>
+    ensures { IfOk result (λ text. string_bytes text ≡ line_of (row_fields row.now) ++ decided_text world.now.setup (world_of world.now) verdict row.now) }
+{
+    let mut text = Draft::new(alloc);
+    push_decided(&mut text, world, verdict, row);
+    text.finish()
+}
+
+// What stands behind that.
+fn reason_rest(
     alloc: Global,
     world: &World,
     verdict: Verdict,
     row: &Row,
 ) -> Result<String, OutOfMemory> {
     let node = node_of(row);
-    if node.number() > world.setup().nodes() {
-        return reason_text(alloc, world, verdict, row, None);
-    }
-    let sheet = node_sheet(alloc, world, node)?;
-    reason_text(alloc, world, verdict, row, Some(&sheet))
-}
-
-// Why the row decided, where its node has this sheet.
-fn reason_text(
-    alloc: Global,
-    world: &World,
-    verdict: Verdict,
-    row: &Row,
-    sheet: Option<&NodeSheet>,
-) -> Result<String, OutOfMemory> {
     let mut text = Draft::new(alloc);
-    text.push_row(row);
-    push_reason(&mut text, world, verdict, row, sheet);
+    if node.number() > world.setup().nodes() {
+        push_reason(&mut text, world, verdict, row, None);
+    } else {
+        let sheet = node_sheet(alloc, world, node)?;
+        push_reason(&mut text, world, verdict, row, Some(&sheet));
+    }
     text.finish()
 }
 
-// Appends the row: its number, the line at which it starts, and its text.
-fn push_start(text: &mut Draft, stop: &Stop) {
-    push_row_place(text, stop.number, stop.line);
-    text.push_row(&stop.row);
-}
-
-// Appends the sheet of a lawful trace: each node as the group stands at the end, and which of them aren't at rest.
+// Appends what stands behind the head of the sheet of a lawful trace: each node as the group stands at the end, and which of them aren't at
+// rest.
 fn push_lawful(text: &mut Draft, account: &Account, nodes: &[NodeSheet]) {
-    text.push_between("lawful ", account.world().events(), "\n");
     for (place, sheet) in nodes.iter().enumerate() {
         if let Some(node) = node_at(place) {
             text.push_str("\n");

@@ -1,4 +1,6 @@
 //! The pieces of a sheet: nodes, points, calls and slots, as text.
+ghost use Rattle.bully_explain.specs.Drafted.{Appends};
+ghost use Rattle.bully_explain.specs.SheetText.{place_text};
 
 use crate::draft::Draft;
 use bully_account::{EventKind, Memory, NodeSummary, What};
@@ -8,7 +10,9 @@ use bully_rows::status_word;
 use bully_steps::{Point, Want};
 
 /// Appends which row is told: its number, and the line at which it starts.
-pub fn push_row_place(text: &mut Draft, number: u32, line: u64) {
+pub fn push_row_place(text: &mut Draft, number: u32, line: u64)
+    ensures { Appends text.old text.new (place_text number line) }
+{
     text.push_between("row ", number, " (line ");
     text.push_between("", line, "): ");
 }

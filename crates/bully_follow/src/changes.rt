@@ -1,5 +1,7 @@
 //! What a row changed of what its nodes show.
-ghost use Rattle.std.specs.Prelude.{◌≡◌, ◌||◌, None, is_some};
+ghost use Rattle.std.specs.Prelude.{◌≡◌, ◌||◌, IfSome, None, is_some, nat_le};
+ghost use Rattle.bully_world.specs.State.{world_of};
+ghost use Rattle.bully_world.specs.World.{vector};
 
 use bully_base::{Node, OutOfMemory, Status};
 use bully_calls::{Call, CallKind, EventKind, NodeEventKind};
@@ -74,7 +76,10 @@ impl SeenBefore {
 }
 
 /// The vector of the node; none of one that the group doesn't have.
-pub fn vector_of(world: &World, node: Node) -> Option<&Vector> {
+pub fn vector_of(world: &World, node: Node) -> Option<&Vector>
+    ensures test { is_some result ≡ nat_le node world.now.setup.nodes }
+    ensures vector { IfSome result (λ shown. shown.now.vector ≡ vector (world_of world.now) node) }
+{
     if node.number() > world.setup().nodes() {
         return None;
     }

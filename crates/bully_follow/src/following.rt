@@ -1,4 +1,7 @@
-ghost use Rattle.std.specs.Prelude.{◌≡◌, ℕ, List, Option, None, Some, IfErr, IfOk};
+ghost use Rattle.std.specs.Prelude.{◌≡◌, ℕ, List, Option, None, Some, IfErr, IfOk, OnOk, string_bytes};
+ghost use Rattle.std.specs.Io.KnownBytes.{Appends};
+ghost use Rattle.bully_world.specs.State.{world_of};
+ghost use Rattle.bully_follow.specs.LastText.{IsLastText, IsSheetTold, lawful_told};
 ghost use Rattle.bully_follow.specs.declared.watch.Watch.{Watch as WatchState};
 ghost use Rattle.bully_follow.specs.Watched.{IsEnded, IsFollowFault, IsFollowedAs, fault_in};
 ghost use Rattle.bully_rows.specs.RecordsLeft.{IsUnread};
@@ -10,14 +13,14 @@ use crate::{ROOM_FROM, ROOM_STEP};
 use bully_account::{Account, Lines};
 use bully_base::OutOfMemory;
 use bully_explain::account_sheet;
-use bully_json::{SheetObject, head_object, json_line, verdict_object};
+use bully_json::{sheet_line, verdict_line};
 use bully_rows::{
     ROWS_MAX, RowReader, RowTaker, Started, TraceFault, no_header, not_written, take_each,
 };
 use bully_trace::{Verdict, verdict_lines};
 use bully_world::World;
 use jiff::Timestamp;
-use std::alloc::{AllocError, Global};
+use std::alloc::Global;
 use std::io::{Read, Write};
 use std::rt::Clock;
 
@@ -102,10 +105,10 @@ fn tell<C: Clock, W: Write>(
     let time = time_text(clock, alloc)?;
     let mut text = String::new(alloc);
     let world = watch.account.world();
-    telling.push_changed(alloc, &mut text, time.as_str(), row, world, watch.changed)?;
+    telling.push_changed(&mut text, time.as_str(), row, world, watch.changed)?;
     if tells_room {
         let room = (ROWS_MAX + 1).saturating_sub(row);
-        telling.push_room(alloc, &mut text, time.as_str(), row, room)?;
+        telling.push_room(&mut text, time.as_str(), row, room)?;
     }
     put(text.as_str(), output)
 }
@@ -122,7 +125,8 @@ fn time_text<C: Clock>(clock: &C, alloc: Global) -> Result<String, OutOfMemory> 
 
 // Writes the text at once.
 fn put<W: Write>(text: &str, output: &mut W) -> Result<(), TraceFault>
-    ensures { IfErr result IsOfWriting }
+    ensures written { OnOk result (Appends (W.contents output.old) (W.contents output.new) text.now) }
+    ensures fault { IfErr result IsOfWriting }
 {
     if let Err(error) = output.write_all(text.as_bytes()) {
         return Err(not_written(error));
@@ -189,6 +193,7 @@ fn finish<W: Write>(
     output: &mut W,
 ) -> Result<Verdict, TraceFault>
     ensures verdict { (known : Option (List ℕ)) (watch : WatchState) → watch.account ≡ account.now → IsEnded known ended (Some watch) → IfOk result (IsFollowedAs known) }
+    ensures last { IfOk result (λ verdict. (text : List ℕ) × IsLastText telling account.now verdict text × Appends (W.contents output.old) (W.contents output.new) text) }
     ensures fault { (known : Option (List ℕ)) (watch : Option WatchState) → IsEnded known ended watch → IfErr result (IsFollowFault known) }
 {
     let verdict = match ended {
@@ -220,13 +225,28 @@ fn write_last<W: Write>(
     account: &Account,
     output: &mut W,
 ) -> Result<(), TraceFault>
-    ensures { IfErr result IsOfWriting }
+    ensures written { OnOk result ((text : List ℕ) × IsLastText telling account.now verdict text × Appends (W.contents output.old) (W.contents output.new) text) }
+    ensures fault { IfErr result IsOfWriting }
 {
-    let text = match verdict {
-        Verdict::Lawful(_) => lawful_text(alloc, telling, verdict, account.world())?,
-        _ => stopped_text(alloc, telling, verdict, account)?,
-    };
+    let text = last_text(alloc, telling, verdict, account)?;
     put(text.as_str(), output)
+}
+
+// The verdict as `check` writes it, or the sheet of the row that decided.
+fn last_text(
+    alloc: Global,
+    telling: Telling,
+    verdict: Verdict,
+    account: &Account,
+) -> Result<String, OutOfMemory>
+    ensures { IfOk result (λ text. IsLastText telling account.now verdict (string_bytes text)) }
+{
+    match verdict {
+        Verdict::Lawful(_) => lawful_text(alloc, telling, verdict, account.world()),
+        Verdict::Refused(_, _) | Verdict::Differs(_) => {
+            stopped_text(alloc, telling, verdict, account)
+        }
+    }
 }
 
 // What `check` writes of this lawful verdict.
@@ -235,12 +255,12 @@ fn lawful_text(
     telling: Telling,
     verdict: Verdict,
     world: &World,
-) -> Result<String, OutOfMemory> {
+) -> Result<String, OutOfMemory>
+    ensures { IfOk result (λ text. string_bytes text ≡ lawful_told telling world.now.setup verdict (world_of world.now)) }
+{
     match telling {
         Telling::Words => verdict_lines(alloc, verdict, world),
-        Telling::Json => {
-            json_line(alloc, &verdict_object(alloc, verdict, world)?).ok_or(AllocError)
-        }
+        Telling::Json => verdict_line(alloc, verdict, world),
     }
 }
 
@@ -250,14 +270,12 @@ fn stopped_text(
     telling: Telling,
     verdict: Verdict,
     account: &Account,
-) -> Result<String, OutOfMemory> {
+) -> Result<String, OutOfMemory>
+    ensures { IfOk result (λ text. IsSheetTold telling account.now verdict (string_bytes text)) }
+{
     let sheet = account_sheet(alloc, account)?;
     match telling {
         Telling::Words => Ok(sheet),
-        Telling::Json => {
-            let verdict = head_object(verdict);
-            let sheet = sheet.as_str();
-            json_line(alloc, &SheetObject { verdict, sheet }).ok_or(AllocError)
-        }
+        Telling::Json => sheet_line(alloc, verdict, sheet.as_str()),
     }
 }

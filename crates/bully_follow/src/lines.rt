@@ -1,13 +1,13 @@
 //! The lines that tell of a trace that grows.
+ghost use Rattle.std.specs.Prelude.{◌≡◌, ◌++◌, OnOk, Some, string_bytes};
+ghost use Rattle.bully_follow.specs.Lines.{change_words, changed_told, node_told, room_told, vector_words};
+ghost use Rattle.bully_world.specs.State.{world_of};
 
 use crate::changes::{Changed, vector_of};
 use bully_base::{Node, OutOfMemory};
 use bully_handlers::Vector;
-use bully_json::{json_line, task_of};
 use bully_rows::{push_node, push_task, status_word};
 use bully_world::World;
-use serde::Serialize;
-use std::alloc::{AllocError, Global};
 
 /// How what changed is told: as lines of words, or as an object of JSON each.
 #[derive(Clone, Copy, PartialEq, Eq, Debug)]
@@ -16,42 +16,24 @@ pub enum Telling {
     Json,
 }
 
-/// What a node shows behind a row. None stands as null.
-#[derive(Drop, Serialize)]
-pub struct ChangeObject<'a> {
-    pub time: &'a str,
-    pub row: u32,
-    pub node: u16,
-    pub status: &'static str,
-    pub coordinator: Option<u16>,
-    pub task: Option<Vec<u16>>,
-}
-
-/// How many rows a trace has room for behind a row.
-#[derive(Drop, Serialize)]
-pub struct RoomObject<'a> {
-    pub time: &'a str,
-    pub row: u32,
-    pub room: u32,
-}
-
 impl Telling {
     /// Appends a line for each node that changed behind the row of this number, which came at this time. Refused where an allocation
     /// fails.
     pub fn push_changed(
         self,
-        alloc: Global,
         text: &mut String,
         time: &str,
         row: u32,
         world: &World,
         changed: Changed,
-    ) -> Result<(), OutOfMemory> {
+    ) -> Result<(), OutOfMemory>
+        ensures { OnOk result (string_bytes text.new ≡ string_bytes text.old ++ changed_told self time.now row world.now.setup (world_of world.now) changed) }
+    {
         if let Some(node) = changed.named {
-            self.push_node(alloc, text, time, row, world, node)?;
+            self.push_node(text, time, row, world, node)?;
         }
         if let Some(node) = changed.callee {
-            self.push_node(alloc, text, time, row, world, node)?;
+            self.push_node(text, time, row, world, node)?;
         }
         Ok(())
     }
@@ -59,37 +41,36 @@ impl Telling {
     // Appends the line of a node.
     fn push_node(
         self,
-        alloc: Global,
         text: &mut String,
         time: &str,
         row: u32,
         world: &World,
         node: Node,
-    ) -> Result<(), OutOfMemory> {
+    ) -> Result<(), OutOfMemory>
+        ensures { OnOk result (string_bytes text.new ≡ string_bytes text.old ++ node_told self time.now row world.now.setup (world_of world.now) (Some node)) }
+    {
         let Some(vector) = vector_of(world, node) else {
             return Ok(());
         };
         match self {
             Telling::Words => push_node_words(text, time, row, node, vector),
-            Telling::Json => push_node_object(alloc, text, time, row, node, vector),
+            Telling::Json => bully_json::push_change(text, time, row, node, vector),
         }
     }
 
     /// Appends how many rows a trace has room for behind the row of this number. Refused where an allocation fails.
     pub fn push_room(
         self,
-        alloc: Global,
         text: &mut String,
         time: &str,
         row: u32,
         room: u32,
-    ) -> Result<(), OutOfMemory> {
+    ) -> Result<(), OutOfMemory>
+        ensures { OnOk result (string_bytes text.new ≡ string_bytes text.old ++ room_told self time.now row room) }
+    {
         match self {
             Telling::Words => writeln!(text, "{time} row {row} room for {room} rows"),
-            Telling::Json => {
-                let line = json_line(alloc, &RoomObject { time, row, room }).ok_or(AllocError)?;
-                text.push_str(line.as_str())
-            }
+            Telling::Json => bully_json::push_room(text, time, row, room),
         }
     }
 }
@@ -101,33 +82,23 @@ fn push_node_words(
     row: u32,
     node: Node,
     vector: &Vector,
-) -> Result<(), OutOfMemory> {
+) -> Result<(), OutOfMemory>
+    ensures { OnOk result (string_bytes text.new ≡ string_bytes text.old ++ change_words time.now row node vector.now.vector) }
+{
     let number = node.number();
-    let status = status_word(vector.status());
-    write!(text, "{time} row {row} node {number} {status} ")?;
+    write!(text, "{time} row {row} node {number} ")?;
+    push_vector(text, vector)
+}
+
+// Appends the vector, and the end of the line.
+#[tactic(auto, unfolding(crate::specs::Lines::vector_words))]
+fn push_vector(text: &mut String, vector: &Vector) -> Result<(), OutOfMemory>
+    ensures { OnOk result (string_bytes text.new ≡ string_bytes text.old ++ vector_words vector.now.vector) }
+{
+    text.push_str(status_word(vector.status()))?;
+    text.push(' ')?;
     push_node(text, vector.coordinator())?;
     text.push(' ')?;
     push_task(text, vector.task(), ',')?;
     text.push('\n')
-}
-
-// Appends what the node shows, as an object.
-fn push_node_object(
-    alloc: Global,
-    text: &mut String,
-    time: &str,
-    row: u32,
-    node: Node,
-    vector: &Vector,
-) -> Result<(), OutOfMemory> {
-    let object = ChangeObject {
-        time,
-        row,
-        node: node.number(),
-        status: status_word(vector.status()),
-        coordinator: vector.coordinator().map(Node::number),
-        task: task_of(alloc, vector.task())?,
-    };
-    let line = json_line(alloc, &object).ok_or(AllocError)?;
-    text.push_str(line.as_str())
 }

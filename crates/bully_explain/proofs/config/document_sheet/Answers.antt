@@ -7,4 +7,5 @@ pub returns-clause-told : goal.returns-clause-told
 returns-clause-told c = search rules
 
 pub returns-clause-lines : goal.returns-clause-lines
-returns-clause-lines c = line-text _ _ _ c.in_ok-text.ensures.line c.in_ok-text.ensures.plain
+returns-clause-lines c =
+    line-text _ _ _ c.in_ok-text.ensures.line c.in_ok-text.ensures.plain c.in_ok-text.ensures.whole c.new-draft.ensures c.push_document_head.ensures c.push_shown.ensures.shown
