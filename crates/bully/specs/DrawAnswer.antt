@@ -12,11 +12,12 @@ use Rattle.bully_film.specs.Film.{IsFilmOf}
 use Rattle.bully_film.specs.Lane.{row_before}
 use Rattle.bully_film.specs.Scene.{lane_of}
 use Rattle.bully_film.specs.Window.{WindowState, at_the_end, window_in}
+use Rattle.bully_picture.specs.Bars.{HasStands, shows_rows}
 use Rattle.bully_picture.specs.Drawn.{HasBelow, HasCalls, HasNodes, HasRows, HasSaid, scenes_shown}
 use Rattle.bully_picture.specs.Title.{Begins, Ends, Has, IsDocument, title_text}
-use Rattle.bully_picture.specs.Told.{HasToldAbove}
+use Rattle.bully_picture.specs.Told.{HasToldAbove, told_from}
 use Rattle.bully_cli.specs.Words.{Drawn}
-use Rattle.bully_page.specs.Page.{HasLines, HasSummaries, IsPage, headed, titled}
+use Rattle.bully_page.specs.Page.{HasLines, HasRowsOf, IsPage, headed, titled}
 use Rattle.bully_picture.specs.declared.claims.Claims.{Claims}
 use Rattle.bully.specs.declared.drawing.Drawing.{Drawing}
 use Rattle.bully.specs.declared.drawing.Form.{Form}
@@ -39,38 +40,42 @@ abbrev pub IsBelow : Option Row → List ℕ → Type 0
 IsBelow None below = below ≡ []
 IsBelow (Some row) below = Begins below (line_of (row_fields row))
 
--- a picture as text: the verdict's line, lines of the rows that change something, and this text below them
+-- a picture as text: the verdict's line, lines of the rows that change something with how each node stands behind it, and this text below
+-- them
 pub record IsTextOf (finished : FinishedFilm) (text picture : List ℕ) : Type 0 where
   pub verdict : Begins picture (verdict_head finished.verdict)
-  pub rows : HasToldAbove picture text finished.verdict finished.scenes.items
+  pub rows : (window : WindowState) (trace : Trace) (is : IsFilmOf window finished trace)
+      → HasToldAbove picture text finished.verdict finished.setup.nodes (told_from trace.setup is.before is.shown)
   pub below : Ends picture text
 
 -- a picture as SVG: a document with its title, the numbers of all rows that are shown, and what they say, a name or a number of each node,
--- an arrow of each call in a slot, and this text below
+-- a bar of how each node stands, an arrow of each call in a slot, and this text below
 pub record IsSvgOf (claims : Claims) (finished : FinishedFilm) (names : List (List ℕ)) (text picture : List ℕ) : Type 0 where
   pub document : IsDocument picture
   pub title : Has picture (title_text finished.verdict finished.setup.nodes finished.setup.partitions (row_before finished.scenes.items) (length finished.scenes.items))
   pub rows : HasRows picture finished.verdict (scenes_shown claims finished.verdict finished.scenes.items)
   pub says : HasSaid picture finished.verdict (scenes_shown claims finished.verdict finished.scenes.items)
   pub nodes : HasNodes picture finished.setup.nodes (slice_get names)
+  pub bars : (window : WindowState) (trace : Trace) (is : IsFilmOf window finished trace)
+      → HasStands picture (shows_rows finished.scenes.items) finished.setup.nodes (row_before finished.scenes.items) (λ i. lane_of trace.setup is.before i is.shown)
   pub calls : (window : WindowState) (trace : Trace) (is : IsFilmOf window finished trace)
       → HasCalls picture finished.setup.nodes (row_before finished.scenes.items) (λ i. lane_of trace.setup is.before i is.shown)
   pub below : HasBelow picture text
 
--- a page: a document with its title and heading, this picture, this text below it, and the lines of the rows
-pub record IsPageOf (claims : Claims) (finished : FinishedFilm) (text svg page : List ℕ) : Type 0 where
+-- a page: a document with its title and heading, this picture, this text below it, and exactly the rows that are shown, with what they change
+pub record IsPageOf (claims : Claims) (finished : FinishedFilm) (names : List (List ℕ)) (text svg page : List ℕ) : Type 0 where
   pub document : IsPage page
   pub title : Has page (titled (title_text finished.verdict finished.setup.nodes finished.setup.partitions (row_before finished.scenes.items) (length finished.scenes.items)))
   pub heading : Has page (headed (title_text finished.verdict finished.setup.nodes finished.setup.partitions (row_before finished.scenes.items) (length finished.scenes.items)))
   pub picture : Has page svg
   pub below : HasLines page text
-  pub rows : HasSummaries page claims finished.verdict finished.scenes.items
+  pub rows : HasRowsOf page claims finished.verdict finished.setup.nodes names finished.scenes.items
 
 -- a picture of what a film shows, above this text: as text, as SVG, or as a page around that. Text has no names
 abbrev pub IsPictureIn : Form → Claims → FinishedFilm → List (List ℕ) → List ℕ → List ℕ → Type 0
 IsPictureIn Form.Text claims finished names below picture = IsTextOf finished below picture
 IsPictureIn Form.Svg claims finished names below picture = IsSvgOf claims finished names below picture
-IsPictureIn Form.Page claims finished names below picture = (svg : List ℕ) × IsSvgOf claims finished names below svg × IsPageOf claims finished below svg picture
+IsPictureIn Form.Page claims finished names below picture = (svg : List ℕ) × IsSvgOf claims finished names below svg × IsPageOf claims finished names below svg picture
 
 -- the same above the row that decided
 abbrev pub IsPictureOf : Drawing → FinishedFilm → List (List ℕ) → List ℕ → Type 0

@@ -2,17 +2,18 @@
 use Rattle.std.proofs.Common.{◌≡◌, ◌∙◌, ℕ, ◌+◌, ◌<◌, ◌≤◌, ◌++◌, Bool, true, false, List, Result, Ok, Err, codes, get_or, length, take, ap, refl, subst, sym}
 use Rattle.std.specs.Prelude.{All, IfOk}
 use Rattle.std.specs.Str.Lines.{lines}
-use Rattle.std.proofs.lemmas.List.{append_assoc, take_all}
+use Rattle.std.specs.Prelude.{if◌then◌else◌}
+use Rattle.std.specs.Fmt.{decimal}
+use Rattle.std.proofs.lemmas.List.{append_assoc, append-nil, take_all, take_more}
 use Rattle.std.proofs.lemmas.List.Elements.{All-weaker}
 use Rattle.bully_trace.specs.declared.verdict.Verdict.{Verdict}
 use Rattle.bully_film.specs.declared.scene.Scene.{Scene}
 use Rattle.bully_picture.specs.declared.claims.Claims.{Claims}
 use Rattle.bully_picture.specs.Drawn.{is_shown}
-use Rattle.bully_trace.specs.OneRow.{decides}
 use Rattle.bully_picture.specs.Title.{Begins, Ends, Has}
 use Rattle.bully_picture.specs.Written.{Gains, IsIn, Writes, Written}
-use Rattle.bully_picture.proofs.WrittenLemmas.{extends-same, has-more, has-within, one-gained}
-use Rattle.bully_page.specs.Page.{HasLines, HasSummaries, IsPage, line_text, page_end, page_start, summary_text, titled}
+use Rattle.bully_picture.proofs.WrittenLemmas.{has-more, has-within, one-gained, writes-as, writes-nothing, writes-then}
+use Rattle.bully_page.specs.Page.{HasLines, IsPage, line_text, owners_text, page_end, page_start, row_text, rows_text, titled}
 
 -- what a text has, one with more before it has, too
 pub has-behind : (before text part : List ℕ) → Has text part → Has (before ++ text) part
@@ -45,22 +46,10 @@ pub lines-behind : (before text below : List ℕ) → HasLines text below → Ha
 lines-behind before text below has =
     All-weaker (λ line. Has text (line_text line)) (λ line. Has (before ++ text) (line_text line)) (λ line. has-behind before text (line_text line)) (lines below) has
 
-pub summaries-behind : (before text : List ℕ) (claims : Claims) (verdict : Verdict) (scenes : List Scene) → HasSummaries text claims verdict scenes → HasSummaries (before ++ text) claims verdict scenes
-summaries-behind before text claims verdict scenes has =
-    All-weaker (λ s. is_shown claims verdict s ≡ true → Has text (summary_text (decides verdict s.number) s))
-    (λ s. is_shown claims verdict s ≡ true → Has (before ++ text) (summary_text (decides verdict s.number) s))
-    (λ s told shown. has-behind before text (summary_text (decides verdict s.number) s) (told shown)) scenes has
-
 -- what stands there already, stands there behind more
 pub lines-more : (below text more : List ℕ) → HasLines text below → HasLines (text ++ more) below
 lines-more below text more has =
     All-weaker (λ line. Has text (line_text line)) (λ line. Has (text ++ more) (line_text line)) (λ line. has-more (line_text line) text more) (lines below) has
-
-pub summaries-more : (claims : Claims) (verdict : Verdict) (scenes : List Scene) (text more : List ℕ) → HasSummaries text claims verdict scenes → HasSummaries (text ++ more) claims verdict scenes
-summaries-more claims verdict scenes text more has =
-    All-weaker (λ s. is_shown claims verdict s ≡ true → Has text (summary_text (decides verdict s.number) s))
-    (λ s. is_shown claims verdict s ≡ true → Has (text ++ more) (summary_text (decides verdict s.number) s))
-    (λ s told shown. has-more (summary_text (decides verdict s.number) s) text more (told shown)) scenes has
 
 -- what was written last ends the text
 pub ends-written : {a b : Written} {p : List ℕ} → Writes a b p → IsIn b (λ text. Ends text p)
@@ -76,29 +65,51 @@ pub all-lines : (below : List ℕ) (k : ℕ) (start a : Written) → length (lin
     → Gains start a (λ text. All (λ one. Has text (line_text one)) (take k (lines below))) → Gains start a (λ text. HasLines text below)
 all-lines below k start a all so_far = subst (λ l. Gains start a (λ text. All (λ one. Has text (line_text one)) l)) (take_all k (lines below) all) so_far
 
+-- ---- pieces of a text, one after the other
+
+-- the owners of a table, up to one more
+owners-push : (owners : List ℕ) (owner : ℕ) → owners_text (owners ++ owner ∷ []) ≡ owners_text owners ++ (codes " " ++ decimal owner ++ [])
+owners-push [] owner = append-nil (codes " " ++ decimal owner ++ [])
+owners-push (first ∷ owners) owner =
+    ap (λ t. (codes " " ++ decimal first ++ []) ++ t) (owners-push owners owner)
+    ∙ sym (append_assoc (codes " " ++ decimal first ++ []) (owners_text owners) (codes " " ++ decimal owner ++ []))
+
+pub owner-more : (owners : List ℕ) (k owner : ℕ) (start a b : Written) → k < length owners → owner ≡ get_or owners k owner → Writes start a (owners_text (take k owners))
+    → Writes a b (codes " " ++ decimal owner ++ []) → Writes start b (owners_text (take (k + 1) owners))
+owner-more owners k owner start a b within is so_far written =
+    writes-as (sym (ap owners_text (take_more owners k owner within ∙ ap (λ (one : ℕ). take k owners ++ one ∷ []) (sym is)) ∙ owners-push (take k owners) owner)) (writes-then so_far written)
+
+-- the rows, up to one more
+rows-push : (claims : Claims) (verdict : Verdict) (nodes : ℕ) (names : List (List ℕ)) (scenes : List Scene) (s : Scene)
+    → rows_text claims verdict nodes names (scenes ++ s ∷ []) ≡ rows_text claims verdict nodes names scenes ++ (if is_shown claims verdict s then row_text verdict nodes names s else [])
+rows-push claims verdict nodes names [] s = append-nil (if is_shown claims verdict s then row_text verdict nodes names s else [])
+rows-push claims verdict nodes names (first ∷ scenes) s =
+    let before = if is_shown claims verdict first then row_text verdict nodes names first else [] in
+    ap (λ t. before ++ t) (rows-push claims verdict nodes names scenes s)
+    ∙ sym (append_assoc before (rows_text claims verdict nodes names scenes) (if is_shown claims verdict s then row_text verdict nodes names s else []))
+
+rows-taken : (claims : Claims) (verdict : Verdict) (nodes : ℕ) (names : List (List ℕ)) (scenes : List Scene) (i : ℕ) (s : Scene) (tested b : Bool) → i < length scenes → s ≡ get_or scenes i s
+    → tested ≡ is_shown claims verdict s → tested ≡ b
+    → rows_text claims verdict nodes names (take i scenes) ++ (if b then row_text verdict nodes names s else []) ≡ rows_text claims verdict nodes names (take (i + 1) scenes)
+rows-taken claims verdict nodes names scenes i s tested b within is test told =
+    sym (ap (rows_text claims verdict nodes names) (take_more scenes i s within ∙ ap (λ (one : Scene). take i scenes ++ one ∷ []) (sym is))
+    ∙ rows-push claims verdict nodes names (take i scenes) s
+    ∙ ap (λ c. rows_text claims verdict nodes names (take i scenes) ++ (if c then row_text verdict nodes names s else [])) (sym test ∙ told))
+
 -- one more row that has its place
-pub row-shown : (claims : Claims) (verdict : Verdict) (scenes : List Scene) (i : ℕ) (s : Scene) (d : Bool) (start a b : Written) → i < length scenes → s ≡ get_or scenes i s
-    → d ≡ decides verdict s.number → Gains start a (λ text. HasSummaries text claims verdict (take i scenes)) → Gains a b (λ text. Has text (summary_text d s))
-    → Gains start b (λ text. HasSummaries text claims verdict (take (i + 1) scenes))
-row-shown claims verdict scenes i s d start a b within is decided so_far gained =
-    one-gained (λ text one. is_shown claims verdict one ≡ true → Has text (summary_text (decides verdict one.number) one))
-    (λ text more one has shown. has-more (summary_text (decides verdict one.number) one) text more (has shown)) scenes i s start a b within is so_far
-    (record { extends = gained.extends; holds = λ good shown. subst (λ t. Has b.text (summary_text t s)) decided (gained.holds good) })
+pub row-shown : (claims : Claims) (verdict : Verdict) (nodes : ℕ) (names : List (List ℕ)) (scenes : List Scene) (i : ℕ) (s : Scene) (tested : Bool) (start a b : Written) → i < length scenes
+    → s ≡ get_or scenes i s → tested ≡ is_shown claims verdict s → tested ≡ true → Writes start a (rows_text claims verdict nodes names (take i scenes))
+    → Writes a b (row_text verdict nodes names s) → Writes start b (rows_text claims verdict nodes names (take (i + 1) scenes))
+row-shown claims verdict nodes names scenes i s tested start a b within is test shown so_far written =
+    writes-as (rows-taken claims verdict nodes names scenes i s tested true within is test shown) (writes-then so_far written)
 
 -- and one that has none
-pub row-left-out : (claims : Claims) (verdict : Verdict) (scenes : List Scene) (i : ℕ) (s : Scene) (shown : Bool) (start a : Written) → i < length scenes → s ≡ get_or scenes i s
-    → shown ≡ is_shown claims verdict s → shown ≡ false → Gains start a (λ text. HasSummaries text claims verdict (take i scenes))
-    → Gains start a (λ text. HasSummaries text claims verdict (take (i + 1) scenes))
-row-left-out claims verdict scenes i s shown start a within is told out so_far =
-    one-gained (λ text one. is_shown claims verdict one ≡ true → Has text (summary_text (decides verdict one.number) one))
-    (λ text more one has would. has-more (summary_text (decides verdict one.number) one) text more (has would)) scenes i s start a a within is so_far
-    (record {
-      extends = extends-same a;
-      holds = λ good would.
-          let clash : true ≡ false = sym would ∙ sym told ∙ out in
-          absurd (cc);
-    })
+pub row-left-out : (claims : Claims) (verdict : Verdict) (nodes : ℕ) (names : List (List ℕ)) (scenes : List Scene) (i : ℕ) (s : Scene) (tested : Bool) (start a : Written) → i < length scenes
+    → s ≡ get_or scenes i s → tested ≡ is_shown claims verdict s → tested ≡ false → Writes start a (rows_text claims verdict nodes names (take i scenes))
+    → Writes start a (rows_text claims verdict nodes names (take (i + 1) scenes))
+row-left-out claims verdict nodes names scenes i s tested start a within is test out so_far =
+    writes-as (rows-taken claims verdict nodes names scenes i s tested false within is test out) (writes-then so_far (writes-nothing a))
 
-pub all-rows : (claims : Claims) (verdict : Verdict) (xs scenes : List Scene) (i : ℕ) (start a : Written) → length xs ≤ i → xs ≡ scenes
-    → Gains start a (λ text. HasSummaries text claims verdict (take i xs)) → Gains start a (λ text. HasSummaries text claims verdict scenes)
-all-rows claims verdict xs scenes i start a all same so_far = subst (λ l. Gains start a (λ text. HasSummaries text claims verdict l)) (take_all i xs all ∙ same) so_far
+pub all-rows : (claims : Claims) (verdict : Verdict) (nodes : ℕ) (names : List (List ℕ)) (xs scenes : List Scene) (i : ℕ) (start a : Written) → length xs ≤ i → xs ≡ scenes
+    → Writes start a (rows_text claims verdict nodes names (take i xs)) → Writes start a (rows_text claims verdict nodes names scenes)
+all-rows claims verdict nodes names xs scenes i start a all same so_far = writes-as (ap (rows_text claims verdict nodes names) (take_all i xs all ∙ same)) so_far

@@ -1,7 +1,7 @@
 //! The page as a whole.
-ghost use Rattle.std.specs.Prelude.{◌≡◌, ◌++◌, false, length, IfOk, string_bytes};
+ghost use Rattle.std.specs.Prelude.{◌≡◌, ◌++◌, false, length, map, IfOk, string_bytes};
 ghost use Rattle.bully_film.specs.Lane.{row_before};
-ghost use Rattle.bully_page.specs.Page.{HasLines, HasSummaries, IsPage, headed, line_text, page_end, page_start, titled};
+ghost use Rattle.bully_page.specs.Page.{HasLines, HasRowsOf, IsPage, headed, line_text, page_end, page_start, titled};
 ghost use Rattle.bully_picture.specs.Title.{Begins, Ends, Has, title_text};
 ghost use Rattle.bully_picture.specs.Written.{Gains, IsIn, Writes};
 ghost use Rattle.bully_trace.specs.VerdictText.{verdict_head};
@@ -46,12 +46,10 @@ details::details-content { content-visibility: visible; block-size: auto; }\n\
 
 // The search. It is hidden, until the script shows it.
 const SEARCH: &str = "\
-<p id=\"search\" hidden><label>Rows with <input type=\"search\" id=\"sought\" autocomplete=\"off\"></label> <output id=\"found\"></output></p>\n\
-<div id=\"rows\">\n";
+<p id=\"search\" hidden><label>Rows with <input type=\"search\" id=\"sought\" autocomplete=\"off\"></label> <output id=\"found\"></output></p>\n";
 
-// The end of the rows, and the script of the search: of what is typed, the rows that have it are open, and the others hidden.
+// The script of the search: of what is typed, the rows that have it are open, and the others hidden.
 const SCRIPT: &str = "\
-</div>\n\
 <script>\n\
 (function () {\n\
 const rows = Array.from(document.querySelectorAll('#rows > details'), row => [row, row.textContent.toLowerCase()]);\n\
@@ -74,8 +72,8 @@ document.getElementById('search').hidden = false;\n\
 </script>\n";
 
 /// The page of what a film shows: an HTML document with the verdict, this picture as it is, this text below it, a line each, and the
-/// rows, each folded, with what it changes inside. With these names of the nodes, from node 1 on. Where claims are left out, so are their
-/// rows, but for one that decided. Refused where an allocation fails.
+/// rows, each once and in order, folded, with what it changes inside. With these names of the nodes, from node 1 on. Where claims are left
+/// out, so are their rows, but for one that decided. Refused where an allocation fails.
 pub fn html_page(
     alloc: Global,
     finished: &FinishedFilm,
@@ -92,7 +90,7 @@ pub fn html_page(
         (headed (title_text finished.now.verdict finished.now.setup.nodes finished.now.setup.partitions (row_before finished.now.scenes.items) (length finished.now.scenes.items)))) }
     ensures picture { IfOk result (λ text. Has (string_bytes text) picture.now) }
     ensures below { IfOk result (λ text. HasLines (string_bytes text) below.now) }
-    ensures rows { IfOk result (λ text. HasSummaries (string_bytes text) claims finished.now.verdict finished.now.scenes.items) }
+    ensures rows { IfOk result (λ text. HasRowsOf (string_bytes text) claims finished.now.verdict finished.now.setup.nodes (map (λ s. s.now) names.now) finished.now.scenes.items) }
 {
     let front = front_of(alloc, finished);
     let behind = behind_of(alloc, finished, names, claims, below);
@@ -155,13 +153,15 @@ fn behind_of(
 ) -> Paper
     ensures ends { IsIn result (λ text. Ends text page_end) }
     ensures below { IsIn result (λ text. HasLines text below.now) }
-    ensures rows { IsIn result (λ text. HasSummaries text claims finished.now.verdict finished.now.scenes.items) }
+    ensures rows { IsIn result (λ text. HasRowsOf text claims finished.now.verdict finished.now.setup.nodes (map (λ s. s.now) names.now) finished.now.scenes.items) }
 {
     let mut behind = Paper::new(alloc);
     behind.push("</div>\n");
     push_below(&mut behind, below);
     behind.push(SEARCH);
+    behind.push("<div id=\"rows\">\n");
     push_rows(&mut behind, finished, names, claims);
+    behind.push("</div>\n");
     behind.push(SCRIPT);
     behind.push("</body>\n</html>\n");
     behind

@@ -4,6 +4,7 @@ ghost use Rattle.bully_film.specs.Film.{IsFilmOf};
 ghost use Rattle.bully_film.specs.Lane.{row_before};
 ghost use Rattle.bully_film.specs.Scene.{lane_of as lane_seen};
 ghost use Rattle.bully_film.specs.Window.{WindowState};
+ghost use Rattle.bully_picture.specs.Bars.{HasLaneBars, HasStands, shows_rows};
 ghost use Rattle.bully_picture.specs.Drawn.{AreNumbers, HasBelow, HasCalls, HasLanes, HasNodes, HasRows, HasSaid, below_label, scenes_shown};
 ghost use Rattle.bully_picture.specs.Title.{Has, IsDocument, counted_text, shown_text, size_text, title_text};
 ghost use Rattle.bully_picture.specs.Written.{Extends, Gains, IsCopied, IsIn, Writes};
@@ -18,7 +19,7 @@ use crate::layout::{Layout, ROW};
 use crate::marks::{draw_numbers, draw_row, draw_texts};
 use crate::paper::Paper;
 use bully_base::{OutOfMemory, Setup};
-use bully_film::{FinishedFilm, Lane, lanes, row_before};
+use bully_film::{FinishedFilm, Lane, Scene, lanes, row_before};
 use bully_trace::Verdict;
 use std::alloc::Global;
 
@@ -69,7 +70,9 @@ pub fn svg_picture(
     ensures says { IfOk result (λ text. HasSaid (string_bytes text) finished.now.verdict (scenes_shown claims finished.now.verdict finished.now.scenes.items)) }
     ensures nodes { IfOk result (λ text. HasNodes (string_bytes text) finished.now.setup.nodes (λ i. option_map (λ s. s.now) (slice_get names.now i))) }
 
-    // Of each node it has an arrow for each call in its slot.
+    // Of each node it has a bar of how it stands behind each row, and an arrow for each call in its slot.
+    ensures bars { (window : WindowState) (trace : Trace) (is : IsFilmOf window finished.now trace)
+        → IfOk result (λ text. HasStands (string_bytes text) (shows_rows finished.now.scenes.items) finished.now.setup.nodes (row_before finished.now.scenes.items) (λ i. lane_seen trace.setup is.before i is.shown)) }
     ensures calls { (window : WindowState) (trace : Trace) (is : IsFilmOf window finished.now trace)
         → IfOk result (λ text. HasCalls (string_bytes text) finished.now.setup.nodes (row_before finished.now.scenes.items) (λ i. lane_seen trace.setup is.before i is.shown)) }
     ensures below { IfOk result (λ text. HasBelow (string_bytes text) below.now) }
@@ -93,6 +96,8 @@ fn picture_on(
     ensures rows { IsIn result (λ text. HasRows text finished.now.verdict (scenes_shown claims finished.now.verdict finished.now.scenes.items)) }
     ensures says { IsIn result (λ text. HasSaid text finished.now.verdict (scenes_shown claims finished.now.verdict finished.now.scenes.items)) }
     ensures nodes { IsIn result (λ text. HasNodes text finished.now.setup.nodes (λ i. option_map (λ s. s.now) (slice_get names.now i))) }
+    ensures bars { (window : WindowState) (trace : Trace) (is : IsFilmOf window finished.now trace)
+        → IsIn result (λ text. HasStands text (shows_rows finished.now.scenes.items) finished.now.setup.nodes (row_before finished.now.scenes.items) (λ i. lane_seen trace.setup is.before i is.shown)) }
     ensures calls { (window : WindowState) (trace : Trace) (is : IsFilmOf window finished.now trace)
         → IsIn result (λ text. HasCalls text finished.now.setup.nodes (row_before finished.now.scenes.items) (λ i. lane_seen trace.setup is.before i is.shown)) }
     ensures below { IsIn result (λ text. HasBelow text below.now) }
@@ -118,6 +123,7 @@ fn picture_with(
     ensures rows { IsIn result (λ text. HasRows text finished.now.verdict (scenes_shown claims finished.now.verdict finished.now.scenes.items)) }
     ensures says { IsIn result (λ text. HasSaid text finished.now.verdict (scenes_shown claims finished.now.verdict finished.now.scenes.items)) }
     ensures nodes { IsIn result (λ text. HasNodes text finished.now.setup.nodes (λ i. option_map (λ s. s.now) (slice_get names.now i))) }
+    ensures bars { IsIn result (λ text. HasLaneBars text (shows_rows finished.now.scenes.items) lanes.now) }
     ensures lanes { IsIn result (λ text. HasLanes text lanes.now) }
     ensures below { IsIn result (λ text. HasBelow text below.now) }
 {
@@ -137,8 +143,16 @@ struct Parts {
     numbers: Paper,
     texts: Paper,
     names: Paper,
+    bars: Paper,
     arrows: Paper,
     below: Paper,
+}
+
+// What a picture has of each lane.
+#[derive(Drop)]
+struct LaneParts {
+    bars: Paper,
+    arrows: Paper,
 }
 
 // Draws all but the head of the document and its title.
@@ -153,6 +167,7 @@ fn draw(
     ensures rows { IsIn result.numbers (AreNumbers finished.now.verdict (scenes_shown claims finished.now.verdict finished.now.scenes.items)) }
     ensures says { IsIn result.texts (λ text. HasSaid text finished.now.verdict (scenes_shown claims finished.now.verdict finished.now.scenes.items)) }
     ensures nodes { IsIn result.names (λ text. HasNodes text finished.now.setup.nodes (λ i. option_map (λ s. s.now) (slice_get names.now i))) }
+    ensures bars { IsIn result.bars (λ text. HasLaneBars text (shows_rows finished.now.scenes.items) lanes.now) }
     ensures lanes { IsIn result.arrows (λ text. HasLanes text lanes.now) }
     ensures below { IsIn result.below (λ text. HasBelow text below.now) }
 {
@@ -160,7 +175,11 @@ fn draw(
     let numbers = draw_numbers(canvas, finished, claims);
     let texts = draw_texts(canvas, finished, claims);
     draw_rows(canvas, finished, claims);
-    let arrows = draw_lanes(canvas, lanes);
+    let LaneParts { bars, arrows } = draw_lanes(
+        canvas,
+        lanes,
+        shows_rows(finished.scenes.as_slice()),
+    );
     draw_letters(canvas);
     let names = draw_names(canvas.alloc, &canvas.layout, &finished.setup, names);
     let below = draw_below(canvas.alloc, &canvas.layout, below);
@@ -168,6 +187,7 @@ fn draw(
         numbers,
         texts,
         names,
+        bars,
         arrows,
         below,
     }
@@ -179,10 +199,12 @@ fn push_parts(picture: &mut Paper, canvas: &Canvas, parts: &Parts)
     ensures numbers { IsIn picture.new (IsCopied parts.now.numbers) }
     ensures texts { IsIn picture.new (IsCopied parts.now.texts) }
     ensures names { IsIn picture.new (IsCopied parts.now.names) }
+    ensures bars { IsIn picture.new (IsCopied parts.now.bars) }
     ensures arrows { IsIn picture.new (IsCopied parts.now.arrows) }
     ensures below { IsIn picture.new (IsCopied parts.now.below) }
 {
     picture.push_paper(&canvas.lines);
+    picture.push_paper(&parts.bars);
     picture.push_paper(&parts.arrows);
     picture.push_paper(&parts.numbers);
     picture.push_paper(&parts.texts);
@@ -207,13 +229,21 @@ fn draw_letters(canvas: &mut Canvas) {
     }
 }
 
-// Draws the bars of these lanes, and on a paper of their own the arrows of their calls.
-fn draw_lanes(canvas: &mut Canvas, lanes: &[Lane]) -> Paper
-    ensures { IsIn result (λ text. HasLanes text lanes.now) }
+// Draws the bars of these lanes, and the arrows of their calls. Whether any rows are shown is told.
+fn draw_lanes(canvas: &mut Canvas, lanes: &[Lane], shows_rows: bool) -> LaneParts
+    ensures bars { IsIn result.bars (λ text. HasLaneBars text shows_rows lanes.now) }
+    ensures arrows { IsIn result.arrows (λ text. HasLanes text lanes.now) }
 {
+    let mut bars = Paper::new(canvas.alloc);
     let mut arrows = Paper::new(canvas.alloc);
     for lane in lanes {
-        draw_bars(canvas, lane.node, lane.bars.as_slice());
+        draw_bars(
+            canvas,
+            &mut bars,
+            lane.node,
+            lane.bars.as_slice(),
+            shows_rows,
+        );
         draw_calls(
             canvas,
             &mut arrows,
@@ -222,7 +252,14 @@ fn draw_lanes(canvas: &mut Canvas, lanes: &[Lane]) -> Paper
             lane.orphans.as_slice(),
         );
     }
-    arrows
+    LaneParts { bars, arrows }
+}
+
+// Whether any rows are shown.
+fn shows_rows(scenes: &[Scene]) -> bool
+    ensures { result ≡ shows_rows scenes.now }
+{
+    scenes.first().is_some()
 }
 
 // How wide the picture is.

@@ -1,6 +1,6 @@
 use Rattle.std.proofs.Common.{string_bytes}
 use Rattle.bully_picture.specs.Title.{Begins}
-use Rattle.bully_picture.specs.Told.{HasTold}
+use Rattle.bully_picture.specs.Told.{HasTold, told_from}
 use Rattle.bully_trace.specs.VerdictText.{verdict_head}
 use Rattle.bully_picture.proofs.WrittenLemmas.{begins-written, in-text}
 use Rattle.bully_picture.proofs.columns.lines_of.Goals as goal
@@ -11,6 +11,6 @@ returns-clause-verdict c =
     (begins-written c.new-lines.ensures c.push_verdict.ensures c.in_ok-push_lines.ensures.extends)
 
 pub returns-clause-rows : goal.returns-clause-rows
-returns-clause-rows c =
-    in-text string_bytes c.push_lines.new.lines (λ text. HasTold text c.args.finished.now.verdict c.args.finished.now.scenes.items) c.into_text.result c.into_text.ensures.whole c.into_text.ensures.text
-    c.in_ok-push_lines.ensures.holds
+returns-clause-rows c = λ window trace is.
+    in-text string_bytes c.push_lines.new.lines (λ text. HasTold text c.args.finished.now.verdict c.args.finished.now.setup.nodes (told_from trace.setup is.before is.shown))
+    c.into_text.result c.into_text.ensures.whole c.into_text.ensures.text (c.in_ok-push_lines.ensures.rows window trace is).holds

@@ -1,5 +1,7 @@
 use Rattle.std.specs.Prelude.{option_map, slice_get}
 use Rattle.bully_picture.specs.Drawn.{scenes_shown}
+use Rattle.bully_picture.specs.Bars.{shows_rows}
+use Rattle.bully_picture.proofs.BarLemmas.{bars-copied}
 use Rattle.bully_picture.proofs.DrawnLemmas.{below-copied, lanes-copied, nodes-copied}
 use Rattle.bully_picture.proofs.ShownLemmas.{rows-copied, said-copied}
 use Rattle.bully_picture.proofs.WrittenLemmas.{copied-still, document, extends-then, extends-written, written-in}
@@ -31,6 +33,11 @@ pub returns-clause-lanes : goal.returns-clause-lanes
 returns-clause-lanes c = λ good.
     lanes-copied c.push-2.new.self.text c.draw-parts.result.arrows c.args.lanes.now
     (copied-still c.draw-parts.result.arrows c.push_parts.ensures.arrows (extends-written c.push-2.ensures) good) c.draw-parts.ensures.lanes
+
+pub returns-clause-bars : goal.returns-clause-bars
+returns-clause-bars c = λ good.
+    bars-copied c.push-2.new.self.text c.draw-parts.result.bars (shows_rows c.args.finished.now.scenes.items) c.args.lanes.now
+    (copied-still c.draw-parts.result.bars c.push_parts.ensures.bars (extends-written c.push-2.ensures) good) c.draw-parts.ensures.bars
 
 pub returns-clause-below : goal.returns-clause-below
 returns-clause-below c = λ good.

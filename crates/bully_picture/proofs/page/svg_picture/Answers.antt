@@ -3,6 +3,7 @@ use Rattle.std.proofs.Common.{length, string_bytes}
 use Rattle.std.specs.Prelude.{option_map, slice_get}
 use Rattle.bully_film.specs.Lane.{row_before}
 use Rattle.bully_film.specs.Scene.{lane_of}
+use Rattle.bully_picture.specs.Bars.{HasStands, shows_rows}
 use Rattle.bully_picture.specs.Drawn.{HasBelow, HasCalls, HasNodes, HasRows, HasSaid, scenes_shown}
 use Rattle.bully_picture.specs.Title.{Has, IsDocument, title_text}
 use Rattle.bully_trace.specs.VerdictText.{verdict_head}
@@ -43,6 +44,12 @@ pub returns-clause-nodes : goal.returns-clause-nodes
 returns-clause-nodes c =
     in-text string_bytes c.picture_on-picture.result (λ text. HasNodes text c.args.finished.now.setup.nodes (λ i. option_map (λ s. s.now) (slice_get c.args.names.now i)))
     c.into_text.result c.into_text.ensures.whole c.into_text.ensures.text c.picture_on-picture.ensures.nodes
+
+pub returns-clause-bars : goal.returns-clause-bars
+returns-clause-bars c = λ window trace is.
+    in-text string_bytes c.picture_on-picture.result
+    (λ text. HasStands text (shows_rows c.args.finished.now.scenes.items) c.args.finished.now.setup.nodes (row_before c.args.finished.now.scenes.items) (λ i. lane_of trace.setup is.before i is.shown))
+    c.into_text.result c.into_text.ensures.whole c.into_text.ensures.text (c.picture_on-picture.ensures.bars window trace is)
 
 pub returns-clause-calls : goal.returns-clause-calls
 returns-clause-calls c = λ window trace is.
