@@ -1,19 +1,14 @@
 -- What a page has of its parts.
-use Rattle.std.proofs.Common.{◌≡◌, ◌∙◌, ℕ, ◌+◌, ◌<◌, ◌≤◌, ◌++◌, Bool, true, false, List, Result, Ok, Err, codes, get_or, length, take, ap, refl, subst, sym}
+use Rattle.std.proofs.Common.{◌≡◌, ◌∙◌, ℕ, ◌+◌, ◌<◌, ◌≤◌, ◌++◌, Bool, true, false, List, [], Result, Ok, Err, codes, get_or, length, take, ap, refl, subst, sym}
 use Rattle.std.specs.Prelude.{All, IfOk}
 use Rattle.std.specs.Str.Lines.{lines}
 use Rattle.std.specs.Prelude.{if◌then◌else◌}
-use Rattle.std.specs.Fmt.{decimal}
-use Rattle.std.proofs.lemmas.List.{append_assoc, append-nil, take_all, take_more}
+use Rattle.std.proofs.lemmas.List.{append_assoc, take_all}
 use Rattle.std.proofs.lemmas.List.Elements.{All-weaker}
-use Rattle.bully_trace.specs.declared.verdict.Verdict.{Verdict}
-use Rattle.bully_film.specs.declared.scene.Scene.{Scene}
-use Rattle.bully_picture.specs.declared.claims.Claims.{Claims}
-use Rattle.bully_picture.specs.Drawn.{is_shown}
 use Rattle.bully_picture.specs.Title.{Begins, Ends, Has}
 use Rattle.bully_picture.specs.Written.{Gains, IsIn, Writes, Written}
-use Rattle.bully_picture.proofs.WrittenLemmas.{has-more, has-within, one-gained, writes-as, writes-nothing, writes-then}
-use Rattle.bully_page.specs.Page.{HasLines, IsPage, line_text, owners_text, page_end, page_start, row_text, rows_text, titled}
+use Rattle.bully_picture.proofs.WrittenLemmas.{has-more, has-within, one-gained, writes-nothing}
+use Rattle.bully_page.specs.Page.{HasLines, IsPage, line_text, page_end, page_start, titled}
 
 -- what a text has, one with more before it has, too
 pub has-behind : (before text part : List ℕ) → Has text part → Has (before ++ text) part
@@ -65,51 +60,12 @@ pub all-lines : (below : List ℕ) (k : ℕ) (start a : Written) → length (lin
     → Gains start a (λ text. All (λ one. Has text (line_text one)) (take k (lines below))) → Gains start a (λ text. HasLines text below)
 all-lines below k start a all so_far = subst (λ l. Gains start a (λ text. All (λ one. Has text (line_text one)) l)) (take_all k (lines below) all) so_far
 
--- ---- pieces of a text, one after the other
+-- ---- rows
 
--- the owners of a table, up to one more
-owners-push : (owners : List ℕ) (owner : ℕ) → owners_text (owners ++ owner ∷ []) ≡ owners_text owners ++ (codes " " ++ decimal owner ++ [])
-owners-push [] owner = append-nil (codes " " ++ decimal owner ++ [])
-owners-push (first ∷ owners) owner =
-    ap (λ t. (codes " " ++ decimal first ++ []) ++ t) (owners-push owners owner)
-    ∙ sym (append_assoc (codes " " ++ decimal first ++ []) (owners_text owners) (codes " " ++ decimal owner ++ []))
-
-pub owner-more : (owners : List ℕ) (k owner : ℕ) (start a b : Written) → k < length owners → owner ≡ get_or owners k owner → Writes start a (owners_text (take k owners))
-    → Writes a b (codes " " ++ decimal owner ++ []) → Writes start b (owners_text (take (k + 1) owners))
-owner-more owners k owner start a b within is so_far written =
-    writes-as (sym (ap owners_text (take_more owners k owner within ∙ ap (λ (one : ℕ). take k owners ++ one ∷ []) (sym is)) ∙ owners-push (take k owners) owner)) (writes-then so_far written)
-
--- the rows, up to one more
-rows-push : (claims : Claims) (verdict : Verdict) (nodes : ℕ) (names : List (List ℕ)) (scenes : List Scene) (s : Scene)
-    → rows_text claims verdict nodes names (scenes ++ s ∷ []) ≡ rows_text claims verdict nodes names scenes ++ (if is_shown claims verdict s then row_text verdict nodes names s else [])
-rows-push claims verdict nodes names [] s = append-nil (if is_shown claims verdict s then row_text verdict nodes names s else [])
-rows-push claims verdict nodes names (first ∷ scenes) s =
-    let before = if is_shown claims verdict first then row_text verdict nodes names first else [] in
-    ap (λ t. before ++ t) (rows-push claims verdict nodes names scenes s)
-    ∙ sym (append_assoc before (rows_text claims verdict nodes names scenes) (if is_shown claims verdict s then row_text verdict nodes names s else []))
-
-rows-taken : (claims : Claims) (verdict : Verdict) (nodes : ℕ) (names : List (List ℕ)) (scenes : List Scene) (i : ℕ) (s : Scene) (tested b : Bool) → i < length scenes → s ≡ get_or scenes i s
-    → tested ≡ is_shown claims verdict s → tested ≡ b
-    → rows_text claims verdict nodes names (take i scenes) ++ (if b then row_text verdict nodes names s else []) ≡ rows_text claims verdict nodes names (take (i + 1) scenes)
-rows-taken claims verdict nodes names scenes i s tested b within is test told =
-    sym (ap (rows_text claims verdict nodes names) (take_more scenes i s within ∙ ap (λ (one : Scene). take i scenes ++ one ∷ []) (sym is))
-    ∙ rows-push claims verdict nodes names (take i scenes) s
-    ∙ ap (λ c. rows_text claims verdict nodes names (take i scenes) ++ (if c then row_text verdict nodes names s else [])) (sym test ∙ told))
-
--- one more row that has its place
-pub row-shown : (claims : Claims) (verdict : Verdict) (nodes : ℕ) (names : List (List ℕ)) (scenes : List Scene) (i : ℕ) (s : Scene) (tested : Bool) (start a b : Written) → i < length scenes
-    → s ≡ get_or scenes i s → tested ≡ is_shown claims verdict s → tested ≡ true → Writes start a (rows_text claims verdict nodes names (take i scenes))
-    → Writes a b (row_text verdict nodes names s) → Writes start b (rows_text claims verdict nodes names (take (i + 1) scenes))
-row-shown claims verdict nodes names scenes i s tested start a b within is test shown so_far written =
-    writes-as (rows-taken claims verdict nodes names scenes i s tested true within is test shown) (writes-then so_far written)
+-- a row that has its place
+pub row-shown : (tested is_there : Bool) (row : List ℕ) (a b : Written) → tested ≡ is_there → tested ≡ true → Writes a b row → Writes a b (if is_there then row else [])
+row-shown tested is_there row a b test shown written = subst (λ c. Writes a b (if c then row else [])) (sym shown ∙ test) written
 
 -- and one that has none
-pub row-left-out : (claims : Claims) (verdict : Verdict) (nodes : ℕ) (names : List (List ℕ)) (scenes : List Scene) (i : ℕ) (s : Scene) (tested : Bool) (start a : Written) → i < length scenes
-    → s ≡ get_or scenes i s → tested ≡ is_shown claims verdict s → tested ≡ false → Writes start a (rows_text claims verdict nodes names (take i scenes))
-    → Writes start a (rows_text claims verdict nodes names (take (i + 1) scenes))
-row-left-out claims verdict nodes names scenes i s tested start a within is test out so_far =
-    writes-as (rows-taken claims verdict nodes names scenes i s tested false within is test out) (writes-then so_far (writes-nothing a))
-
-pub all-rows : (claims : Claims) (verdict : Verdict) (nodes : ℕ) (names : List (List ℕ)) (xs scenes : List Scene) (i : ℕ) (start a : Written) → length xs ≤ i → xs ≡ scenes
-    → Writes start a (rows_text claims verdict nodes names (take i xs)) → Writes start a (rows_text claims verdict nodes names scenes)
-all-rows claims verdict nodes names xs scenes i start a all same so_far = writes-as (ap (rows_text claims verdict nodes names) (take_all i xs all ∙ same)) so_far
+pub row-left-out : (tested is_there : Bool) (row : List ℕ) (a : Written) → tested ≡ is_there → tested ≡ false → Writes a a (if is_there then row else [])
+row-left-out tested is_there row a test out = subst (λ c. Writes a a (if c then row else [])) (sym out ∙ test) (writes-nothing a)

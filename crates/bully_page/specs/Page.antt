@@ -1,6 +1,7 @@
 -- What stands in a page: its ends, the title, the text below the picture, and the rows, each with what it changes.
-use Rattle.std.specs.Prelude.{◌≡◌, ℕ, ◌-◌, Bool, true, false, List, [], ◌∷◌, ◌++◌, ◌==◌, ◌&&◌, Option, Some, None, All, codes, nat_le, not, slice_get, if◌then◌else◌}
+use Rattle.std.specs.Prelude.{◌≡◌, ℕ, ◌-◌, Bool, true, false, List, [], ◌++◌, ◌==◌, ◌&&◌, Option, Some, None, All, codes, nat_le, not, slice_get, if◌then◌else◌}
 use Rattle.std.specs.Fmt.{decimal}
+use Rattle.std.specs.List.{flat_map}
 use Rattle.std.specs.Str.{chars}
 use Rattle.std.specs.Str.Lines.{lines}
 use Rattle.bully_calls.specs.declared.call.PendingCall.{PendingCall}
@@ -131,9 +132,11 @@ abbrev pub stop_text : Scene → List ℕ
 stop_text s = if s.cuts then codes "<p>The Halt stops the procedure of node " ++ decimal s.other.node ++ codes ".</p>\n" else []
 
 -- the owners, from partition 0 on
+abbrev pub owner_text : ℕ → List ℕ
+owner_text owner = codes " " ++ decimal owner ++ []
+
 abbrev pub owners_text : List ℕ → List ℕ
-owners_text [] = []
-owners_text (owner ∷ owners) = (codes " " ++ decimal owner ++ []) ++ owners_text owners
+owners_text owners = flat_map owner_text owners
 
 abbrev pub table_text : Option (List ℕ) → List ℕ
 table_text None = []
@@ -154,11 +157,12 @@ abbrev pub row_text : Verdict → ℕ → List (List ℕ) → Scene → List ℕ
 row_text verdict nodes names s =
     summary_text (decides verdict s.number) s ++ changes_text nodes names s ++ effects_text (decides verdict s.number) s ++ codes "</details>\n"
 
--- these rows, if they are shown
+-- the row, if it is shown
+abbrev pub shown_row : Claims → Verdict → ℕ → List (List ℕ) → Scene → List ℕ
+shown_row claims verdict nodes names s = if is_shown claims verdict s then row_text verdict nodes names s else []
+
 abbrev pub rows_text : Claims → Verdict → ℕ → List (List ℕ) → List Scene → List ℕ
-rows_text claims verdict nodes names [] = []
-rows_text claims verdict nodes names (s ∷ scenes) =
-    (if is_shown claims verdict s then row_text verdict nodes names s else []) ++ rows_text claims verdict nodes names scenes
+rows_text claims verdict nodes names scenes = flat_map (shown_row claims verdict nodes names) scenes
 
 -- exactly these stand in the page, once and in order
 abbrev pub HasRowsOf : List ℕ → Claims → Verdict → ℕ → List (List ℕ) → List Scene → Type 0

@@ -2,7 +2,7 @@
 use Rattle.std.proofs.Common.{◌≡◌, ◌∙◌, ◌⊎◌, inl, inr, ℕ, zero, suc, ◌+◌, ◌-◌, ◌<◌, ◌≤◌, ◌++◌, Bool, List, [], ◌∷◌, Some, None, All, get_or, length, map, replicate, take, refl, sym, ap, subst, arith}
 use Rattle.std.specs.Fmt.{decimal}
 use Rattle.std.specs.Prelude.{codes, slice_get}
-use Rattle.std.proofs.lemmas.List.{get_or-replicate, get_or_append_left, length-append, length-replicate, take_all}
+use Rattle.std.proofs.lemmas.List.{append_assoc, get_or-replicate, get_or_append_left, length-append, length-replicate, take_all}
 use Rattle.std.proofs.lemmas.List.Elements.{All-head, All-tail, All-weaker}
 use Rattle.std.proofs.lemmas.Option.{slice_get-get_or, slice_get_past}
 use Rattle.bully_film.specs.declared.snapshot.NodeSnapshot.{NodeSnapshot}

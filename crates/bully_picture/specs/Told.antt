@@ -1,6 +1,7 @@
 -- What stands in a picture for a terminal: a line of each row that changes what a node is, with how all nodes stand behind it.
 use Rattle.std.specs.Prelude.{◌≡◌, ◌≢◌, ◌⊎◌, ℕ, ◌+◌, ◌-◌, Bool, true, false, List, [], ◌∷◌, ◌++◌, All, codes, length, max, nat_le, replicate, if◌then◌else◌}
 use Rattle.std.specs.Fmt.{decimal}
+use Rattle.std.specs.List.{flat_map}
 use Rattle.bully_base.specs.declared.node.Status.{Status}
 use Rattle.bully_base.specs.Places.{put_node}
 use Rattle.bully_base.specs.Setup.{Setup}
@@ -73,8 +74,7 @@ cell_text Form.Letters node = column_letter node.status
 cell_text Form.Changes node = []
 
 abbrev pub cells_text : Form → List NodeSnapshot → List ℕ
-cells_text form [] = []
-cells_text form (node ∷ nodes) = cell_text form node ++ cells_text form nodes
+cells_text form nodes = flat_map (cell_text form) nodes
 
 -- how a node stands behind a row, if the group has it
 abbrev pub change_words : ℕ → Change → List ℕ

@@ -151,7 +151,7 @@ fn start_of(alloc: Global, finished: &FinishedFilm, node: Node) -> Result<NodeSn
     ensures { (window : WindowState) (trace : Trace) (is : IsFilmOf window finished.now trace) → IfOk result (λ start. start ≡ snapshot (world_behind trace.setup is.before) node) }
 {
     let lane = lane_of(alloc, finished, node)?;
-    match lane.first() {
+    match lane.as_slice().first() {
         Some(start) => Ok(*start),
         None => Err(AllocError),
     }
