@@ -64,11 +64,11 @@ spans {T} P first end (one ∷ others) (begins, order, joined) has x row (low, i
           get-behind stretch (spread others) (k - first) (omega (arith, begins, order, long, above)) ∙ ap (slice_get (spread others)) e in
           let later = spans P (one.last + 1) end others joined rest x row (behind, sym (at row behind) ∙ is) in (
             later.0,
-            later.1.0,
-            later.1.1.0,
-            later.1.1.1.0,
+            later.1,
+            later.2,
+            later.3,
             λ other above below.
-                let there = later.1.1.1.1 other above below in
+                let there = later.4 other above below in
                 (omega (arith, begins, order, there.0), at other there.0 ∙ there.1),
           )
     ]
@@ -82,9 +82,9 @@ bars-has text shows i first end bars joined has stand row is =
     record {
       from = found.0.first;
       to = found.0.last;
-      around = found.1.1.1.0;
-      stood = found.1.1.1.1;
-      bar = subst (λ (seen : Stand). Has text (bar_label shows i (record { first = found.0.first; last = found.0.last; seen = seen }))) found.1.1.0 found.1.0;
+      around = found.3;
+      stood = found.4;
+      bar = subst (λ (seen : Stand). Has text (bar_label shows i (record { first = found.0.first; last = found.0.last; seen = seen }))) found.2 found.1;
     }
 
 lane-has : (text : List ℕ) (shows : Bool) (i first : ℕ) (snapshots : List NodeSnapshot) (lane : Lane) → IsLane i first snapshots lane → HasBars text shows lane.node lane.bars.items

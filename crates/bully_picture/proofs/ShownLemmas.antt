@@ -82,12 +82,12 @@ whole_text letters has_room is_decided s =
 said-longer : (text more : List ℕ) (verdict : Verdict) (scenes : List Scene) → HasSaid text verdict scenes → HasSaid (text ++ more) verdict scenes
 said-longer text more verdict scenes has =
     All-weaker (λ s. HasText text (decides verdict s.number) s) (λ s. HasText (text ++ more) (decides verdict s.number) s)
-    (λ s one. (one.0, one.1.0, has-more (whole_text one.0 one.1.0 (decides verdict s.number) s) text more one.1.1)) scenes has
+    (λ s one. (one.0, one.1, has-more (whole_text one.0 one.1 (decides verdict s.number) s) text more one.2)) scenes has
 
 pub said-copied : (text : List ℕ) (paper : Written) (verdict : Verdict) (scenes : List Scene) → IsCopied paper text → IsIn paper (λ t. HasSaid t verdict scenes) → HasSaid text verdict scenes
 said-copied text paper verdict scenes (good, within) has =
     All-weaker (λ s. HasText paper.text (decides verdict s.number) s) (λ s. HasText text (decides verdict s.number) s)
-    (λ s one. (one.0, one.1.0, has-within text paper.text (whole_text one.0 one.1.0 (decides verdict s.number) s) within one.1.1)) scenes (has good)
+    (λ s one. (one.0, one.1, has-within text paper.text (whole_text one.0 one.1 (decides verdict s.number) s) within one.2)) scenes (has good)
 
 -- one more row has its text
 pub said-more : (claims : Claims) (verdict : Verdict) (scenes : List Scene) (i : ℕ) (s : Scene) (tested d : Bool) (a b : Written) → i < length scenes → s ≡ get_or scenes i s

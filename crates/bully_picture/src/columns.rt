@@ -1,5 +1,5 @@
 //! The picture for a terminal: a line for each row that changes what a node is.
-ghost use Rattle.std.specs.Prelude.{◌≡◌, ◌≤◌, ◌-◌, [], true, length, max, replicate, IfOk, OnOk, string_bytes};
+ghost use Rattle.std.specs.Prelude.{◌≡◌, ◌≤◌, ◌-◌, [], ◌∷◌, ◌++◌, true, length, max, replicate, IfOk, OnOk, string_bytes};
 ghost use Rattle.bully_base.specs.Places.{put_node};
 ghost use Rattle.bully_film.specs.Behind.{world_behind};
 ghost use Rattle.bully_film.specs.Film.{IsFilmOf};
@@ -139,20 +139,28 @@ fn push_starts(
 {
     for before in 0..finished.setup.nodes() {
         let node = Node::new(before + 1).unwrap();
-        let start = start_of(alloc, finished, node)?;
-        now.push(start)?;
+        push_start(alloc, now, finished, node)?;
     }
     Ok(())
 }
 
-// How the node stands before the first row. Refused where an allocation fails; and where the lane is empty, which none is.
-fn start_of(alloc: Global, finished: &FinishedFilm, node: Node) -> Result<NodeSnapshot, OutOfMemory>
+// Appends how the node stands before the first row. Refused where an allocation fails; and where the lane is empty, which none is.
+fn push_start(
+    alloc: Global,
+    now: &mut Vec<NodeSnapshot>,
+    finished: &FinishedFilm,
+    node: Node,
+) -> Result<(), OutOfMemory>
     requires { node ≤ finished.now.setup.nodes }
-    ensures { (window : WindowState) (trace : Trace) (is : IsFilmOf window finished.now trace) → IfOk result (λ start. start ≡ snapshot (world_behind trace.setup is.before) node) }
+    ensures { (window : WindowState) (trace : Trace) (is : IsFilmOf window finished.now trace)
+        → OnOk result (now.new.items ≡ now.old.items ++ snapshot (world_behind trace.setup is.before) node ∷ []) }
 {
     let lane = lane_of(alloc, finished, node)?;
     match lane.as_slice().first() {
-        Some(start) => Ok(*start),
+        Some(start) => {
+            now.push(*start)?;
+            Ok(())
+        }
         None => Err(AllocError),
     }
 }

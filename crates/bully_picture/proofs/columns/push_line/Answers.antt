@@ -15,7 +15,7 @@ returns c =
     subst (λ d. Writes old new (codes "\n" ++ right_text s.number ++ codes "  " ++ cells_text (form_of c.args.finished.now.setup.nodes) now
     ++ change_text (form_of c.args.finished.now.setup.nodes) c.args.finished.now.setup.nodes s.other ++ bare_text s.event_kind s.own.node ++ meaning_text d s)) c.decides.ensures
     (subst (λ n. Writes old new (codes "\n" ++ right_text s.number ++ codes "  " ++ cells_text (form_of n) now ++ change_text (form_of n) n s.other ++ bare_text s.event_kind s.own.node
-    ++ meaning_text c.decides.result s)) c.nodes-nodes.ensures
+    ++ meaning_text c.decides.result s)) c.nodes-nodes.ensures.nodes
     (subst (λ form. Writes old new (codes "\n" ++ right_text s.number ++ codes "  " ++ cells_text form now ++ change_text form c.nodes-nodes.result s.other ++ bare_text s.event_kind s.own.node
     ++ meaning_text c.decides.result s)) c.of-form.ensures
     (writes-then (writes-then (writes-then (writes-then (writes-then (writes-then c.push.ensures c.push_right.ensures) c.push-2.ensures) c.push_cells.ensures) c.push_change.ensures)

@@ -17,15 +17,15 @@ loop-scene-preserved c =
     let scenes = c.as_slice-scene-items.result.now in
     let s = c.scene-item.result in
     let i = c.loop-scene.scene-index in
-    let stands : c.put-2.new.now ≡ stood (stood_by before (take i scenes)) s =
-    c.put-2.ensures ∙ ap (λ (l : List NodeSnapshot). put_node l s.own.node s.own.after) c.put.ensures ∙ ap (λ (l : List NodeSnapshot). stood l s) c.loop-scene.invariant.now in
+    let stands : c.put-in-loop-scene.new.now ≡ stood (stood_by before (take i scenes)) s =
+    c.put-in-loop-scene.ensures ∙ ap (λ (l : List NodeSnapshot). put_node l s.own.node s.own.after) c.put.ensures ∙ ap (λ (l : List NodeSnapshot). stood l s) c.loop-scene.invariant.now in
     record {
       told = elim c.if-speaks.branch [
         | then-speaks w ↦ subst (λ b. Gains c.push_names.new.lines b (λ text. HasTold text verdict nodes (take (i + 1) (told_behind before scenes)))) (sym w.lines-is)
-            (told-line verdict nodes before scenes i s c.put-2.new.now c.push_names.new.lines c.loop-scene.lines w.push_quiet.new.lines w.push_line.new.lines
+            (told-line verdict nodes before scenes i s c.put-in-loop-scene.new.now c.push_names.new.lines c.loop-scene.lines w.push_quiet.new.lines w.push_line.new.lines
             c.loop-scene-test.true c.scene-item.is stands c.loop-scene.invariant.told w.push_quiet.ensures w.push_line.ensures)
         | else-speaks w ↦ subst (λ b. Gains c.push_names.new.lines b (λ text. HasTold text verdict nodes (take (i + 1) (told_behind before scenes)))) (sym w.lines-is)
-            (told-none verdict nodes before scenes i s c.put-2.new.now c.push_names.new.lines c.loop-scene.lines c.speaks.result
+            (told-none verdict nodes before scenes i s c.put-in-loop-scene.new.now c.push_names.new.lines c.loop-scene.lines c.speaks.result
             c.loop-scene-test.true c.scene-item.is stands c.loop-scene.invariant.told c.speaks.ensures w.if-speaks.false)
       ];
       now = stands ∙ stood-more before scenes i s c.loop-scene-test.true c.scene-item.is;

@@ -4,10 +4,10 @@ use Rattle.bully_picture.proofs.page.draw_lanes.Goals as goal
 
 pub loop-lane-preserved : goal.loop-lane-preserved
 loop-lane-preserved c = record {
-  bars = lane_bars-more c.args.shows_rows c.args.lanes.now c.loop-lane.lane-index c.lane-item.result c.as_slice-in-loop-lane.result.now c.loop-lane.bars c.draw_bars.new.paper
-      c.loop-lane-test.true c.lane-item.is c.as_slice-in-loop-lane.ensures.value c.loop-lane.invariant.bars c.draw_bars.ensures;
-  arrows = lanes-more c.args.lanes.now c.loop-lane.lane-index c.lane-item.result c.as_slice-in-loop-lane-2.result.now c.loop-lane.arrows c.draw_calls.new.arrows
-      c.loop-lane-test.true c.lane-item.is c.as_slice-in-loop-lane-2.ensures.value c.loop-lane.invariant.arrows c.draw_calls.ensures;
+  bars = lane_bars-more c.args.shows_rows c.args.lanes.now c.loop-lane.lane-index c.lane-item.result c.as_slice.result.now c.loop-lane.bars c.draw_bars.new.paper
+      c.loop-lane-test.true c.lane-item.is c.as_slice.ensures.value c.loop-lane.invariant.bars c.draw_bars.ensures;
+  arrows = lanes-more c.args.lanes.now c.loop-lane.lane-index c.lane-item.result c.as_slice-in-loop-lane.result.now c.loop-lane.arrows c.draw_calls.new.arrows
+      c.loop-lane-test.true c.lane-item.is c.as_slice-in-loop-lane.ensures.value c.loop-lane.invariant.arrows c.draw_calls.ensures;
 }
 
 pub returns-clause-bars : goal.returns-clause-bars
