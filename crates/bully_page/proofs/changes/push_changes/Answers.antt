@@ -7,7 +7,7 @@ use Rattle.bully_page.proofs.changes.push_changes.Goals as goal
 pub returns-then-number-nodes : goal.returns-then-number-nodes
 returns-then-number-nodes c =
     let within : nat_le c.args.scene.now.own.node c.args.finished.now.setup.nodes ≡ true = grind (arith, nat_tests, c.number.ensures.number, c.nodes.ensures.nodes, c.if-number-nodes.true) in
-    rw within (writes-then (writes-then (writes-then c.push.ensures c.push_change.ensures) c.push_other.ensures) c.push-2.ensures)
+    rw within (writes-then (writes-then (writes-then c.push.ensures c.push_change.ensures) c.push_other.ensures) c.push-then-number-nodes.ensures)
 
 pub returns-else-number-nodes : goal.returns-else-number-nodes
 returns-else-number-nodes c =
