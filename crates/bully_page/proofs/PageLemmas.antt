@@ -1,14 +1,14 @@
 -- What a page has of its parts.
-use Rattle.std.proofs.Common.{◌≡◌, ◌∙◌, ℕ, ◌+◌, ◌<◌, ◌≤◌, ◌++◌, Bool, true, false, List, [], Result, Ok, Err, codes, get_or, length, take, ap, refl, subst, sym}
+use Rattle.std.proofs.Common.{◌≡◌, ◌∙◌, ℕ, ◌++◌, Bool, true, false, List, [], ◌∷◌, Result, Ok, Err, codes, ap, refl, subst, sym}
 use Rattle.std.specs.Prelude.{All, IfOk}
 use Rattle.std.specs.Str.Lines.{lines}
 use Rattle.std.specs.Prelude.{if◌then◌else◌}
-use Rattle.std.proofs.lemmas.List.{append_assoc, take_all}
-use Rattle.std.proofs.lemmas.List.Elements.{All-weaker}
+use Rattle.std.proofs.lemmas.List.{append_assoc, append-nil}
+use Rattle.std.proofs.lemmas.List.Elements.{All-cons, All-nil, All-weaker}
 use Rattle.bully_picture.specs.Title.{Begins, Ends, Has}
-use Rattle.bully_picture.specs.Written.{Gains, IsIn, Writes, Written}
-use Rattle.bully_picture.proofs.WrittenLemmas.{has-more, has-within, one-gained, writes-nothing}
-use Rattle.bully_page.specs.Page.{HasLines, IsPage, line_text, page_end, page_start, titled}
+use Rattle.bully_picture.specs.Written.{IsIn, Writes, Written, blank}
+use Rattle.bully_picture.proofs.WrittenLemmas.{has-more, has-within, writes-nothing}
+use Rattle.bully_page.specs.Page.{HasLines, IsPage, line_text, lines_text, page_end, page_start, titled}
 
 -- what a text has, one with more before it has, too
 pub has-behind : (before text part : List ℕ) → Has text part → Has (before ++ text) part
@@ -41,24 +41,28 @@ pub lines-behind : (before text below : List ℕ) → HasLines text below → Ha
 lines-behind before text below has =
     All-weaker (λ line. Has text (line_text line)) (λ line. Has (before ++ text) (line_text line)) (λ line. has-behind before text (line_text line)) (lines below) has
 
--- what stands there already, stands there behind more
-pub lines-more : (below text more : List ℕ) → HasLines text below → HasLines (text ++ more) below
-lines-more below text more has =
-    All-weaker (λ line. Has text (line_text line)) (λ line. Has (text ++ more) (line_text line)) (λ line. has-more (line_text line) text more) (lines below) has
-
 -- what was written last ends the text
 pub ends-written : {a b : Written} {p : List ℕ} → Writes a b p → IsIn b (λ text. Ends text p)
 ends-written {a} {b} {p} written good = (a.text, written.text good)
 
--- one more line
-pub one-line : (below : List ℕ) (k : ℕ) (line : List ℕ) (start a b : Written) → k < length (lines below) → line ≡ get_or (lines below) k line
-    → Gains start a (λ text. All (λ one. Has text (line_text one)) (take k (lines below))) → Gains a b (λ text. Has text (line_text line))
-    → Gains start b (λ text. All (λ one. Has text (line_text one)) (take (k + 1) (lines below)))
-one-line below k line start a b = one-gained (λ text one. Has text (line_text one)) (λ text more one. has-more (line_text one) text more) (lines below) k line start a b
+-- what was written on an empty paper is all that stands there
+pub written-whole : {a b : Written} {p : List ℕ} → a ≡ blank → Writes a b p → IsIn b (λ text. text ≡ p)
+written-whole {a} {b} {p} empty written good = written.text good ∙ ap (λ (w : Written). w.text ++ p) empty
 
-pub all-lines : (below : List ℕ) (k : ℕ) (start a : Written) → length (lines below) ≤ k
-    → Gains start a (λ text. All (λ one. Has text (line_text one)) (take k (lines below))) → Gains start a (λ text. HasLines text below)
-all-lines below k start a all so_far = subst (λ l. Gains start a (λ text. All (λ one. Has text (line_text one)) l)) (take_all k (lines below) all) so_far
+-- each of the lines stands where all of them do
+pub lines-has : (text : List ℕ) (them : List (List ℕ)) → Has text (lines_text them) → All (λ line. Has text (line_text line)) them
+lines-has text [] has = All-nil (λ line. Has text (line_text line))
+lines-has text (line ∷ them) has =
+    All-cons (λ one. Has text (line_text one)) line them (has-within text (lines_text (line ∷ them)) (line_text line) has ([], lines_text them, refl))
+    (lines-has text them (has-within text (lines_text (line ∷ them)) (lines_text them) has (line_text line, [], sym (append-nil (line_text line ++ lines_text them)))))
+
+-- the whole of a page that was made of its parts
+pub page-whole : {T E : Type 0} (bytes : T → List ℕ) (front behind : Written) (before picture after : List ℕ) (r : Result T E)
+    → IfOk r (λ text. front.has_failed ≡ false) → IfOk r (λ text. behind.has_failed ≡ false) → IfOk r (λ text. bytes text ≡ front.text ++ picture ++ behind.text)
+    → IsIn front (λ text. text ≡ before) → IsIn behind (λ text. text ≡ after) → IfOk r (λ text. bytes text ≡ before ++ picture ++ after)
+page-whole bytes front behind before picture after (Ok text) one other same first last =
+    same ∙ ap (λ f. f ++ picture ++ behind.text) (first one) ∙ ap (λ b. before ++ picture ++ b) (last other)
+page-whole bytes front behind before picture after (Err e) one other same first last = tt
 
 -- ---- rows
 

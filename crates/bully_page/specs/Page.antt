@@ -41,6 +41,10 @@ headed title = codes "<h1>" ++ title ++ codes "</h1>"
 abbrev pub line_text : List ℕ → List ℕ
 line_text line = codes "<p class=\"below\">" ++ escaped (chars line) ++ codes "</p>\n"
 
+-- these lines, one after the other
+abbrev pub lines_text : List (List ℕ) → List ℕ
+lines_text them = flat_map line_text them
+
 -- all lines of a text stand so in this one
 abbrev pub HasLines : List ℕ → List ℕ → Type 0
 HasLines text below = All (λ line. Has text (line_text line)) (lines below)
@@ -168,3 +172,15 @@ rows_text claims verdict nodes names scenes = flat_map (shown_row claims verdict
 abbrev pub HasRowsOf : List ℕ → Claims → Verdict → ℕ → List (List ℕ) → List Scene → Type 0
 HasRowsOf text claims verdict nodes names scenes =
     Has text (codes "<div id=\"rows\">\n" ++ rows_text claims verdict nodes names scenes ++ codes "</div>\n")
+
+-- ---- the whole
+
+-- what stands before the picture, behind this head, which says how a page looks
+abbrev pub front_text : List ℕ → List ℕ → List ℕ
+front_text head title =
+    page_start ++ head ++ titled title ++ codes "\n</head>\n<body>\n" ++ headed title ++ codes "\n<div class=\"picture\">\n"
+
+-- what stands behind it, with this search and its script: the lines of this text, and the rows
+abbrev pub behind_text : List ℕ → List ℕ → List ℕ → List ℕ → List ℕ
+behind_text search script below rows =
+    codes "</div>\n" ++ lines_text (lines below) ++ search ++ (codes "<div id=\"rows\">\n" ++ rows ++ codes "</div>\n") ++ script ++ page_end

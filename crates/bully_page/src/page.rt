@@ -1,9 +1,10 @@
 //! The page as a whole.
 ghost use Rattle.std.specs.Prelude.{◌≡◌, ◌++◌, false, length, map, IfOk, string_bytes};
 ghost use Rattle.bully_film.specs.Lane.{row_before};
-ghost use Rattle.bully_page.specs.Page.{HasLines, HasRowsOf, IsPage, headed, line_text, page_end, page_start, titled};
+ghost use Rattle.std.specs.Str.Lines.{lines};
+ghost use Rattle.bully_page.specs.Page.{HasLines, HasRowsOf, IsPage, behind_text, front_text, headed, line_text, lines_text, page_end, page_start, rows_text, titled};
 ghost use Rattle.bully_picture.specs.Title.{Begins, Ends, Has, title_text};
-ghost use Rattle.bully_picture.specs.Written.{Gains, IsIn, Writes};
+ghost use Rattle.bully_picture.specs.Written.{IsIn, Writes};
 ghost use Rattle.bully_trace.specs.VerdictText.{verdict_head};
 
 use crate::rows::push_rows;
@@ -91,6 +92,12 @@ pub fn html_page(
     ensures picture { IfOk result (λ text. Has (string_bytes text) picture.now) }
     ensures below { IfOk result (λ text. HasLines (string_bytes text) below.now) }
     ensures rows { IfOk result (λ text. HasRowsOf (string_bytes text) claims finished.now.verdict finished.now.setup.nodes (map (λ s. s.now) names.now) finished.now.scenes.items) }
+
+    // It has nothing else.
+    ensures whole { IfOk result (λ text. string_bytes text ≡
+        front_text HEAD.now (title_text finished.now.verdict finished.now.setup.nodes finished.now.setup.partitions (row_before finished.now.scenes.items) (length finished.now.scenes.items))
+        ++ picture.now
+        ++ behind_text SEARCH.now SCRIPT.now below.now (rows_text claims finished.now.verdict finished.now.setup.nodes (map (λ s. s.now) names.now) finished.now.scenes.items)) }
 {
     let front = front_of(alloc, finished);
     let behind = behind_of(alloc, finished, names, claims, below);
@@ -117,6 +124,8 @@ fn front_of(alloc: Global, finished: &FinishedFilm) -> Paper
         (titled (title_text finished.now.verdict finished.now.setup.nodes finished.now.setup.partitions (row_before finished.now.scenes.items) (length finished.now.scenes.items)))) }
     ensures heading { IsIn result (λ text. Has text
         (headed (title_text finished.now.verdict finished.now.setup.nodes finished.now.setup.partitions (row_before finished.now.scenes.items) (length finished.now.scenes.items)))) }
+    ensures text { IsIn result (λ text. text ≡ front_text HEAD.now
+        (title_text finished.now.verdict finished.now.setup.nodes finished.now.setup.partitions (row_before finished.now.scenes.items) (length finished.now.scenes.items))) }
 {
     let mut front = Paper::new(alloc);
     front.push("<!DOCTYPE html>\n");
@@ -154,6 +163,8 @@ fn behind_of(
     ensures ends { IsIn result (λ text. Ends text page_end) }
     ensures below { IsIn result (λ text. HasLines text below.now) }
     ensures rows { IsIn result (λ text. HasRowsOf text claims finished.now.verdict finished.now.setup.nodes (map (λ s. s.now) names.now) finished.now.scenes.items) }
+    ensures text { IsIn result (λ text. text ≡
+        behind_text SEARCH.now SCRIPT.now below.now (rows_text claims finished.now.verdict finished.now.setup.nodes (map (λ s. s.now) names.now) finished.now.scenes.items)) }
 {
     let mut behind = Paper::new(alloc);
     behind.push("</div>\n");
@@ -169,7 +180,7 @@ fn behind_of(
 
 // Writes the text below the picture, a line each.
 fn push_below(page: &mut Paper, below: &str)
-    ensures { Gains page.old page.new (λ text. HasLines text below.now) }
+    ensures { Writes page.old page.new (lines_text (lines below.now)) }
 {
     for line in below.lines() {
         push_line(page, line);
@@ -178,7 +189,7 @@ fn push_below(page: &mut Paper, below: &str)
 
 // Writes a line of it.
 fn push_line(page: &mut Paper, line: &str)
-    ensures { Gains page.old page.new (λ text. Has text (line_text line.now)) }
+    ensures { Writes page.old page.new (line_text line.now) }
 {
     page.push("<p class=\"below\">");
     page.push_escaped(line);
