@@ -16,10 +16,12 @@ use Rattle.bully_film.specs.Scene.{lane_of}
 use Rattle.bully_film.specs.Window.{WindowState}
 use Rattle.bully_picture.specs.Bars.{HasStands, shows_rows}
 use Rattle.bully_picture.specs.Drawn.{HasBelow, HasCalls, HasNodes, HasRows, HasSaid, node_label, scenes_shown}
+use Rattle.bully_picture.specs.Head.{HasHead}
 use Rattle.bully_picture.specs.Title.{Begins, Ends, Has, IsDocument, title_text}
 use Rattle.bully_picture.specs.Told.{HasToldAbove, told_from}
 use Rattle.bully_cli.specs.Words.{Drawn}
 use Rattle.bully_page.specs.Page.{HasLines, HasRowsOf, IsPage, headed, titled}
+use Rattle.bully_picture.specs.declared.around.Around.{Around}
 use Rattle.bully_picture.specs.declared.claims.Claims.{Claims}
 use Rattle.bully.specs.declared.drawing.Drawing.{Drawing}
 use Rattle.bully.specs.declared.drawing.Form.{Form}
@@ -46,9 +48,9 @@ nodes-named of given names text nodes are has =
     (has.0, λ i low. subst (λ o. Has text (node_label has.0 (i + 1) o)) (sym (slice_get-map of given i) ∙ ap (λ l. slice_get l i) are) (has.1 i low))
 
 -- what a picture as SVG has
-pub svg-picture : {A S E : Type 0} (of : A → List ℕ) (bytes : S → List ℕ) (made : Result S E) (claims : Claims) (finished : FinishedFilm) (given : List A) (below : List ℕ)
+pub svg-picture : {A S E : Type 0} (of : A → List ℕ) (bytes : S → List ℕ) (made : Result S E) (claims : Claims) (around : Around) (finished : FinishedFilm) (given : List A) (below : List ℕ)
     → IfOk made (λ p. IsDocument (bytes p))
-    → IfOk made (λ p. Has (bytes p)
+    → IfOk made (λ p. HasHead (bytes p) around finished.verdict
     (title_text finished.verdict finished.setup.nodes finished.setup.partitions (row_before finished.scenes.items) (length finished.scenes.items)))
     → IfOk made (λ p. HasRows (bytes p) finished.verdict (scenes_shown claims finished.verdict finished.scenes.items))
     → IfOk made (λ p. HasSaid (bytes p) finished.verdict (scenes_shown claims finished.verdict finished.scenes.items))
@@ -57,10 +59,10 @@ pub svg-picture : {A S E : Type 0} (of : A → List ℕ) (bytes : S → List ℕ
     → IfOk made (λ p. HasStands (bytes p) (shows_rows finished.scenes.items) finished.setup.nodes (row_before finished.scenes.items) (λ i. lane_of trace.setup is.before i is.shown)))
     → ((window : WindowState) (trace : Trace) (is : IsFilmOf window finished trace)
     → IfOk made (λ p. HasCalls (bytes p) finished.setup.nodes (row_before finished.scenes.items) (λ i. lane_of trace.setup is.before i is.shown)))
-    → IfOk made (λ p. HasBelow (bytes p) below) → IfOk made (λ p. IsSvgOf claims finished (map of given) below (bytes p))
-svg-picture of bytes (Ok p) claims finished given below document title rows says nodes bars calls has_below = record {
+    → IfOk made (λ p. HasBelow (bytes p) below) → IfOk made (λ p. IsSvgOf claims around finished (map of given) below (bytes p))
+svg-picture of bytes (Ok p) claims around finished given below document head rows says nodes bars calls has_below = record {
   document = document;
-  title = title;
+  head = head;
   rows = rows;
   says = says;
   nodes = nodes-named of given (map of given) (bytes p) finished.setup.nodes refl nodes;
@@ -68,7 +70,7 @@ svg-picture of bytes (Ok p) claims finished given below document title rows says
   calls = calls;
   below = has_below;
 }
-svg-picture of bytes (Err e) claims finished given below document title rows says nodes bars calls has_below = tt
+svg-picture of bytes (Err e) claims around finished given below document head rows says nodes bars calls has_below = tt
 
 -- what a page around a picture has
 pub page-picture : {S E : Type 0} (bytes : S → List ℕ) (made : Result S E) (claims : Claims) (finished : FinishedFilm) (names : List (List ℕ)) (below svg : List ℕ)

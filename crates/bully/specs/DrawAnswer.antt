@@ -14,10 +14,12 @@ use Rattle.bully_film.specs.Scene.{lane_of}
 use Rattle.bully_film.specs.Window.{WindowState, at_the_end, window_in}
 use Rattle.bully_picture.specs.Bars.{HasStands, shows_rows}
 use Rattle.bully_picture.specs.Drawn.{HasBelow, HasCalls, HasNodes, HasRows, HasSaid, scenes_shown}
+use Rattle.bully_picture.specs.Head.{HasHead}
 use Rattle.bully_picture.specs.Title.{Begins, Ends, Has, IsDocument, title_text}
 use Rattle.bully_picture.specs.Told.{HasToldAbove, told_from}
 use Rattle.bully_cli.specs.Words.{Drawn}
 use Rattle.bully_page.specs.Page.{HasLines, HasRowsOf, IsPage, headed, titled}
+use Rattle.bully_picture.specs.declared.around.Around.{Around}
 use Rattle.bully_picture.specs.declared.claims.Claims.{Claims}
 use Rattle.bully.specs.declared.drawing.Drawing.{Drawing}
 use Rattle.bully.specs.declared.drawing.Form.{Form}
@@ -48,11 +50,12 @@ pub record IsTextOf (finished : FinishedFilm) (text picture : List ℕ) : Type 0
       → HasToldAbove picture text finished.verdict finished.setup.nodes (told_from trace.setup is.before is.shown)
   pub below : Ends picture text
 
--- a picture as SVG: a document with its title, the numbers of all rows that are shown, and what they say, a name or a number of each node,
--- a bar of how each node stands, an arrow of each call in a slot, and this text below
-pub record IsSvgOf (claims : Claims) (finished : FinishedFilm) (names : List (List ℕ)) (text picture : List ℕ) : Type 0 where
+-- a picture as SVG: a document with its head, and the title if no page stands around it, the numbers of all rows that are shown, and what
+-- they say, a name or a number of each node, a bar of how each node stands, an arrow of each call in a slot, and this text below
+pub record IsSvgOf (claims : Claims) (around : Around) (finished : FinishedFilm) (names : List (List ℕ)) (text picture : List ℕ) : Type 0 where
   pub document : IsDocument picture
-  pub title : Has picture (title_text finished.verdict finished.setup.nodes finished.setup.partitions (row_before finished.scenes.items) (length finished.scenes.items))
+  pub head : HasHead picture around finished.verdict
+      (title_text finished.verdict finished.setup.nodes finished.setup.partitions (row_before finished.scenes.items) (length finished.scenes.items))
   pub rows : HasRows picture finished.verdict (scenes_shown claims finished.verdict finished.scenes.items)
   pub says : HasSaid picture finished.verdict (scenes_shown claims finished.verdict finished.scenes.items)
   pub nodes : HasNodes picture finished.setup.nodes (slice_get names)
@@ -71,11 +74,12 @@ pub record IsPageOf (claims : Claims) (finished : FinishedFilm) (names : List (L
   pub below : HasLines page text
   pub rows : HasRowsOf page claims finished.verdict finished.setup.nodes names finished.scenes.items
 
--- a picture of what a film shows, above this text: as text, as SVG, or as a page around that. Text has no names
+-- a picture of what a film shows, above this text: as text, as SVG, or as a page around that, which has title and text once. As text it has
+-- no names
 abbrev pub IsPictureIn : Form → Claims → FinishedFilm → List (List ℕ) → List ℕ → List ℕ → Type 0
 IsPictureIn Form.Text claims finished names below picture = IsTextOf finished below picture
-IsPictureIn Form.Svg claims finished names below picture = IsSvgOf claims finished names below picture
-IsPictureIn Form.Page claims finished names below picture = (svg : List ℕ) × IsSvgOf claims finished names below svg × IsPageOf claims finished names below svg picture
+IsPictureIn Form.Svg claims finished names below picture = IsSvgOf claims Around.Nothing finished names below picture
+IsPictureIn Form.Page claims finished names below picture = (svg : List ℕ) × IsSvgOf claims Around.Page finished names [] svg × IsPageOf claims finished names below svg picture
 
 -- the same above the row that decided
 abbrev pub IsPictureOf : Drawing → FinishedFilm → List (List ℕ) → List ℕ → Type 0

@@ -6,6 +6,7 @@
 //! looks is looked at.
 #![tactic(auto)]
 
+mod around;
 mod arrows;
 mod boxes;
 mod canvas;
@@ -19,6 +20,7 @@ mod page;
 mod paper;
 mod words;
 
+pub use around::Around;
 pub use claims::{Claims, is_shown};
 pub use columns::text_picture;
 pub use escaping::push_escaped;

@@ -1,16 +1,17 @@
 //! The picture as a whole.
-ghost use Rattle.std.specs.Prelude.{◌≡◌, ◌==◌, ◌++◌, [], codes, if◌then◌else◌, length, option_map, slice_get, IfOk, string_bytes};
+ghost use Rattle.std.specs.Prelude.{◌≡◌, ℕ, ◌==◌, ◌++◌, [], codes, if◌then◌else◌, length, option_map, slice_get, IfOk, string_bytes};
 ghost use Rattle.bully_film.specs.Film.{IsFilmOf};
 ghost use Rattle.bully_film.specs.Lane.{row_before};
 ghost use Rattle.bully_film.specs.Scene.{lane_of as lane_seen};
 ghost use Rattle.bully_film.specs.Window.{WindowState};
 ghost use Rattle.bully_picture.specs.Bars.{HasLaneBars, HasStands, shows_rows};
 ghost use Rattle.bully_picture.specs.Drawn.{AreNumbers, HasBelow, HasCalls, HasLanes, HasNodes, HasRows, HasSaid, below_label, scenes_shown};
+ghost use Rattle.bully_picture.specs.Head.{HasHead, head_text, title_line, title_start};
 ghost use Rattle.bully_picture.specs.Title.{Has, IsDocument, counted_text, shown_text, size_text, title_text};
 ghost use Rattle.bully_picture.specs.Written.{Extends, Gains, IsCopied, IsIn, Writes};
 ghost use Rattle.bully_rows.specs.Trace.{Trace};
-ghost use Rattle.bully_trace.specs.VerdictText.{verdict_head};
 
+use crate::around::Around;
 use crate::arrows::draw_calls;
 use crate::canvas::Canvas;
 use crate::claims::{Claims, is_shown};
@@ -40,7 +41,6 @@ const MARKERS: &str = "\
 
 // What stands behind the title: what the colours and signs mean.
 const LEGEND: &str = "\
-</text>\n\
 <line x1=\"70\" y1=\"36\" x2=\"70\" y2=\"52\" stroke=\"#aaa\" stroke-width=\"2\" stroke-dasharray=\"2 4\"/>\
 <text x=\"81\" y=\"48\" font-size=\"11\">down</text>\
 <rect x=\"122\" y=\"38\" width=\"12\" height=\"12\" fill=\"#E69F00\"/><text x=\"139\" y=\"48\" font-size=\"11\">election</text>\
@@ -54,17 +54,17 @@ const LETTERS: &str = "\
 
 /// The picture of what a film shows, with these names over the lanes, from node 1 on, and below it this text, a line each. It is an SVG
 /// document. Each row has its number and what it says, but for claims that are left out; each node its name, or its number where it has
-/// none; and each call that a slot holds behind a row, sent or run, its arrow. Refused where an allocation fails.
+/// none; and each call that a slot holds behind a row, sent or run, its arrow. In a page it has no title. Refused where an allocation fails.
 pub fn svg_picture(
     alloc: Global,
     finished: &FinishedFilm,
     names: &[&str],
     claims: Claims,
+    around: Around,
     below: &str,
 ) -> Result<String, OutOfMemory>
     ensures document { IfOk result (λ text. IsDocument (string_bytes text)) }
-    ensures verdict { IfOk result (λ text. Has (string_bytes text) (verdict_head finished.now.verdict)) }
-    ensures title { IfOk result (λ text. Has (string_bytes text)
+    ensures head { IfOk result (λ text. HasHead (string_bytes text) around finished.now.verdict
         (title_text finished.now.verdict finished.now.setup.nodes finished.now.setup.partitions (row_before finished.now.scenes.items) (length finished.now.scenes.items))) }
     ensures rows { IfOk result (λ text. HasRows (string_bytes text) finished.now.verdict (scenes_shown claims finished.now.verdict finished.now.scenes.items)) }
     ensures says { IfOk result (λ text. HasSaid (string_bytes text) finished.now.verdict (scenes_shown claims finished.now.verdict finished.now.scenes.items)) }
@@ -78,7 +78,7 @@ pub fn svg_picture(
     ensures below { IfOk result (λ text. HasBelow (string_bytes text) below.now) }
 {
     let mut canvas = Canvas::new(alloc, Layout::of(alloc, finished, claims)?);
-    let picture = picture_on(&mut canvas, finished, names, claims, below);
+    let picture = picture_on(&mut canvas, finished, names, claims, around, below);
     picture.into_text()
 }
 
@@ -88,10 +88,11 @@ fn picture_on(
     finished: &FinishedFilm,
     names: &[&str],
     claims: Claims,
+    around: Around,
     below: &str,
 ) -> Paper
     ensures document { IsIn result IsDocument }
-    ensures title { IsIn result (λ text. Has text
+    ensures head { IsIn result (λ text. HasHead text around finished.now.verdict
         (title_text finished.now.verdict finished.now.setup.nodes finished.now.setup.partitions (row_before finished.now.scenes.items) (length finished.now.scenes.items))) }
     ensures rows { IsIn result (λ text. HasRows text finished.now.verdict (scenes_shown claims finished.now.verdict finished.now.scenes.items)) }
     ensures says { IsIn result (λ text. HasSaid text finished.now.verdict (scenes_shown claims finished.now.verdict finished.now.scenes.items)) }
@@ -103,7 +104,15 @@ fn picture_on(
     ensures below { IsIn result (λ text. HasBelow text below.now) }
 {
     match lanes(canvas.alloc, finished) {
-        Ok(lanes) => picture_with(canvas, finished, lanes.as_slice(), names, claims, below),
+        Ok(lanes) => picture_with(
+            canvas,
+            finished,
+            lanes.as_slice(),
+            names,
+            claims,
+            around,
+            below,
+        ),
         Err(_) => Paper::failed(canvas.alloc),
     }
 }
@@ -115,10 +124,11 @@ fn picture_with(
     lanes: &[Lane],
     names: &[&str],
     claims: Claims,
+    around: Around,
     below: &str,
 ) -> Paper
     ensures document { IsIn result IsDocument }
-    ensures title { IsIn result (λ text. Has text
+    ensures head { IsIn result (λ text. HasHead text around finished.now.verdict
         (title_text finished.now.verdict finished.now.setup.nodes finished.now.setup.partitions (row_before finished.now.scenes.items) (length finished.now.scenes.items))) }
     ensures rows { IsIn result (λ text. HasRows text finished.now.verdict (scenes_shown claims finished.now.verdict finished.now.scenes.items)) }
     ensures says { IsIn result (λ text. HasSaid text finished.now.verdict (scenes_shown claims finished.now.verdict finished.now.scenes.items)) }
@@ -130,8 +140,8 @@ fn picture_with(
     let parts = draw(canvas, finished, lanes, names, claims, below);
     let mut picture = Paper::new(canvas.alloc);
     picture.push("<svg xmlns=\"http://www.w3.org/2000/svg\"");
-    push_head(&mut picture, &canvas.layout, finished.verdict, below);
-    push_title(&mut picture, finished);
+    push_head(&mut picture, &canvas.layout, below);
+    push_title_line(&mut picture, finished, around);
     push_parts(&mut picture, canvas, &parts);
     picture.push("</svg>\n");
     picture
@@ -276,9 +286,9 @@ fn height_of(layout: &Layout, below: &str) -> u32 {
         .saturating_add(BELOW)
 }
 
-// Writes the head of the document behind its first word, up to the words of the title.
-fn push_head(picture: &mut Paper, layout: &Layout, verdict: Verdict, below: &str)
-    ensures { Extends picture.old picture.new }
+// Writes the head of the document behind its first word.
+fn push_head(picture: &mut Paper, layout: &Layout, below: &str)
+    ensures { (width : ℕ) × (height : ℕ) × Writes picture.old picture.new (head_text width height) }
 {
     let width = width_of(layout);
     let height = height_of(layout, below);
@@ -287,16 +297,40 @@ fn push_head(picture: &mut Paper, layout: &Layout, verdict: Verdict, below: &str
     picture.push_point(" viewBox=\"0 0 ", width, height);
     picture.push("\" font-family=\"DejaVu Sans, sans-serif\">\n");
     picture.push(MARKERS);
-    picture.push(title_start(verdict));
+}
+
+// Writes the title of a picture that stands alone.
+fn push_title_line(picture: &mut Paper, finished: &FinishedFilm, around: Around)
+    ensures { Writes picture.old picture.new (title_line around finished.now.verdict
+        (title_text finished.now.verdict finished.now.setup.nodes finished.now.setup.partitions (row_before finished.now.scenes.items) (length finished.now.scenes.items))) }
+{
+    match around {
+        Around::Nothing => push_whole_title(picture, finished),
+        Around::Page => {}
+    }
+}
+
+// Writes the element of the title.
+fn push_whole_title(picture: &mut Paper, finished: &FinishedFilm)
+    ensures { Writes picture.old picture.new (title_line Around.Nothing finished.now.verdict
+        (title_text finished.now.verdict finished.now.setup.nodes finished.now.setup.partitions (row_before finished.now.scenes.items) (length finished.now.scenes.items))) }
+{
+    picture.push(title_start(finished.verdict));
+    push_title(picture, finished);
+    picture.push("</text>\n");
 }
 
 // What stands before the words of the title.
-fn title_start(verdict: Verdict) -> &'static str {
+fn title_start(verdict: Verdict) -> &'static str
+    ensures { result.now ≡ title_start verdict }
+{
     match verdict {
         Verdict::Lawful(_) => {
             "<text x=\"64\" y=\"24\" font-size=\"15\" font-weight=\"bold\" fill=\"#222\">"
         }
-        _ => { "<text x=\"64\" y=\"24\" font-size=\"15\" font-weight=\"bold\" fill=\"#D55E00\">" }
+        Verdict::Refused(_, _) | Verdict::Differs(_) => {
+            "<text x=\"64\" y=\"24\" font-size=\"15\" font-weight=\"bold\" fill=\"#D55E00\">"
+        }
     }
 }
 

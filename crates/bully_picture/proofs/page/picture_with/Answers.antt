@@ -4,15 +4,20 @@ use Rattle.bully_picture.specs.Bars.{shows_rows}
 use Rattle.bully_picture.proofs.BarLemmas.{bars-copied}
 use Rattle.bully_picture.proofs.DrawnLemmas.{below-copied, lanes-copied, nodes-copied}
 use Rattle.bully_picture.proofs.ShownLemmas.{rows-copied, said-copied}
-use Rattle.bully_picture.proofs.WrittenLemmas.{copied-still, document, extends-then, extends-written, written-in}
+use Rattle.bully_picture.proofs.WrittenLemmas.{begins-written, copied-still, document, extends-then, extends-written, writes-then}
 use Rattle.bully_picture.proofs.page.picture_with.Goals as goal
 
 pub returns-clause-document : goal.returns-clause-document
 returns-clause-document c =
-    document c.new-picture.ensures c.push.ensures (extends-then c.push_head.ensures (extends-then (extends-written c.push_title.ensures) c.push_parts.ensures.extends)) c.push-2.ensures
+    document c.new-picture.ensures c.push.ensures (extends-then (extends-written c.push_head.ensures.1.1) (extends-then (extends-written c.push_title_line.ensures) c.push_parts.ensures.extends)) c.push-2.ensures
 
-pub returns-clause-title : goal.returns-clause-title
-returns-clause-title c = written-in c.push_title.ensures (extends-then c.push_parts.ensures.extends (extends-written c.push-2.ensures))
+pub returns-clause-head : goal.returns-clause-head
+returns-clause-head c = λ good. (
+  c.push_head.ensures.0,
+  c.push_head.ensures.1.0,
+  begins-written c.new-picture.ensures (writes-then (writes-then c.push.ensures c.push_head.ensures.1.1) c.push_title_line.ensures)
+      (extends-then c.push_parts.ensures.extends (extends-written c.push-2.ensures)) good,
+)
 
 pub returns-clause-rows : goal.returns-clause-rows
 returns-clause-rows c = λ good.
