@@ -18,7 +18,7 @@ use Rattle.bully_picture.specs.Bars.{HasStands, shows_rows}
 use Rattle.bully_picture.specs.Drawn.{HasBelow, HasCalls, HasNodes, HasRows, HasSaid, node_label, scenes_shown}
 use Rattle.bully_picture.specs.Head.{HasHead}
 use Rattle.bully_picture.specs.Title.{Begins, Ends, Has, IsDocument, title_text}
-use Rattle.bully_picture.specs.Told.{HasToldAbove, told_from}
+use Rattle.bully_picture.specs.Told.{columns_text, told_from}
 use Rattle.bully_cli.specs.Words.{Drawn}
 use Rattle.bully_page.specs.Page.{HasLines, HasRowsOf, IsPage, headed, titled}
 use Rattle.bully_picture.specs.declared.around.Around.{Around}
@@ -36,10 +36,10 @@ use Rattle.bully.proofs.KnownBytesLemmas.{keeps-same}
 pub text-picture : {S E : Type 0} (bytes : S → List ℕ) (made : Result S E) (finished : FinishedFilm) (below : List ℕ)
     → IfOk made (λ p. Begins (bytes p) (verdict_head finished.verdict))
     → ((window : WindowState) (trace : Trace) (is : IsFilmOf window finished trace)
-    → IfOk made (λ p. HasToldAbove (bytes p) below finished.verdict finished.setup.nodes (told_from trace.setup is.before is.shown))) → IfOk made (λ p. Ends (bytes p) below)
+    → IfOk made (λ p. bytes p ≡ columns_text finished.verdict finished.setup.nodes (told_from trace.setup is.before is.shown) ++ below)) → IfOk made (λ p. Ends (bytes p) below)
     → IfOk made (λ p. IsTextOf finished below (bytes p))
-text-picture bytes (Ok p) finished below verdict rows ends = record { verdict = verdict; rows = rows; below = ends }
-text-picture bytes (Err e) finished below verdict rows ends = tt
+text-picture bytes (Ok p) finished below verdict whole ends = record { verdict = verdict; whole = whole; below = ends }
+text-picture bytes (Err e) finished below verdict whole ends = tt
 
 -- the names of the nodes, as the picture has them
 nodes-named : {A : Type 0} (of : A → List ℕ) (given : List A) (names : List (List ℕ)) (text : List ℕ) (nodes : ℕ) → map of given ≡ names

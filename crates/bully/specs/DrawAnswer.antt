@@ -1,5 +1,5 @@
 -- What the program answers to `draw`: the status, and what then stands on the output and on the errors.
-use Rattle.std.specs.Prelude.{◌≡◌, ◌⊎◌, ℕ, Bool, true, false, List, [], Option, Some, None, MatchOption, Ok, codes, length, slice_get, if◌then◌else◌}
+use Rattle.std.specs.Prelude.{◌≡◌, ◌⊎◌, ℕ, Bool, true, false, List, [], ◌++◌, Option, Some, None, MatchOption, Ok, codes, length, slice_get, if◌then◌else◌}
 use Rattle.std.specs.Io.KnownBytes.{Appends, Keeps}
 use Rattle.bully_rows.specs.declared.trace.Row.{Row}
 use Rattle.bully_rows.specs.Rows.{records_of, trace_of}
@@ -16,7 +16,7 @@ use Rattle.bully_picture.specs.Bars.{HasStands, shows_rows}
 use Rattle.bully_picture.specs.Drawn.{HasBelow, HasCalls, HasNodes, HasRows, HasSaid, scenes_shown}
 use Rattle.bully_picture.specs.Head.{HasHead}
 use Rattle.bully_picture.specs.Title.{Begins, Ends, Has, IsDocument, title_text}
-use Rattle.bully_picture.specs.Told.{HasToldAbove, told_from}
+use Rattle.bully_picture.specs.Told.{columns_text, told_from}
 use Rattle.bully_cli.specs.Words.{Drawn}
 use Rattle.bully_page.specs.Page.{HasLines, HasRowsOf, IsPage, headed, titled}
 use Rattle.bully_picture.specs.declared.around.Around.{Around}
@@ -42,12 +42,12 @@ abbrev pub IsBelow : Option Row → List ℕ → Type 0
 IsBelow None below = below ≡ []
 IsBelow (Some row) below = Begins below (line_of (row_fields row))
 
--- a picture as text: the verdict's line, lines of the rows that change something with how each node stands behind it, and this text below
--- them
+-- a picture as text: it begins with the verdict's line, and ends with this text; and it is all of the lines of the rows that change
+-- something, with how each node stands behind it, and nothing else
 pub record IsTextOf (finished : FinishedFilm) (text picture : List ℕ) : Type 0 where
   pub verdict : Begins picture (verdict_head finished.verdict)
-  pub rows : (window : WindowState) (trace : Trace) (is : IsFilmOf window finished trace)
-      → HasToldAbove picture text finished.verdict finished.setup.nodes (told_from trace.setup is.before is.shown)
+  pub whole : (window : WindowState) (trace : Trace) (is : IsFilmOf window finished trace)
+      → picture ≡ columns_text finished.verdict finished.setup.nodes (told_from trace.setup is.before is.shown) ++ text
   pub below : Ends picture text
 
 -- a picture as SVG: a document with its head, and the title if no page stands around it, the numbers of all rows that are shown, and what

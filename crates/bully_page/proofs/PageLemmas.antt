@@ -6,7 +6,7 @@ use Rattle.std.specs.Prelude.{if◌then◌else◌}
 use Rattle.std.proofs.lemmas.List.{append_assoc, append-nil}
 use Rattle.std.proofs.lemmas.List.Elements.{All-cons, All-nil, All-weaker}
 use Rattle.bully_picture.specs.Title.{Begins, Ends, Has}
-use Rattle.bully_picture.specs.Written.{IsIn, Writes, Written, blank}
+use Rattle.bully_picture.specs.Written.{IsIn, Writes, Written}
 use Rattle.bully_picture.proofs.WrittenLemmas.{has-more, has-within, writes-nothing}
 use Rattle.bully_page.specs.Page.{HasLines, IsPage, line_text, lines_text, page_end, page_start, titled}
 
@@ -44,10 +44,6 @@ lines-behind before text below has =
 -- what was written last ends the text
 pub ends-written : {a b : Written} {p : List ℕ} → Writes a b p → IsIn b (λ text. Ends text p)
 ends-written {a} {b} {p} written good = (a.text, written.text good)
-
--- what was written on an empty paper is all that stands there
-pub written-whole : {a b : Written} {p : List ℕ} → a ≡ blank → Writes a b p → IsIn b (λ text. text ≡ p)
-written-whole {a} {b} {p} empty written good = written.text good ∙ ap (λ (w : Written). w.text ++ p) empty
 
 -- each of the lines stands where all of them do
 pub lines-has : (text : List ℕ) (them : List (List ℕ)) → Has text (lines_text them) → All (λ line. Has text (line_text line)) them

@@ -8,8 +8,7 @@ use Rattle.bully_calls.specs.declared.call.PendingCall.{PendingCall}
 use Rattle.bully_calls.specs.declared.call.Phase.{Phase}
 use Rattle.bully_rows.specs.Words.{answer_word, status_word}
 use Rattle.bully_trace.specs.declared.verdict.Verdict.{Verdict}
-use Rattle.bully_trace.specs.Details.{same_answer, same_call, same_status}
-use Rattle.bully_world.specs.Turn.{same_node}
+use Rattle.bully_trace.specs.Details.{same_answer, same_call}
 use Rattle.bully_film.specs.declared.scene.Change.{Change}
 use Rattle.bully_film.specs.declared.scene.Scene.{Scene}
 use Rattle.bully_film.specs.declared.snapshot.NodeSnapshot.{NodeSnapshot}
@@ -18,7 +17,7 @@ use Rattle.bully_picture.specs.Drawn.{is_shown, kind_text, said_text}
 use Rattle.bully_trace.specs.OneRow.{decides}
 use Rattle.bully_picture.specs.Escaping.{escaped}
 use Rattle.bully_picture.specs.Title.{Has}
-use Rattle.bully_picture.specs.Words.{followed_text, meaning_text}
+use Rattle.bully_picture.specs.Words.{followed_text, is_same_stand, meaning_text}
 
 abbrev pub page_start : List ℕ
 page_start = codes "<!DOCTYPE html>\n"
@@ -89,9 +88,6 @@ abbrev pub cell_text : Bool → Bool → NodeSnapshot → List ℕ
 cell_text has_new_stand has_new_call node =
     codes " <td>" ++ bold_start has_new_stand ++ followed_text (status_word node.status) (codes " under ") node.coordinator ++ bold_end has_new_stand
     ++ codes "<br>" ++ bold_start has_new_call ++ slot_text node.call ++ bold_end has_new_call ++ codes "</td>"
-
-abbrev pub is_same_stand : NodeSnapshot → NodeSnapshot → Bool
-is_same_stand a b = same_status a.status b.status && same_node a.coordinator b.coordinator
 
 abbrev pub same_phase : Phase → Phase → Bool
 same_phase Phase.Sent Phase.Sent = true

@@ -1,11 +1,11 @@
 //! What a row changes.
 ghost use Rattle.std.specs.Prelude.{◌≡◌, map, option_map};
-ghost use Rattle.bully_page.specs.Page.{bold_end, bold_start, cell_text, change_text, changes_text, effects_text, getting_text, is_same_slot, is_same_stand, name_text, orphan_text, other_text, owners_text, phase_text, same_live, same_phase, slot_text, stop_text, table_text};
+ghost use Rattle.bully_page.specs.Page.{bold_end, bold_start, cell_text, change_text, changes_text, effects_text, getting_text, is_same_slot, name_text, orphan_text, other_text, owners_text, phase_text, same_live, same_phase, slot_text, stop_text, table_text};
 ghost use Rattle.bully_picture.specs.Written.{Writes};
 
 use bully_calls::{PendingCall, Phase};
 use bully_film::{Change, FinishedFilm, NodeSnapshot, Scene};
-use bully_picture::{Paper, kind_text, name_at, push_followed};
+use bully_picture::{Paper, is_same_stand, kind_text, name_at, push_followed};
 use bully_rows::{answer_word, status_word};
 use bully_table::Table;
 
@@ -66,13 +66,6 @@ fn push_name(page: &mut Paper, name: Option<&str>)
         page.push_escaped(name);
         page.push("</bdi>");
     }
-}
-
-// Whether both have the same status and the same coordinator.
-fn is_same_stand(one: &NodeSnapshot, other: &NodeSnapshot) -> bool
-    ensures { result ≡ is_same_stand one.now other.now }
-{
-    one.status == other.status && one.coordinator == other.coordinator
 }
 
 // Whether both slots hold the same call, equally far; or both none.

@@ -1,8 +1,9 @@
 -- The columns of a picture for a terminal.
-use Rattle.std.proofs.Common.{◌≡◌, ◌∙◌, ℕ, ◌+◌, ◌-◌, ◌++◌, List, [], ◌∷◌, length, replicate, ap, arith}
+use Rattle.std.proofs.Common.{◌≡◌, ◌∙◌, ℕ, ◌+◌, ◌-◌, ◌++◌, List, [], ◌∷◌, length, replicate, ap, refl, arith}
 use Rattle.std.specs.Prelude.{max}
 use Rattle.std.proofs.lemmas.List.{append_assoc, length-append, replicate_more}
-use Rattle.bully_picture.specs.Told.{filled}
+use Rattle.bully_picture.specs.declared.columns.Form.{Form}
+use Rattle.bully_picture.specs.Told.{filled, name_text, names_text}
 use Rattle.bully_picture.specs.Written.{Writes, Written}
 use Rattle.bully_picture.proofs.WrittenLemmas.{writes-as, writes-then}
 
@@ -20,3 +21,7 @@ column-filled width word a b c first second = record {
       second.text good ∙ ap (λ n. b.text ++ replicate (max 1 (width - n)) 32) long ∙ ap (λ t. t ++ replicate (max 1 (width - length word)) 32) written
       ∙ append_assoc a.text word (replicate (max 1 (width - length word)) 32);
 }
+
+-- one more head of a column
+pub names-more : (form : Form) (n : ℕ) → names_text form n ++ name_text form (n + 1) ≡ names_text form (n + 1)
+names-more form n = refl

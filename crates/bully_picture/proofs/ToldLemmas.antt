@@ -1,7 +1,7 @@
 -- The rows of a picture for a terminal, and how the nodes stand behind each.
-use Rattle.std.proofs.Common.{◌≡◌, ◌≢◌, ◌∙◌, ℕ, zero, suc, ◌+◌, ◌-◌, ◌<◌, ◌≤◌, ◌==◌, ◌++◌, Bool, true, false, List, [], ◌∷◌, get_or, length, take, refl, sym, ap, subst, arith}
+use Rattle.std.proofs.Common.{◌≡◌, ◌≢◌, ◌∙◌, ℕ, zero, suc, ◌+◌, ◌-◌, ◌<◌, ◌≤◌, ◌==◌, ◌++◌, Bool, true, false, List, [], ◌∷◌, drop, get_or, if◌then◌else◌, length, refl, sym, ap, arith}
 use Rattle.std.proofs.lemmas.Bool.Decides.{nat_tests}
-use Rattle.std.proofs.lemmas.List.{ext_get_or, take_all, take_more}
+use Rattle.std.proofs.lemmas.List.{append_assoc, at_drop_all, at_drop_more, ext_get_or}
 use Rattle.bully_base.proofs.PlaceLemmas.{at_node-place, at_node_other, at_node_same, length-put_node}
 use Rattle.bully_base.specs.Places.{at_node, put_node}
 use Rattle.bully_base.specs.Setup.{Setup}
@@ -18,91 +18,68 @@ use Rattle.bully_film.specs.Film.{IsFilmOf}
 use Rattle.bully_film.specs.Scene.{event_kind_in, node_in, place_at, scene_at, scenes_from, snapshot, snapshots_of, unseen}
 use Rattle.bully_film.specs.Window.{WindowState}
 use Rattle.bully_film.proofs.BehindLemmas.{behind-stays}
-use Rattle.bully_picture.specs.Title.{Has}
-use Rattle.bully_picture.specs.Told.{HasTold, IsTold, Told, stood, told_behind, told_from, told_line}
-use Rattle.bully_picture.specs.Written.{Extends, Gains, Writes, Written}
-use Rattle.bully_picture.proofs.WrittenLemmas.{extends-same, extends-then, extends-written, gains-later, gains-still, has-more, has-written, one-gained}
+use Rattle.bully_picture.specs.Told.{Told, is_told, quiet_text, stood, told_behind, told_from, told_line, told_text}
+use Rattle.bully_picture.specs.Written.{Writes, Written}
+use Rattle.bully_picture.proofs.WrittenLemmas.{writes-as, writes-nothing, writes-then}
 
--- ---- how the nodes stand, row by row
+-- ---- the lines, row by row
 
 abbrev pub told_of : Scene → List NodeSnapshot → Told
 told_of s nodes = record { scene = s; nodes = nodes }
 
--- the nodes behind these rows, before which they stand so
-abbrev pub stood_by : List NodeSnapshot → List Scene → List NodeSnapshot
-stood_by nodes [] = nodes
-stood_by nodes (s ∷ scenes) = stood_by (stood nodes s) scenes
+-- the lines of the rows that are left, of which this is the next one
+told-next : (verdict : Verdict) (nodes quiet : ℕ) (now behind : List NodeSnapshot) (scenes : List Scene) (i : ℕ) (s : Scene) → i < length scenes → s ≡ get_or scenes i s → behind ≡ stood now s
+    → told_text verdict nodes quiet (told_behind now (drop i scenes))
+    ≡ (if is_told verdict s then quiet_text quiet ++ told_line nodes (decides verdict s.number) (told_of s behind) ++ told_text verdict nodes 0 (told_behind behind (drop (i + 1) scenes))
+    else told_text verdict nodes (quiet + 1) (told_behind behind (drop (i + 1) scenes)))
+told-next verdict nodes quiet now behind scenes i s within is stands =
+    at_drop_more (λ (l : List Scene). told_text verdict nodes quiet (told_behind now l)) scenes i s within
+    ∙ ap (λ (one : Scene). told_text verdict nodes quiet (told_behind now (one ∷ drop (i + 1) scenes))) (sym is)
+    ∙ ap (λ (after : List NodeSnapshot). if is_told verdict s
+    then quiet_text quiet ++ told_line nodes (decides verdict s.number) (told_of s after) ++ told_text verdict nodes 0 (told_behind after (drop (i + 1) scenes))
+    else told_text verdict nodes (quiet + 1) (told_behind after (drop (i + 1) scenes))) (sym stands)
 
-stood-push : (nodes : List NodeSnapshot) (scenes : List Scene) (s : Scene) → stood_by nodes (scenes ++ s ∷ []) ≡ stood (stood_by nodes scenes) s
-stood-push nodes [] s = refl
-stood-push nodes (first ∷ scenes) s = stood-push (stood nodes first) scenes s
+-- so far the lines of rows were written: with those of the rest, behind so many rows that have none, they are all
+abbrev pub HasTold : Written → Written → Verdict → ℕ → ℕ → List Told → List Told → Type 0
+HasTold start now verdict nodes quiet rest rows =
+    (part : List ℕ) × Writes start now part × (part ++ told_text verdict nodes quiet rest ≡ told_text verdict nodes 0 rows)
 
-pub stood-more : (nodes : List NodeSnapshot) (scenes : List Scene) (i : ℕ) (s : Scene) → i < length scenes → s ≡ get_or scenes i s
-    → stood (stood_by nodes (take i scenes)) s ≡ stood_by nodes (take (i + 1) scenes)
-stood-more nodes scenes i s within is =
-    sym (ap (stood_by nodes) (take_more scenes i s within ∙ ap (λ (one : Scene). take i scenes ++ one ∷ []) (sym is)) ∙ stood-push nodes (take i scenes) s)
-
-length-told : (nodes : List NodeSnapshot) (scenes : List Scene) → length (told_behind nodes scenes) ≡ length scenes
-length-told nodes [] = refl
-length-told nodes (s ∷ scenes) = ap suc (length-told (stood nodes s) scenes)
-
-told-at : (nodes : List NodeSnapshot) (scenes : List Scene) (i : ℕ) (d : Told) (s : Scene) → i < length scenes
-    → get_or (told_behind nodes scenes) i d ≡ told_of (get_or scenes i s) (stood (stood_by nodes (take i scenes)) (get_or scenes i s))
-told-at nodes [] i d s within = absurd (omega (arith, within))
-told-at nodes (first ∷ scenes) zero d s within = refl
-told-at nodes (first ∷ scenes) (suc i) d s within = told-at (stood nodes first) scenes i d s (omega (arith, within))
-
--- ---- their lines
-
-abbrev pub has_line : Verdict → ℕ → List ℕ → Told → Type 0
-has_line verdict nodes text told = IsTold verdict told.scene → Has text (told_line nodes (decides verdict told.scene.number) told)
-
-line-more : (verdict : Verdict) (nodes : ℕ) (text more : List ℕ) (told : Told) → has_line verdict nodes text told → has_line verdict nodes (text ++ more) told
-line-more verdict nodes text more told has is = has-more (told_line nodes (decides verdict told.scene.number) told) text more (has is)
-
-one-told : (verdict : Verdict) (nodes : ℕ) (before : List NodeSnapshot) (scenes : List Scene) (i : ℕ) (s : Scene) (now : List NodeSnapshot) (start a b : Written) → i < length scenes → s ≡ get_or scenes i s
-    → now ≡ stood (stood_by before (take i scenes)) s
-    → Gains start a (λ text. HasTold text verdict nodes (take i (told_behind before scenes))) → Gains a b (λ text. has_line verdict nodes text (told_of s now))
-    → Gains start b (λ text. HasTold text verdict nodes (take (i + 1) (told_behind before scenes)))
-one-told verdict nodes before scenes i s now start a b within is stands so_far gained =
-    let told : Told = told_of s now in
-    let at : told ≡ get_or (told_behind before scenes) i told =
-    ap (λ (n : List NodeSnapshot). told_of s n) stands
-    ∙ ap (λ (one : Scene). told_of one (stood (stood_by before (take i scenes)) one)) is
-    ∙ sym (told-at before scenes i told s within) in
-    one-gained (has_line verdict nodes) (line-more verdict nodes) (told_behind before scenes) i told start a b
-    (omega (arith, within, length-told before scenes)) at so_far gained
+pub told-first : (start : Written) (verdict : Verdict) (nodes : ℕ) (rows : List Told) → HasTold start start verdict nodes 0 rows rows
+told-first start verdict nodes rows = ([], writes-nothing start, refl)
 
 -- a row that has its line
-pub told-line : (verdict : Verdict) (nodes : ℕ) (before : List NodeSnapshot) (scenes : List Scene) (i : ℕ) (s : Scene) (now : List NodeSnapshot) (start a q b : Written) → i < length scenes → s ≡ get_or scenes i s
-    → now ≡ stood (stood_by before (take i scenes)) s
-    → Gains start a (λ text. HasTold text verdict nodes (take i (told_behind before scenes))) → Extends a q
-    → Writes q b (told_line nodes (decides verdict s.number) (told_of s now))
-    → Gains start b (λ text. HasTold text verdict nodes (take (i + 1) (told_behind before scenes)))
-told-line verdict nodes before scenes i s now start a q b within is stands so_far quiet written =
-    one-told verdict nodes before scenes i s now start a b within is stands so_far
-    (record { extends = extends-then quiet (extends-written written); holds = λ good told. (has-written written).holds good })
+pub told-line : (verdict : Verdict) (nodes quiet : ℕ) (now behind : List NodeSnapshot) (scenes : List Scene) (rows : List Told) (i : ℕ) (s : Scene) (start a q b : Written)
+    → i < length scenes → s ≡ get_or scenes i s → behind ≡ stood now s → is_told verdict s ≡ true
+    → HasTold start a verdict nodes quiet (told_behind now (drop i scenes)) rows → Writes a q (quiet_text quiet)
+    → Writes q b (told_line nodes (decides verdict s.number) (told_of s behind)) → HasTold start b verdict nodes 0 (told_behind behind (drop (i + 1) scenes)) rows
+told-line verdict nodes quiet now behind scenes rows i s start a q b within is stands told (part, written, whole) between line =
+    let one = told_line nodes (decides verdict s.number) (told_of s behind) in
+    let rest = told_text verdict nodes 0 (told_behind behind (drop (i + 1) scenes)) in
+    let next : told_text verdict nodes quiet (told_behind now (drop i scenes)) ≡ quiet_text quiet ++ one ++ rest =
+    told-next verdict nodes quiet now behind scenes i s within is stands
+    ∙ ap (λ b. if b then quiet_text quiet ++ one ++ rest else told_text verdict nodes (quiet + 1) (told_behind behind (drop (i + 1) scenes))) told in
+    let apart : part ++ quiet_text quiet ++ one ++ rest ≡ part ++ (quiet_text quiet ++ one ++ rest) = simp append_assoc in
+    (part ++ quiet_text quiet ++ one, writes-then (writes-then written between) line, apart ∙ ap (λ t. part ++ t) (sym next) ∙ whole)
 
 -- a row that has none
-pub told-none : (verdict : Verdict) (nodes : ℕ) (before : List NodeSnapshot) (scenes : List Scene) (i : ℕ) (s : Scene) (now : List NodeSnapshot) (start a : Written) (speaks : Bool) → i < length scenes → s ≡ get_or scenes i s
-    → now ≡ stood (stood_by before (take i scenes)) s
-    → Gains start a (λ text. HasTold text verdict nodes (take i (told_behind before scenes))) → (IsTold verdict s → speaks ≡ true) → speaks ≡ false
-    → Gains start a (λ text. HasTold text verdict nodes (take (i + 1) (told_behind before scenes)))
-told-none verdict nodes before scenes i s now start a speaks within is stands so_far would doesnt =
-    one-told verdict nodes before scenes i s now start a a within is stands so_far
-    (record { extends = extends-same a; holds = λ good told. let clash : true ≡ false = sym (would told) ∙ doesnt in absurd (cc) })
+pub told-none : (verdict : Verdict) (nodes quiet : ℕ) (now behind : List NodeSnapshot) (scenes : List Scene) (rows : List Told) (i : ℕ) (s : Scene) (start a : Written)
+    → i < length scenes → s ≡ get_or scenes i s → behind ≡ stood now s → is_told verdict s ≡ false
+    → HasTold start a verdict nodes quiet (told_behind now (drop i scenes)) rows → HasTold start a verdict nodes (quiet + 1) (told_behind behind (drop (i + 1) scenes)) rows
+told-none verdict nodes quiet now behind scenes rows i s start a within is stands told (part, written, whole) =
+    let one = told_line nodes (decides verdict s.number) (told_of s behind) in
+    let rest = told_text verdict nodes 0 (told_behind behind (drop (i + 1) scenes)) in
+    let next : told_text verdict nodes quiet (told_behind now (drop i scenes)) ≡ told_text verdict nodes (quiet + 1) (told_behind behind (drop (i + 1) scenes)) =
+    told-next verdict nodes quiet now behind scenes i s within is stands
+    ∙ ap (λ b. if b then quiet_text quiet ++ one ++ rest else told_text verdict nodes (quiet + 1) (told_behind behind (drop (i + 1) scenes))) told in
+    (part, written, ap (λ t. part ++ t) (sym next) ∙ whole)
 
-pub told-all : (verdict : Verdict) (nodes : ℕ) (before : List NodeSnapshot) (xs scenes : List Scene) (i : ℕ) (first start a b : Written) → length xs ≤ i → xs ≡ scenes → Extends first start
-    → Gains start a (λ text. HasTold text verdict nodes (take i (told_behind before xs))) → Extends a b → Gains first b (λ text. HasTold text verdict nodes (told_behind before scenes))
-told-all verdict nodes before xs scenes i first start a b all same ahead so_far behind =
-    let whole : take i (told_behind before xs) ≡ told_behind before scenes =
-    take_all i (told_behind before xs) (omega (arith, all, length-told before xs)) ∙ ap (told_behind before) same in
-    gains-still (λ text. HasTold text verdict nodes (told_behind before scenes)) (told-more verdict nodes (told_behind before scenes))
-    (gains-later ahead (subst (λ l. Gains start a (λ text. HasTold text verdict nodes l)) whole so_far)) behind
-  where
-    told-more : (verdict : Verdict) (nodes : ℕ) (rows : List Told) (text more : List ℕ) → HasTold text verdict nodes rows → HasTold (text ++ more) verdict nodes rows
-    told-more verdict nodes rows text more has k d below told =
-        has-more (told_line nodes (decides verdict (get_or rows k d).scene.number) (get_or rows k d)) text more (has k d below told)
+-- all rows have theirs
+pub told-all : (verdict : Verdict) (nodes quiet : ℕ) (now : List NodeSnapshot) (scenes : List Scene) (rows : List Told) (i : ℕ) (start a b : Written) → length scenes ≤ i
+    → HasTold start a verdict nodes quiet (told_behind now (drop i scenes)) rows → Writes a b (quiet_text quiet) → Writes start b (told_text verdict nodes 0 rows)
+told-all verdict nodes quiet now scenes rows i start a b all (part, written, whole) between =
+    let end : told_text verdict nodes quiet (told_behind now (drop i scenes)) ≡ quiet_text quiet =
+    at_drop_all (λ (l : List Scene). told_text verdict nodes quiet (told_behind now l)) scenes i all in
+    writes-as (ap (λ t. part ++ t) (sym end) ∙ whole) (writes-then written between)
 
 -- ---- the world behind each row
 

@@ -118,6 +118,10 @@ begins-written {a} {b} {c} {p} empty written behind good =
     let grown = behind.text good in
     (grown.0, grown.1 ∙ ap (λ t. t ++ grown.0) (written.text (behind.memory good) ∙ ap (λ w. w.text ++ p) empty))
 
+-- what was written on an empty paper is all that stands there
+pub written-whole : {a b : Written} {p : List ℕ} → a ≡ blank → Writes a b p → IsIn b (λ text. text ≡ p)
+written-whole {a} {b} {p} empty written good = written.text good ∙ ap (λ (w : Written). w.text ++ p) empty
+
 -- a document has its ends
 pub document : {a b c d : Written} → a ≡ blank → Writes a b (codes "<svg xmlns=\"http://www.w3.org/2000/svg\"") → Extends b c → Writes c d (codes "</svg>\n") → IsIn d IsDocument
 document {a} {b} {c} {d} empty first middle last good =

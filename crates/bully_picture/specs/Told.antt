@@ -1,5 +1,5 @@
 -- What stands in a picture for a terminal: a line of each row that changes what a node is, with how all nodes stand behind it.
-use Rattle.std.specs.Prelude.{◌≡◌, ◌≢◌, ◌⊎◌, ℕ, ◌+◌, ◌-◌, Bool, true, false, List, [], ◌∷◌, ◌++◌, All, codes, length, max, nat_le, replicate, if◌then◌else◌}
+use Rattle.std.specs.Prelude.{ℕ, zero, suc, ◌+◌, ◌-◌, ◌/◌, ◌%◌, ◌==◌, ◌||◌, Bool, true, false, List, [], ◌∷◌, ◌++◌, codes, length, max, nat_le, nat_lt, not, replicate, if◌then◌else◌}
 use Rattle.std.specs.Fmt.{decimal}
 use Rattle.std.specs.List.{flat_map}
 use Rattle.bully_base.specs.declared.node.Status.{Status}
@@ -11,14 +11,13 @@ use Rattle.bully_film.specs.declared.scene.Change.{Change}
 use Rattle.bully_film.specs.declared.scene.Scene.{Scene}
 use Rattle.bully_film.specs.declared.snapshot.NodeSnapshot.{NodeSnapshot}
 use Rattle.bully_film.specs.Behind.{world_behind}
-use Rattle.bully_film.specs.Lane.{stand_of}
 use Rattle.bully_film.specs.Scene.{scene_at, snapshots_of}
 use Rattle.bully_trace.specs.OneRow.{decides}
+use Rattle.bully_trace.specs.VerdictText.{verdict_head}
 use Rattle.bully_picture.specs.declared.columns.Form.{Form}
 use Rattle.bully_picture.specs.declared.columns.TheConstants.{CHANGE}
 use Rattle.bully_picture.specs.Drawn.{bare_text}
-use Rattle.bully_picture.specs.Title.{Has}
-use Rattle.bully_picture.specs.Words.{followed_text, meaning_text}
+use Rattle.bully_picture.specs.Words.{followed_text, is_same_stand, meaning_text}
 use Rattle.bully_picture.specs.Written.{right_text}
 
 -- a row, and how the nodes stand behind it, from node 1 on
@@ -33,8 +32,8 @@ told_from setup before (row ∷ rows) =
     record { scene = scene_at setup before row; nodes = snapshots_of (world_behind setup (before ++ row ∷ [])) 1 setup.nodes } ∷ told_from setup (before ++ row ∷ []) rows
 
 -- the row decided, or it changes a status or a coordinator
-abbrev pub IsTold : Verdict → Scene → Type 0
-IsTold verdict s = (decides verdict s.number ≡ true) ⊎ (stand_of s.other.before ≢ stand_of s.other.after)
+abbrev pub is_told : Verdict → Scene → Bool
+is_told verdict s = decides verdict s.number || not (is_same_stand s.other.before s.other.after)
 
 -- ---- the columns
 
@@ -99,13 +98,53 @@ told_line nodes is_decided told =
     codes "\n" ++ right_text told.scene.number ++ codes "  " ++ cells_text (form_of nodes) told.nodes ++ change_text (form_of nodes) nodes told.scene.other
     ++ bare_text told.scene.event_kind told.scene.own.node ++ meaning_text is_decided told.scene
 
--- those of these rows have their lines, in a group of so many nodes
-abbrev pub HasTold : List ℕ → Verdict → ℕ → List Told → Type 0
-HasTold text verdict nodes rows = All (λ told. IsTold verdict told.scene → Has text (told_line nodes (decides verdict told.scene.number) told)) rows
+-- how many rows lie between, if any do
+abbrev pub quiet_text : ℕ → List ℕ
+quiet_text rows = if rows == 1 then codes "\n    ... 1 row" else (if nat_lt 1 rows then codes "\n    ... " ++ decimal rows ++ codes " rows" else [])
 
--- they have them above this text, with which the whole ends
-abbrev pub HasToldAbove : List ℕ → List ℕ → Verdict → ℕ → List Told → Type 0
-HasToldAbove text below verdict nodes rows = (above : List ℕ) × (text ≡ above ++ below) × HasTold above verdict nodes rows
+-- the lines of rows, behind so many that have none: of those that are told, and how many lie between
+abbrev pub told_text : Verdict → ℕ → ℕ → List Told → List ℕ
+told_text verdict nodes quiet [] = quiet_text quiet
+told_text verdict nodes quiet (told ∷ rows) =
+    if is_told verdict told.scene then quiet_text quiet ++ told_line nodes (decides verdict told.scene.number) told ++ told_text verdict nodes 0 rows
+    else told_text verdict nodes (quiet + 1) rows
+
+-- ---- the heads of the columns
+
+-- what stands before them: what the letters mean, if there are any, and the head of the row's number
+abbrev pub front_text : Form → List ℕ
+front_text Form.Words = codes "    row  "
+front_text Form.Short = codes "- down, E election, R reorganization, N normal\n    row  "
+front_text Form.Letters = codes "- down, E election, R reorganization, N normal\n    row  "
+front_text Form.Changes = codes "    row  "
+
+-- behind them: the head of what the row changes, if that stands behind them, and of what it says
+abbrev pub back_text : Form → List ℕ
+back_text Form.Words = codes "what it says"
+back_text Form.Short = codes "what it says"
+back_text Form.Letters = codes "  changes       what it says"
+back_text Form.Changes = codes "  changes       what it says"
+
+-- that of a node: its number; of a column of one letter a mark, with the tens at each tenth
+abbrev pub name_text : Form → ℕ → List ℕ
+name_text Form.Words i = filled (column_of Form.Words) (decimal i)
+name_text Form.Short i = filled (column_of Form.Short) (decimal i)
+name_text Form.Letters i = if i % 10 == 0 then decimal (i / 10 % 10) else codes "."
+name_text Form.Changes i = []
+
+-- those of the first n nodes
+abbrev pub names_text : Form → ℕ → List ℕ
+names_text form zero = []
+names_text form (suc n) = names_text form n ++ name_text form (n + 1)
+
+abbrev pub heads_text : ℕ → List ℕ
+heads_text nodes = front_text (form_of nodes) ++ names_text (form_of nodes) nodes ++ back_text (form_of nodes)
+
+-- ---- the picture
+
+-- above the text below: the verdict, the heads of the columns, and the lines of the rows
+abbrev pub columns_text : Verdict → ℕ → List Told → List ℕ
+columns_text verdict nodes rows = verdict_head verdict ++ (heads_text nodes ++ told_text verdict nodes 0 rows ++ codes "\n")
 
 -- ---- how the nodes stand behind each row, out of what the rows show
 

@@ -1,9 +1,11 @@
 -- The words of a picture: how a node stands, and what a row does.
-use Rattle.std.specs.Prelude.{ℕ, Bool, List, [], ◌++◌, Option, Some, None, codes, if◌then◌else◌}
+use Rattle.std.specs.Prelude.{ℕ, Bool, List, [], ◌++◌, ◌&&◌, Option, Some, None, codes, if◌then◌else◌}
 use Rattle.std.specs.Fmt.{decimal}
 use Rattle.bully_base.specs.declared.node.Status.{Status}
 use Rattle.bully_calls.specs.declared.kind.EventKind.{EventKind}
 use Rattle.bully_calls.specs.declared.kind.NodeEventKind.{NodeEventKind}
+use Rattle.bully_trace.specs.Details.{same_status}
+use Rattle.bully_world.specs.Turn.{same_node}
 use Rattle.bully_film.specs.declared.scene.Scene.{Scene}
 use Rattle.bully_film.specs.declared.snapshot.NodeSnapshot.{NodeSnapshot}
 use Rattle.bully_film.specs.Lane.{is_orphan}
@@ -12,6 +14,10 @@ use Rattle.bully_film.specs.Lane.{is_orphan}
 abbrev pub behind_words : List ℕ → Option ℕ → List ℕ
 behind_words between None = []
 behind_words between (Some i) = between ++ decimal i ++ []
+
+-- both have the same status and the same coordinator
+abbrev pub is_same_stand : NodeSnapshot → NodeSnapshot → Bool
+is_same_stand a b = same_status a.status b.status && same_node a.coordinator b.coordinator
 
 -- a word of how a node stands, and behind these words whom it follows
 abbrev pub followed_text : List ℕ → List ℕ → Option ℕ → List ℕ

@@ -1,20 +1,21 @@
 //! The picture for a terminal: a line for each row that changes what a node is.
-ghost use Rattle.std.specs.Prelude.{◌≡◌, ◌≤◌, ◌-◌, [], ◌∷◌, ◌++◌, true, length, max, replicate, IfOk, OnOk, string_bytes};
+ghost use Rattle.std.specs.Prelude.{◌≡◌, ◌≤◌, ◌-◌, [], ◌∷◌, ◌++◌, codes, length, max, replicate, IfOk, OnOk, string_bytes};
+ghost use Rattle.std.specs.Fmt.{decimal};
 ghost use Rattle.bully_base.specs.Places.{put_node};
 ghost use Rattle.bully_film.specs.Behind.{world_behind};
 ghost use Rattle.bully_film.specs.Film.{IsFilmOf};
 ghost use Rattle.bully_film.specs.Scene.{snapshot, snapshots_of};
 ghost use Rattle.bully_film.specs.Window.{WindowState};
 ghost use Rattle.bully_picture.specs.Title.{Begins, Ends};
-ghost use Rattle.bully_picture.specs.Told.{HasTold, HasToldAbove, IsTold, cell_text, cells_text, change_text, change_words, column_letter, column_of, column_word, filled, form_of, tells_change, told_behind, told_from, told_line};
+ghost use Rattle.bully_picture.specs.Told.{back_text, cell_text, cells_text, change_text, change_words, column_letter, column_of, column_word, columns_text, filled, form_of, front_text, heads_text, is_told, name_text, names_text, quiet_text, tells_change, told_behind, told_from, told_line, told_text};
 ghost use Rattle.bully_picture.specs.Words.{followed_text};
-ghost use Rattle.bully_picture.specs.Written.{Extends, Gains, Writes};
+ghost use Rattle.bully_picture.specs.Written.{Extends, Writes};
 ghost use Rattle.bully_rows.specs.Trace.{Trace};
 ghost use Rattle.bully_trace.specs.OneRow.{decides};
 ghost use Rattle.bully_trace.specs.VerdictText.{verdict_head};
 
 use crate::paper::Paper;
-use crate::words::{push_followed, push_meaning, push_row_text};
+use crate::words::{is_same_stand, push_followed, push_meaning, push_row_text};
 use bully_base::{Node, OutOfMemory, Status};
 use bully_film::{Change, FinishedFilm, NodeSnapshot, Scene, lane_of};
 use std::alloc::{AllocError, Global};
@@ -62,7 +63,9 @@ impl Form {
     }
 
     // What stands before the heads of the columns: what the letters mean, where there are any, and the head of the row's number.
-    fn front(self) -> &'static str {
+    fn front(self) -> &'static str
+        ensures { result.now ≡ front_text self }
+    {
         match self {
             Form::Words | Form::Changes => "    row  ",
             Form::Short | Form::Letters => {
@@ -72,7 +75,9 @@ impl Form {
     }
 
     // What stands behind the heads of the columns: the head of what the row changes, where that stands behind them, and of its text.
-    fn back(self) -> &'static str {
+    fn back(self) -> &'static str
+        ensures { result.now ≡ back_text self }
+    {
         match self {
             Form::Words | Form::Short => "what it says",
             Form::Letters | Form::Changes => "  changes       what it says",
@@ -94,8 +99,8 @@ pub fn text_picture(
     ensures verdict { IfOk result (λ text. Begins (string_bytes text) (verdict_head finished.now.verdict)) }
 
     // Each node stands in the line of a row as it does in the world behind it.
-    ensures rows { (window : WindowState) (trace : Trace) (is : IsFilmOf window finished.now trace)
-        → IfOk result (λ text. HasToldAbove (string_bytes text) below.now finished.now.verdict finished.now.setup.nodes (told_from trace.setup is.before is.shown)) }
+    ensures whole { (window : WindowState) (trace : Trace) (is : IsFilmOf window finished.now trace)
+        → IfOk result (λ text. string_bytes text ≡ columns_text finished.now.verdict finished.now.setup.nodes (told_from trace.setup is.before is.shown) ++ below.now) }
     ensures below { IfOk result (λ text. Ends (string_bytes text) below.now) }
 {
     let mut text = lines_of(alloc, finished)?;
@@ -106,8 +111,8 @@ pub fn text_picture(
 // The verdict and the lines of the rows.
 fn lines_of(alloc: Global, finished: &FinishedFilm) -> Result<String, OutOfMemory>
     ensures verdict { IfOk result (λ text. Begins (string_bytes text) (verdict_head finished.now.verdict)) }
-    ensures rows { (window : WindowState) (trace : Trace) (is : IsFilmOf window finished.now trace)
-        → IfOk result (λ text. HasTold (string_bytes text) finished.now.verdict finished.now.setup.nodes (told_from trace.setup is.before is.shown)) }
+    ensures whole { (window : WindowState) (trace : Trace) (is : IsFilmOf window finished.now trace)
+        → IfOk result (λ text. string_bytes text ≡ columns_text finished.now.verdict finished.now.setup.nodes (told_from trace.setup is.before is.shown)) }
 {
     let mut lines = Paper::new(alloc);
     lines.push_verdict(finished.verdict);
@@ -115,11 +120,12 @@ fn lines_of(alloc: Global, finished: &FinishedFilm) -> Result<String, OutOfMemor
     lines.into_text()
 }
 
-// Writes the lines of the rows.
+// Writes the heads of the columns and the lines of the rows.
 fn push_lines(alloc: Global, lines: &mut Paper, finished: &FinishedFilm) -> Result<(), OutOfMemory>
     ensures extends { OnOk result (Extends lines.old lines.new) }
-    ensures rows { (window : WindowState) (trace : Trace) (is : IsFilmOf window finished.now trace)
-        → OnOk result (Gains lines.old lines.new (λ text. HasTold text finished.now.verdict finished.now.setup.nodes (told_from trace.setup is.before is.shown))) }
+    ensures whole { (window : WindowState) (trace : Trace) (is : IsFilmOf window finished.now trace)
+        → OnOk result (Writes lines.old lines.new
+        (heads_text finished.now.setup.nodes ++ told_text finished.now.verdict finished.now.setup.nodes 0 (told_from trace.setup is.before is.shown) ++ codes "\n")) }
 {
     let mut now = Vec::with_capacity(alloc, usize::from(finished.setup.nodes()))?;
     push_starts(alloc, &mut now, finished)?;
@@ -165,12 +171,22 @@ fn push_start(
     }
 }
 
-// Writes the lines of the rows, before which the nodes stand so. Each line begins with the line feed of the one before it.
+// Writes the heads of the columns and the lines of the rows, before which the nodes stand so. Each line begins with the line feed of the
+// one before it.
 fn push_rows(lines: &mut Paper, finished: &FinishedFilm, now: &mut [NodeSnapshot])
-    ensures { Gains lines.old lines.new (λ text. HasTold text finished.now.verdict finished.now.setup.nodes (told_behind now.old finished.now.scenes.items)) }
+    ensures { Writes lines.old lines.new
+        (heads_text finished.now.setup.nodes ++ told_text finished.now.verdict finished.now.setup.nodes 0 (told_behind now.old finished.now.scenes.items) ++ codes "\n") }
 {
-    push_names(lines, finished.setup.nodes());
-    let mut quiet = 0u32;
+    push_heads(lines, finished.setup.nodes());
+    push_told(lines, finished, now);
+    lines.push("\n");
+}
+
+// Writes the lines of the rows.
+fn push_told(lines: &mut Paper, finished: &FinishedFilm, now: &mut [NodeSnapshot])
+    ensures { Writes lines.old lines.new (told_text finished.now.verdict finished.now.setup.nodes 0 (told_behind now.old finished.now.scenes.items)) }
+{
+    let mut quiet = 0usize;
     for scene in finished.scenes.as_slice() {
         put(now, &scene.other);
         put(now, &scene.own);
@@ -179,20 +195,18 @@ fn push_rows(lines: &mut Paper, finished: &FinishedFilm, now: &mut [NodeSnapshot
             quiet = 0;
             push_line(lines, finished, scene, now);
         } else {
-            quiet = quiet.saturating_add(1);
+            quiet += 1;
         }
     }
     push_quiet(lines, quiet);
-    lines.push("\n");
 }
 
 // Whether the row has a line: it changes what a node is, or it decided.
 fn speaks(finished: &FinishedFilm, scene: &Scene) -> bool
-    ensures { IsTold finished.now.verdict scene.now → result ≡ true }
+    ensures { result ≡ is_told finished.now.verdict scene.now }
 {
     finished.verdict.decides(scene.number)
-        || scene.other.before.status != scene.other.after.status
-        || scene.other.before.coordinator != scene.other.after.coordinator
+        || !is_same_stand(&scene.other.before, &scene.other.after)
 }
 
 // The node stands as it does behind the change, if it is one of these.
@@ -206,43 +220,64 @@ fn put(now: &mut [NodeSnapshot], change: &Change)
 }
 
 // Writes what the letters mean, and the heads of the columns.
-fn push_names(lines: &mut Paper, nodes: u16)
-    ensures { Extends lines.old lines.new }
+fn push_heads(lines: &mut Paper, nodes: u16)
+    ensures { Writes lines.old lines.new (heads_text nodes) }
 {
     let form = Form::of(nodes);
     lines.push(form.front());
-    for before in 0..nodes {
-        push_name(lines, before.saturating_add(1), form);
-    }
+    push_names(lines, form, nodes);
     lines.push(form.back());
 }
 
-// Writes the head of a node's column: its number; of a column of one letter a mark, with the tens at each tenth.
-fn push_name(lines: &mut Paper, number: u16, form: Form)
-    ensures { Extends lines.old lines.new }
+// Writes the heads of the nodes' columns.
+fn push_names(lines: &mut Paper, form: Form, nodes: u16)
+    ensures { Writes lines.old lines.new (names_text form nodes) }
 {
-    let start = lines.len();
+    for before in 0..nodes {
+        push_name(lines, form, before + 1);
+    }
+}
+
+// Writes the head of a node's column: its number; of a column of one letter a mark, with the tens at each tenth.
+fn push_name(lines: &mut Paper, form: Form, number: u16)
+    ensures { Writes lines.old lines.new (name_text form number) }
+{
     match form {
-        Form::Words | Form::Short => {
-            lines.push_number("", u32::from(number), "");
-            fill(lines, start, form.column());
-        }
-        Form::Letters if number.is_multiple_of(10) => {
-            lines.push_number("", u32::from(number / 10 % 10), "");
-        }
-        Form::Letters => lines.push("."),
+        Form::Words => push_number(lines, number, form.column()),
+        Form::Short => push_number(lines, number, form.column()),
+        Form::Letters => push_mark(lines, number),
         Form::Changes => {}
     }
 }
 
-// Writes how many rows lie between; nothing where there are none.
-fn push_quiet(lines: &mut Paper, quiet: u32)
-    ensures { Extends lines.old lines.new }
+// Writes a number in a column.
+fn push_number(lines: &mut Paper, number: u16, column: usize)
+    ensures { Writes lines.old lines.new (filled column (decimal number)) }
 {
-    match quiet {
-        0 => {}
-        1 => lines.push("\n    ... 1 row"),
-        _ => lines.push_number("\n    ... ", quiet, " rows"),
+    let start = lines.len();
+    lines.push_number("", u32::from(number), "");
+    fill(lines, start, column);
+}
+
+// Writes the mark of a node in a column of one letter.
+fn push_mark(lines: &mut Paper, number: u16)
+    ensures { Writes lines.old lines.new (name_text Form.Letters number) }
+{
+    if number % 10 == 0 {
+        lines.push_number("", u32::from(number / 10 % 10), "");
+    } else {
+        lines.push(".");
+    }
+}
+
+// Writes how many rows lie between; nothing where there are none.
+fn push_quiet(lines: &mut Paper, quiet: usize)
+    ensures { Writes lines.old lines.new (quiet_text quiet) }
+{
+    if quiet == 1 {
+        lines.push("\n    ... 1 row");
+    } else if quiet > 1 {
+        lines.push_count("\n    ... ", quiet as u128, " rows");
     }
 }
 

@@ -27,4 +27,4 @@ pub use escaping::push_escaped;
 pub use lanes::name_at;
 pub use page::{push_title, svg_picture};
 pub use paper::Paper;
-pub use words::{kind_text, push_followed, push_meaning, push_said};
+pub use words::{is_same_stand, kind_text, push_followed, push_meaning, push_said};

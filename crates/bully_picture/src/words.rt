@@ -3,7 +3,7 @@ ghost use Rattle.std.specs.Prelude.{◌≡◌, codes, if◌then◌else◌, None,
 ghost use Rattle.bully_film.specs.Lane.{is_orphan};
 ghost use Rattle.bully_picture.specs.Bars.{stand_text};
 ghost use Rattle.bully_picture.specs.Drawn.{bare_text, kind_text, row_word, said_text};
-ghost use Rattle.bully_picture.specs.Words.{behind_colon, behind_words, followed_text, meaning, meaning_text, move_meaning};
+ghost use Rattle.bully_picture.specs.Words.{behind_colon, behind_words, followed_text, is_same_stand, meaning, meaning_text, move_meaning};
 ghost use Rattle.bully_picture.specs.Written.{Writes};
 
 use crate::paper::Paper;
@@ -57,6 +57,13 @@ fn push_behind(paper: &mut Paper, between: &'static str, coordinator: Option<Nod
     if let Some(node) = coordinator {
         paper.push_node(between, node, "");
     }
+}
+
+/// Whether both have the same status and the same coordinator.
+pub fn is_same_stand(one: &NodeSnapshot, other: &NodeSnapshot) -> bool
+    ensures { result ≡ is_same_stand one.now other.now }
+{
+    one.status == other.status && one.coordinator == other.coordinator
 }
 
 /// The call as a letter, for where words have no room.

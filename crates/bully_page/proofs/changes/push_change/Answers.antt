@@ -1,7 +1,8 @@
 use Rattle.std.proofs.Common.{◌≡◌, ◌∙◌, ◌-◌, ap, map, sym}
 use Rattle.std.specs.Prelude.{not, option_map, slice_get}
 use Rattle.std.proofs.lemmas.Option.{slice_get-map}
-use Rattle.bully_page.specs.Page.{cell_text, is_same_slot, is_same_stand, name_text}
+use Rattle.bully_page.specs.Page.{cell_text, is_same_slot, name_text}
+use Rattle.bully_picture.specs.Words.{is_same_stand}
 use Rattle.bully_picture.proofs.WrittenLemmas.{writes-as, writes-then}
 use Rattle.bully_page.proofs.changes.push_change.Goals as goal
 

@@ -1,6 +1,6 @@
 use Rattle.std.specs.Str.Lines.{lines}
-use Rattle.bully_picture.proofs.WrittenLemmas.{extends-then, extends-written, writes-then, written-in}
-use Rattle.bully_page.proofs.PageLemmas.{ends-written, lines-has, written-whole}
+use Rattle.bully_picture.proofs.WrittenLemmas.{extends-then, extends-written, writes-then, written-in, written-whole}
+use Rattle.bully_page.proofs.PageLemmas.{ends-written, lines-has}
 use Rattle.bully_page.proofs.page.behind_of.Goals as goal
 
 pub returns-clause-ends : goal.returns-clause-ends

@@ -1,5 +1,4 @@
-use Rattle.bully_picture.proofs.WrittenLemmas.{begins-written, extends-then, extends-written, writes-then, written-in}
-use Rattle.bully_page.proofs.PageLemmas.{written-whole}
+use Rattle.bully_picture.proofs.WrittenLemmas.{begins-written, extends-then, extends-written, writes-then, written-in, written-whole}
 use Rattle.bully_page.proofs.page.front_of.Goals as goal
 
 pub returns-clause-begins : goal.returns-clause-begins

@@ -1,5 +1,10 @@
-use Rattle.bully_picture.specs.Written.{Extends}
+use Rattle.std.proofs.Common.{◌≡◌}
+use Rattle.bully_picture.specs.Told.{names_text}
+use Rattle.bully_picture.specs.Written.{Writes}
 use Rattle.bully_picture.proofs.columns.push_names.Given as goal
 
 abbrev pub invariant-loop-before : goal.invariant-loop-before
-invariant-loop-before l = Extends l.initial.lines l.lines
+invariant-loop-before l = record {
+  names : Writes l.initial.lines l.lines (names_text l.form l.before);
+  end : l.before-end ≡ l.nodes;
+}

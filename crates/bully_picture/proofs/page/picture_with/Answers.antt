@@ -9,13 +9,13 @@ use Rattle.bully_picture.proofs.page.picture_with.Goals as goal
 
 pub returns-clause-document : goal.returns-clause-document
 returns-clause-document c =
-    document c.new-picture.ensures c.push.ensures (extends-then (extends-written c.push_head.ensures.1.1) (extends-then (extends-written c.push_title_line.ensures) c.push_parts.ensures.extends)) c.push-2.ensures
+    document c.new-picture.ensures c.push.ensures (extends-then (extends-written c.push_head.ensures.2) (extends-then (extends-written c.push_title_line.ensures) c.push_parts.ensures.extends)) c.push-2.ensures
 
 pub returns-clause-head : goal.returns-clause-head
 returns-clause-head c = λ good. (
   c.push_head.ensures.0,
-  c.push_head.ensures.1.0,
-  begins-written c.new-picture.ensures (writes-then (writes-then c.push.ensures c.push_head.ensures.1.1) c.push_title_line.ensures)
+  c.push_head.ensures.1,
+  begins-written c.new-picture.ensures (writes-then (writes-then c.push.ensures c.push_head.ensures.2) c.push_title_line.ensures)
       (extends-then c.push_parts.ensures.extends (extends-written c.push-2.ensures)) good,
 )
 
