@@ -20,7 +20,7 @@ use Rattle.bully_picture.specs.Head.{HasHead}
 use Rattle.bully_picture.specs.Title.{Begins, Ends, Has, IsDocument, title_text}
 use Rattle.bully_picture.specs.Told.{columns_text, told_from}
 use Rattle.bully_cli.specs.Words.{Drawn}
-use Rattle.bully_page.specs.Page.{HasLines, HasRowsOf, IsPage, headed, titled}
+use Rattle.bully_page.specs.Page.{HasLines, HasRowsOf, IsPage, headed, page_text, rows_text, titled}
 use Rattle.bully_picture.specs.declared.around.Around.{Around}
 use Rattle.bully_picture.specs.declared.claims.Claims.{Claims}
 use Rattle.bully.specs.declared.drawing.Drawing.{Drawing}
@@ -74,17 +74,20 @@ svg-picture of bytes (Err e) claims around finished given below document head ro
 
 -- what a page around a picture has
 pub page-picture : {S E : Type 0} (bytes : S → List ℕ) (made : Result S E) (claims : Claims) (finished : FinishedFilm) (names : List (List ℕ)) (below svg : List ℕ)
-    → IsSvgOf claims finished names below svg → IfOk made (λ p. IsPage (bytes p))
+    → IsSvgOf claims Around.Page finished names [] svg → IfOk made (λ p. IsPage (bytes p))
     → IfOk made (λ p. Has (bytes p)
     (titled (title_text finished.verdict finished.setup.nodes finished.setup.partitions (row_before finished.scenes.items) (length finished.scenes.items))))
     → IfOk made (λ p. Has (bytes p)
     (headed (title_text finished.verdict finished.setup.nodes finished.setup.partitions (row_before finished.scenes.items) (length finished.scenes.items))))
     → IfOk made (λ p. Has (bytes p) svg) → IfOk made (λ p. HasLines (bytes p) below)
     → IfOk made (λ p. HasRowsOf (bytes p) claims finished.verdict finished.setup.nodes names finished.scenes.items)
+    → IfOk made (λ p. bytes p ≡ page_text
+    (title_text finished.verdict finished.setup.nodes finished.setup.partitions (row_before finished.scenes.items) (length finished.scenes.items))
+    svg below (rows_text claims finished.verdict finished.setup.nodes names finished.scenes.items))
     → IfOk made (λ p. IsPictureIn Form.Page claims finished names below (bytes p))
-page-picture bytes (Ok p) claims finished names below svg is document title heading picture lines rows =
-    (svg, is, record { document = document; title = title; heading = heading; picture = picture; below = lines; rows = rows })
-page-picture bytes (Err e) claims finished names below svg is document title heading picture lines rows = tt
+page-picture bytes (Ok p) claims finished names below svg is document title heading picture lines rows whole =
+    (svg, is, record { document = document; title = title; heading = heading; picture = picture; below = lines; rows = rows; whole = whole })
+page-picture bytes (Err e) claims finished names below svg is document title heading picture lines rows whole = tt
 
 -- a picture above the row that decided, with the names of the configuration
 pub picture-above : {S E : Type 0} (bytes : S → List ℕ) (made : Result S E) (drawing : Drawing) (finished : FinishedFilm) (given names : List (List ℕ)) (below : List ℕ)

@@ -18,7 +18,7 @@ use Rattle.bully_picture.specs.Head.{HasHead}
 use Rattle.bully_picture.specs.Title.{Begins, Ends, Has, IsDocument, title_text}
 use Rattle.bully_picture.specs.Told.{columns_text, told_from}
 use Rattle.bully_cli.specs.Words.{Drawn}
-use Rattle.bully_page.specs.Page.{HasLines, HasRowsOf, IsPage, headed, titled}
+use Rattle.bully_page.specs.Page.{HasLines, HasRowsOf, IsPage, headed, page_text, rows_text, titled}
 use Rattle.bully_picture.specs.declared.around.Around.{Around}
 use Rattle.bully_picture.specs.declared.claims.Claims.{Claims}
 use Rattle.bully.specs.declared.drawing.Drawing.{Drawing}
@@ -65,7 +65,8 @@ pub record IsSvgOf (claims : Claims) (around : Around) (finished : FinishedFilm)
       → HasCalls picture finished.setup.nodes (row_before finished.scenes.items) (λ i. lane_of trace.setup is.before i is.shown)
   pub below : HasBelow picture text
 
--- a page: a document with its title and heading, this picture, this text below it, and exactly the rows that are shown, with what they change
+-- a page: a document with its title and heading, this picture, this text below it, and exactly the rows that are shown, with what they
+-- change; and nothing else
 pub record IsPageOf (claims : Claims) (finished : FinishedFilm) (names : List (List ℕ)) (text svg page : List ℕ) : Type 0 where
   pub document : IsPage page
   pub title : Has page (titled (title_text finished.verdict finished.setup.nodes finished.setup.partitions (row_before finished.scenes.items) (length finished.scenes.items)))
@@ -73,6 +74,9 @@ pub record IsPageOf (claims : Claims) (finished : FinishedFilm) (names : List (L
   pub picture : Has page svg
   pub below : HasLines page text
   pub rows : HasRowsOf page claims finished.verdict finished.setup.nodes names finished.scenes.items
+  pub whole : page ≡ page_text
+      (title_text finished.verdict finished.setup.nodes finished.setup.partitions (row_before finished.scenes.items) (length finished.scenes.items))
+      svg text (rows_text claims finished.verdict finished.setup.nodes names finished.scenes.items)
 
 -- a picture of what a film shows, above this text: as text, as SVG, or as a page around that, which has title and text once. As text it has
 -- no names

@@ -18,6 +18,7 @@ use Rattle.bully_trace.specs.OneRow.{decides}
 use Rattle.bully_picture.specs.Escaping.{escaped}
 use Rattle.bully_picture.specs.Title.{Has}
 use Rattle.bully_picture.specs.Words.{followed_text, is_same_stand, meaning_text}
+use Rattle.bully_page.specs.declared.page.TheConstants.{HEAD, SCRIPT, SEARCH}
 
 abbrev pub page_start : List ℕ
 page_start = codes "<!DOCTYPE html>\n"
@@ -171,12 +172,16 @@ HasRowsOf text claims verdict nodes names scenes =
 
 -- ---- the whole
 
--- what stands before the picture, behind this head, which says how a page looks
-abbrev pub front_text : List ℕ → List ℕ → List ℕ
-front_text head title =
-    page_start ++ head ++ titled title ++ codes "\n</head>\n<body>\n" ++ headed title ++ codes "\n<div class=\"picture\">\n"
+-- what stands before the picture: a head, which says how the page looks, and this title, twice: of the window, and as the heading
+abbrev pub front_text : List ℕ → List ℕ
+front_text title =
+    page_start ++ HEAD.now ++ titled title ++ codes "\n</head>\n<body>\n" ++ headed title ++ codes "\n<div class=\"picture\">\n"
 
--- what stands behind it, with this search and its script: the lines of this text, and the rows
-abbrev pub behind_text : List ℕ → List ℕ → List ℕ → List ℕ → List ℕ
-behind_text search script below rows =
-    codes "</div>\n" ++ lines_text (lines below) ++ search ++ (codes "<div id=\"rows\">\n" ++ rows ++ codes "</div>\n") ++ script ++ page_end
+-- what stands behind it: the lines of this text, the search, these rows, and the script of the search
+abbrev pub behind_text : List ℕ → List ℕ → List ℕ
+behind_text below rows =
+    codes "</div>\n" ++ lines_text (lines below) ++ SEARCH.now ++ (codes "<div id=\"rows\">\n" ++ rows ++ codes "</div>\n") ++ SCRIPT.now ++ page_end
+
+-- a page of this title, this picture, this text below it, and these rows
+abbrev pub page_text : List ℕ → List ℕ → List ℕ → List ℕ → List ℕ
+page_text title picture below rows = front_text title ++ picture ++ behind_text below rows

@@ -1,8 +1,8 @@
 //! The page as a whole.
 ghost use Rattle.std.specs.Prelude.{◌≡◌, ◌++◌, false, length, map, IfOk, string_bytes};
-ghost use Rattle.bully_film.specs.Lane.{row_before};
 ghost use Rattle.std.specs.Str.Lines.{lines};
-ghost use Rattle.bully_page.specs.Page.{HasLines, HasRowsOf, IsPage, behind_text, front_text, headed, line_text, lines_text, page_end, page_start, rows_text, titled};
+ghost use Rattle.bully_film.specs.Lane.{row_before};
+ghost use Rattle.bully_page.specs.Page.{HasLines, HasRowsOf, IsPage, behind_text, front_text, headed, line_text, lines_text, page_end, page_start, page_text, rows_text, titled};
 ghost use Rattle.bully_picture.specs.Title.{Begins, Ends, Has, title_text};
 ghost use Rattle.bully_picture.specs.Written.{IsIn, Writes};
 ghost use Rattle.bully_trace.specs.VerdictText.{verdict_head};
@@ -94,10 +94,9 @@ pub fn html_page(
     ensures rows { IfOk result (λ text. HasRowsOf (string_bytes text) claims finished.now.verdict finished.now.setup.nodes (map (λ s. s.now) names.now) finished.now.scenes.items) }
 
     // It has nothing else.
-    ensures whole { IfOk result (λ text. string_bytes text ≡
-        front_text HEAD.now (title_text finished.now.verdict finished.now.setup.nodes finished.now.setup.partitions (row_before finished.now.scenes.items) (length finished.now.scenes.items))
-        ++ picture.now
-        ++ behind_text SEARCH.now SCRIPT.now below.now (rows_text claims finished.now.verdict finished.now.setup.nodes (map (λ s. s.now) names.now) finished.now.scenes.items)) }
+    ensures whole { IfOk result (λ text. string_bytes text ≡ page_text
+        (title_text finished.now.verdict finished.now.setup.nodes finished.now.setup.partitions (row_before finished.now.scenes.items) (length finished.now.scenes.items))
+        picture.now below.now (rows_text claims finished.now.verdict finished.now.setup.nodes (map (λ s. s.now) names.now) finished.now.scenes.items)) }
 {
     let front = front_of(alloc, finished);
     let behind = behind_of(alloc, finished, names, claims, below);
@@ -124,7 +123,7 @@ fn front_of(alloc: Global, finished: &FinishedFilm) -> Paper
         (titled (title_text finished.now.verdict finished.now.setup.nodes finished.now.setup.partitions (row_before finished.now.scenes.items) (length finished.now.scenes.items)))) }
     ensures heading { IsIn result (λ text. Has text
         (headed (title_text finished.now.verdict finished.now.setup.nodes finished.now.setup.partitions (row_before finished.now.scenes.items) (length finished.now.scenes.items)))) }
-    ensures text { IsIn result (λ text. text ≡ front_text HEAD.now
+    ensures text { IsIn result (λ text. text ≡ front_text
         (title_text finished.now.verdict finished.now.setup.nodes finished.now.setup.partitions (row_before finished.now.scenes.items) (length finished.now.scenes.items))) }
 {
     let mut front = Paper::new(alloc);
@@ -163,8 +162,8 @@ fn behind_of(
     ensures ends { IsIn result (λ text. Ends text page_end) }
     ensures below { IsIn result (λ text. HasLines text below.now) }
     ensures rows { IsIn result (λ text. HasRowsOf text claims finished.now.verdict finished.now.setup.nodes (map (λ s. s.now) names.now) finished.now.scenes.items) }
-    ensures text { IsIn result (λ text. text ≡
-        behind_text SEARCH.now SCRIPT.now below.now (rows_text claims finished.now.verdict finished.now.setup.nodes (map (λ s. s.now) names.now) finished.now.scenes.items)) }
+    ensures text { IsIn result (λ text. text ≡ behind_text below.now
+        (rows_text claims finished.now.verdict finished.now.setup.nodes (map (λ s. s.now) names.now) finished.now.scenes.items)) }
 {
     let mut behind = Paper::new(alloc);
     behind.push("</div>\n");
