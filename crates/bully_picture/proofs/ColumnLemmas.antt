@@ -1,5 +1,5 @@
 -- The columns of a picture for a terminal.
-use Rattle.std.proofs.Common.{◌≡◌, ◌∙◌, ℕ, ◌+◌, ◌-◌, ◌++◌, List, [], ◌∷◌, length, replicate, ap, refl, arith}
+use Rattle.std.proofs.Common.{◌≡◌, ◌∙◌, ℕ, ◌+◌, ◌-◌, ◌++◌, List, [], ◌∷◌, add-one, length, replicate, ap, sym, arith}
 use Rattle.std.specs.Prelude.{max}
 use Rattle.std.proofs.lemmas.List.{append_assoc, length-append, replicate_more}
 use Rattle.bully_picture.specs.declared.columns.Form.{Form}
@@ -24,4 +24,4 @@ column-filled width word a b c first second = record {
 
 -- one more head of a column
 pub names-more : (form : Form) (n : ℕ) → names_text form n ++ name_text form (n + 1) ≡ names_text form (n + 1)
-names-more form n = refl
+names-more form n = sym (ap (names_text form) (add-one n))
