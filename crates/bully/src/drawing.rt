@@ -254,7 +254,14 @@ fn picture_in(
 {
     match drawing.form {
         Form::Text => text_picture(alloc, finished, below),
-        Form::Svg => svg_of(alloc, finished, drawing.claims, Around::Nothing, names, below),
+        Form::Svg => svg_of(
+            alloc,
+            finished,
+            drawing.claims,
+            Around::Nothing,
+            names,
+            below,
+        ),
         Form::Page => page_of(alloc, finished, drawing.claims, names, below),
     }
 }

@@ -31,7 +31,7 @@ loop-scene-preserved c =
             (told-none verdict nodes c.loop-scene.quiet c.loop-scene.now c.put-in-loop-scene.new.now scenes rows i s c.args.lines.now c.loop-scene.lines
             c.loop-scene-test.true c.scene-item.is stands (sym c.speaks.ensures ∙ w.if-speaks.false) c.loop-scene.invariant.told)
       ];
-      few = elim c.if-speaks.branch [ | then-speaks w ↦ omega (arith, w.quiet-is) | else-speaks w ↦ omega (arith, w.quiet-is, c.loop-scene.invariant.few) ];
+      few = elim c.if-speaks.branch [ then-speaks w ↦ omega (arith, w.quiet-is) | else-speaks w ↦ omega (arith, w.quiet-is, c.loop-scene.invariant.few) ];
     }
 
 pub returns : goal.returns
