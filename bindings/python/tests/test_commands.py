@@ -500,6 +500,11 @@ class Said(unittest.TestCase):
         self.assertGreaterEqual(len(lines), messages.WAITING_MAX)
         self.assertRegex(told, f' bully-member: {1500 - len(lines)} messages were left out, since nobody read them$')
 
+    def test_one_line(self) -> None:
+        """What can't be printed of a name or a path in it ends no line, and turns nothing."""
+        record = logging.makeLogRecord({'levelname': 'WARNING', 'msg': 'node %s: %s', 'args': ('a\x1b[2J\nb', '/c\u202ed: busy')})
+        self.assertRegex(messages.Lines().format(record), r' bully-member: node a\?\[2J\?b: /c\?d: busy$')
+
 
 class Blocked(MemoryLog):
     """A log in which nobody looks while `goes_on` isn't set."""

@@ -14,11 +14,14 @@ use Rattle.bully_film.specs.Film.{IsFilmOf}
 use Rattle.bully_film.specs.Lane.{row_before}
 use Rattle.bully_film.specs.Scene.{lane_of}
 use Rattle.bully_film.specs.Window.{WindowState}
+use Rattle.bully_picture.specs.Bars.{HasStands, shows_rows}
 use Rattle.bully_picture.specs.Drawn.{HasBelow, HasCalls, HasNodes, HasRows, HasSaid, node_label, scenes_shown}
+use Rattle.bully_picture.specs.Head.{HasHead}
 use Rattle.bully_picture.specs.Title.{Begins, Ends, Has, IsDocument, title_text}
-use Rattle.bully_picture.specs.Told.{HasToldAbove}
+use Rattle.bully_picture.specs.Told.{columns_text, told_from}
 use Rattle.bully_cli.specs.Words.{Drawn}
-use Rattle.bully_page.specs.Page.{HasLines, HasSummaries, IsPage, headed, titled}
+use Rattle.bully_page.specs.Page.{HasLines, HasRowsOf, IsPage, headed, page_text, rows_text, titled}
+use Rattle.bully_picture.specs.declared.around.Around.{Around}
 use Rattle.bully_picture.specs.declared.claims.Claims.{Claims}
 use Rattle.bully.specs.declared.drawing.Drawing.{Drawing}
 use Rattle.bully.specs.declared.drawing.Form.{Form}
@@ -32,10 +35,11 @@ use Rattle.bully.proofs.KnownBytesLemmas.{keeps-same}
 -- what a picture as text has
 pub text-picture : {S E : Type 0} (bytes : S → List ℕ) (made : Result S E) (finished : FinishedFilm) (below : List ℕ)
     → IfOk made (λ p. Begins (bytes p) (verdict_head finished.verdict))
-    → IfOk made (λ p. HasToldAbove (bytes p) below finished.verdict finished.scenes.items) → IfOk made (λ p. Ends (bytes p) below)
+    → ((window : WindowState) (trace : Trace) (is : IsFilmOf window finished trace)
+    → IfOk made (λ p. bytes p ≡ columns_text finished.verdict finished.setup.nodes (told_from trace.setup is.before is.shown) ++ below)) → IfOk made (λ p. Ends (bytes p) below)
     → IfOk made (λ p. IsTextOf finished below (bytes p))
-text-picture bytes (Ok p) finished below verdict rows ends = record { verdict = verdict; rows = rows; below = ends }
-text-picture bytes (Err e) finished below verdict rows ends = tt
+text-picture bytes (Ok p) finished below verdict whole ends = record { verdict = verdict; whole = whole; below = ends }
+text-picture bytes (Err e) finished below verdict whole ends = tt
 
 -- the names of the nodes, as the picture has them
 nodes-named : {A : Type 0} (of : A → List ℕ) (given : List A) (names : List (List ℕ)) (text : List ℕ) (nodes : ℕ) → map of given ≡ names
@@ -44,40 +48,46 @@ nodes-named of given names text nodes are has =
     (has.0, λ i low. subst (λ o. Has text (node_label has.0 (i + 1) o)) (sym (slice_get-map of given i) ∙ ap (λ l. slice_get l i) are) (has.1 i low))
 
 -- what a picture as SVG has
-pub svg-picture : {A S E : Type 0} (of : A → List ℕ) (bytes : S → List ℕ) (made : Result S E) (claims : Claims) (finished : FinishedFilm) (given : List A) (below : List ℕ)
+pub svg-picture : {A S E : Type 0} (of : A → List ℕ) (bytes : S → List ℕ) (made : Result S E) (claims : Claims) (around : Around) (finished : FinishedFilm) (given : List A) (below : List ℕ)
     → IfOk made (λ p. IsDocument (bytes p))
-    → IfOk made (λ p. Has (bytes p)
+    → IfOk made (λ p. HasHead (bytes p) around finished.verdict
     (title_text finished.verdict finished.setup.nodes finished.setup.partitions (row_before finished.scenes.items) (length finished.scenes.items)))
     → IfOk made (λ p. HasRows (bytes p) finished.verdict (scenes_shown claims finished.verdict finished.scenes.items))
     → IfOk made (λ p. HasSaid (bytes p) finished.verdict (scenes_shown claims finished.verdict finished.scenes.items))
     → IfOk made (λ p. HasNodes (bytes p) finished.setup.nodes (λ i. option_map of (slice_get given i)))
     → ((window : WindowState) (trace : Trace) (is : IsFilmOf window finished trace)
+    → IfOk made (λ p. HasStands (bytes p) (shows_rows finished.scenes.items) finished.setup.nodes (row_before finished.scenes.items) (λ i. lane_of trace.setup is.before i is.shown)))
+    → ((window : WindowState) (trace : Trace) (is : IsFilmOf window finished trace)
     → IfOk made (λ p. HasCalls (bytes p) finished.setup.nodes (row_before finished.scenes.items) (λ i. lane_of trace.setup is.before i is.shown)))
-    → IfOk made (λ p. HasBelow (bytes p) below) → IfOk made (λ p. IsSvgOf claims finished (map of given) below (bytes p))
-svg-picture of bytes (Ok p) claims finished given below document title rows says nodes calls has_below = record {
+    → IfOk made (λ p. HasBelow (bytes p) below) → IfOk made (λ p. IsSvgOf claims around finished (map of given) below (bytes p))
+svg-picture of bytes (Ok p) claims around finished given below document head rows says nodes bars calls has_below = record {
   document = document;
-  title = title;
+  head = head;
   rows = rows;
   says = says;
   nodes = nodes-named of given (map of given) (bytes p) finished.setup.nodes refl nodes;
+  bars = bars;
   calls = calls;
   below = has_below;
 }
-svg-picture of bytes (Err e) claims finished given below document title rows says nodes calls has_below = tt
+svg-picture of bytes (Err e) claims around finished given below document head rows says nodes bars calls has_below = tt
 
 -- what a page around a picture has
 pub page-picture : {S E : Type 0} (bytes : S → List ℕ) (made : Result S E) (claims : Claims) (finished : FinishedFilm) (names : List (List ℕ)) (below svg : List ℕ)
-    → IsSvgOf claims finished names below svg → IfOk made (λ p. IsPage (bytes p))
+    → IsSvgOf claims Around.Page finished names [] svg → IfOk made (λ p. IsPage (bytes p))
     → IfOk made (λ p. Has (bytes p)
     (titled (title_text finished.verdict finished.setup.nodes finished.setup.partitions (row_before finished.scenes.items) (length finished.scenes.items))))
     → IfOk made (λ p. Has (bytes p)
     (headed (title_text finished.verdict finished.setup.nodes finished.setup.partitions (row_before finished.scenes.items) (length finished.scenes.items))))
     → IfOk made (λ p. Has (bytes p) svg) → IfOk made (λ p. HasLines (bytes p) below)
-    → IfOk made (λ p. HasSummaries (bytes p) claims finished.verdict finished.scenes.items)
+    → IfOk made (λ p. HasRowsOf (bytes p) claims finished.verdict finished.setup.nodes names finished.scenes.items)
+    → IfOk made (λ p. bytes p ≡ page_text
+    (title_text finished.verdict finished.setup.nodes finished.setup.partitions (row_before finished.scenes.items) (length finished.scenes.items))
+    svg below (rows_text claims finished.verdict finished.setup.nodes names finished.scenes.items))
     → IfOk made (λ p. IsPictureIn Form.Page claims finished names below (bytes p))
-page-picture bytes (Ok p) claims finished names below svg is document title heading picture lines rows =
-    (svg, is, record { document = document; title = title; heading = heading; picture = picture; below = lines; rows = rows })
-page-picture bytes (Err e) claims finished names below svg is document title heading picture lines rows = tt
+page-picture bytes (Ok p) claims finished names below svg is document title heading picture lines rows whole =
+    (svg, is, record { document = document; title = title; heading = heading; picture = picture; below = lines; rows = rows; whole = whole })
+page-picture bytes (Err e) claims finished names below svg is document title heading picture lines rows whole = tt
 
 -- a picture above the row that decided, with the names of the configuration
 pub picture-above : {S E : Type 0} (bytes : S → List ℕ) (made : Result S E) (drawing : Drawing) (finished : FinishedFilm) (given names : List (List ℕ)) (below : List ℕ)

@@ -3,6 +3,7 @@ use Rattle.std.specs.Prelude.{◌≡◌, ◌⊎◌, ◌++◌, ℕ, List, Option,
 use Rattle.std.specs.Str.{bytes_eq}
 use Rattle.std.specs.Io.KnownBytes.{Keeps}
 use Rattle.bully_cli.specs.Words.{Asked, annotating, checking, completing, drawing, explaining, following, planning, playing, running, upgrading}
+use Rattle.bully_explain.specs.Shown.{shown}
 use Rattle.bully.specs.Answer.{IsCheckAnswer, IsUpgradeAnswer, KnownBytes, Tells, is_given, stop_line}
 use Rattle.bully.specs.AnnotateAnswer.{IsAnnotateAnswer}
 use Rattle.bully.specs.ConfigAnswer.{IsPlayAnswer, IsRunAnswer, IsTableAnswer}
@@ -16,8 +17,9 @@ abbrev pub path_in : Option (List ℕ) → Option (List ℕ)
 path_in None = None
 path_in (Some path) = if bytes_eq path (codes "-") then None else Some path
 
+-- the path is shown as all that comes from outside: it ends no line, and turns nothing that stands around it
 abbrev pub unopened_line : List ℕ → List ℕ → List ℕ
-unopened_line path reason = codes "bully: " ++ path ++ codes ": " ++ reason ++ codes "\n"
+unopened_line path reason = codes "bully: " ++ shown path ++ codes ": " ++ reason ++ codes "\n"
 
 -- a file can't be opened: its path and the reason are told on the errors
 abbrev pub IsUnopened : List ℕ → KnownBytes → KnownBytes → ℕ → Type 0

@@ -1,5 +1,5 @@
 -- What the program answers to `draw`: the status, and what then stands on the output and on the errors.
-use Rattle.std.specs.Prelude.{◌≡◌, ◌⊎◌, ℕ, Bool, true, false, List, [], Option, Some, None, MatchOption, Ok, codes, length, slice_get, if◌then◌else◌}
+use Rattle.std.specs.Prelude.{◌≡◌, ◌⊎◌, ℕ, Bool, true, false, List, [], ◌++◌, Option, Some, None, MatchOption, Ok, codes, length, slice_get, if◌then◌else◌}
 use Rattle.std.specs.Io.KnownBytes.{Appends, Keeps}
 use Rattle.bully_rows.specs.declared.trace.Row.{Row}
 use Rattle.bully_rows.specs.Rows.{records_of, trace_of}
@@ -12,11 +12,14 @@ use Rattle.bully_film.specs.Film.{IsFilmOf}
 use Rattle.bully_film.specs.Lane.{row_before}
 use Rattle.bully_film.specs.Scene.{lane_of}
 use Rattle.bully_film.specs.Window.{WindowState, at_the_end, window_in}
+use Rattle.bully_picture.specs.Bars.{HasStands, shows_rows}
 use Rattle.bully_picture.specs.Drawn.{HasBelow, HasCalls, HasNodes, HasRows, HasSaid, scenes_shown}
+use Rattle.bully_picture.specs.Head.{HasHead}
 use Rattle.bully_picture.specs.Title.{Begins, Ends, Has, IsDocument, title_text}
-use Rattle.bully_picture.specs.Told.{HasToldAbove}
+use Rattle.bully_picture.specs.Told.{columns_text, told_from}
 use Rattle.bully_cli.specs.Words.{Drawn}
-use Rattle.bully_page.specs.Page.{HasLines, HasSummaries, IsPage, headed, titled}
+use Rattle.bully_page.specs.Page.{HasLines, HasRowsOf, IsPage, headed, page_text, rows_text, titled}
+use Rattle.bully_picture.specs.declared.around.Around.{Around}
 use Rattle.bully_picture.specs.declared.claims.Claims.{Claims}
 use Rattle.bully.specs.declared.drawing.Drawing.{Drawing}
 use Rattle.bully.specs.declared.drawing.Form.{Form}
@@ -39,38 +42,48 @@ abbrev pub IsBelow : Option Row → List ℕ → Type 0
 IsBelow None below = below ≡ []
 IsBelow (Some row) below = Begins below (line_of (row_fields row))
 
--- a picture as text: the verdict's line, lines of the rows that change something, and this text below them
+-- a picture as text: it begins with the verdict's line, and ends with this text; and it is all of the lines of the rows that change
+-- something, with how each node stands behind it, and nothing else
 pub record IsTextOf (finished : FinishedFilm) (text picture : List ℕ) : Type 0 where
   pub verdict : Begins picture (verdict_head finished.verdict)
-  pub rows : HasToldAbove picture text finished.verdict finished.scenes.items
+  pub whole : (window : WindowState) (trace : Trace) (is : IsFilmOf window finished trace)
+      → picture ≡ columns_text finished.verdict finished.setup.nodes (told_from trace.setup is.before is.shown) ++ text
   pub below : Ends picture text
 
--- a picture as SVG: a document with its title, the numbers of all rows that are shown, and what they say, a name or a number of each node,
--- an arrow of each call in a slot, and this text below
-pub record IsSvgOf (claims : Claims) (finished : FinishedFilm) (names : List (List ℕ)) (text picture : List ℕ) : Type 0 where
+-- a picture as SVG: a document with its head, and the title if no page stands around it, the numbers of all rows that are shown, and what
+-- they say, a name or a number of each node, a bar of how each node stands, an arrow of each call in a slot, and this text below
+pub record IsSvgOf (claims : Claims) (around : Around) (finished : FinishedFilm) (names : List (List ℕ)) (text picture : List ℕ) : Type 0 where
   pub document : IsDocument picture
-  pub title : Has picture (title_text finished.verdict finished.setup.nodes finished.setup.partitions (row_before finished.scenes.items) (length finished.scenes.items))
+  pub head : HasHead picture around finished.verdict
+      (title_text finished.verdict finished.setup.nodes finished.setup.partitions (row_before finished.scenes.items) (length finished.scenes.items))
   pub rows : HasRows picture finished.verdict (scenes_shown claims finished.verdict finished.scenes.items)
   pub says : HasSaid picture finished.verdict (scenes_shown claims finished.verdict finished.scenes.items)
   pub nodes : HasNodes picture finished.setup.nodes (slice_get names)
+  pub bars : (window : WindowState) (trace : Trace) (is : IsFilmOf window finished trace)
+      → HasStands picture (shows_rows finished.scenes.items) finished.setup.nodes (row_before finished.scenes.items) (λ i. lane_of trace.setup is.before i is.shown)
   pub calls : (window : WindowState) (trace : Trace) (is : IsFilmOf window finished trace)
       → HasCalls picture finished.setup.nodes (row_before finished.scenes.items) (λ i. lane_of trace.setup is.before i is.shown)
   pub below : HasBelow picture text
 
--- a page: a document with its title and heading, this picture, this text below it, and the lines of the rows
-pub record IsPageOf (claims : Claims) (finished : FinishedFilm) (text svg page : List ℕ) : Type 0 where
+-- a page: a document with its title and heading, this picture, this text below it, and exactly the rows that are shown, with what they
+-- change; and nothing else
+pub record IsPageOf (claims : Claims) (finished : FinishedFilm) (names : List (List ℕ)) (text svg page : List ℕ) : Type 0 where
   pub document : IsPage page
   pub title : Has page (titled (title_text finished.verdict finished.setup.nodes finished.setup.partitions (row_before finished.scenes.items) (length finished.scenes.items)))
   pub heading : Has page (headed (title_text finished.verdict finished.setup.nodes finished.setup.partitions (row_before finished.scenes.items) (length finished.scenes.items)))
   pub picture : Has page svg
   pub below : HasLines page text
-  pub rows : HasSummaries page claims finished.verdict finished.scenes.items
+  pub rows : HasRowsOf page claims finished.verdict finished.setup.nodes names finished.scenes.items
+  pub whole : page ≡ page_text
+      (title_text finished.verdict finished.setup.nodes finished.setup.partitions (row_before finished.scenes.items) (length finished.scenes.items))
+      svg text (rows_text claims finished.verdict finished.setup.nodes names finished.scenes.items)
 
--- a picture of what a film shows, above this text: as text, as SVG, or as a page around that. Text has no names
+-- a picture of what a film shows, above this text: as text, as SVG, or as a page around that, which has title and text once. As text it has
+-- no names
 abbrev pub IsPictureIn : Form → Claims → FinishedFilm → List (List ℕ) → List ℕ → List ℕ → Type 0
 IsPictureIn Form.Text claims finished names below picture = IsTextOf finished below picture
-IsPictureIn Form.Svg claims finished names below picture = IsSvgOf claims finished names below picture
-IsPictureIn Form.Page claims finished names below picture = (svg : List ℕ) × IsSvgOf claims finished names below svg × IsPageOf claims finished below svg picture
+IsPictureIn Form.Svg claims finished names below picture = IsSvgOf claims Around.Nothing finished names below picture
+IsPictureIn Form.Page claims finished names below picture = (svg : List ℕ) × IsSvgOf claims Around.Page finished names [] svg × IsPageOf claims finished names below svg picture
 
 -- the same above the row that decided
 abbrev pub IsPictureOf : Drawing → FinishedFilm → List (List ℕ) → List ℕ → Type 0

@@ -18,7 +18,7 @@ use bully_config::Config;
 use bully_explain::reason;
 use bully_film::{FinishedFilm, Window, film_of};
 use bully_page::html_page;
-use bully_picture::{Claims, svg_picture, text_picture};
+use bully_picture::{Around, Claims, svg_picture, text_picture};
 use bully_rows::{Row, push_row};
 use std::alloc::Global;
 use std::io::{Read, Write};
@@ -254,25 +254,33 @@ fn picture_in(
 {
     match drawing.form {
         Form::Text => text_picture(alloc, finished, below),
-        Form::Svg => svg_of(alloc, finished, drawing.claims, names, below),
+        Form::Svg => svg_of(
+            alloc,
+            finished,
+            drawing.claims,
+            Around::Nothing,
+            names,
+            below,
+        ),
         Form::Page => page_of(alloc, finished, drawing.claims, names, below),
     }
 }
 
-// The picture as SVG.
+// The picture as SVG, alone or for a page around it.
 fn svg_of(
     alloc: Global,
     finished: &FinishedFilm,
     claims: Claims,
+    around: Around,
     names: &[&str],
     below: &str,
 ) -> Result<String, OutOfMemory>
-    ensures { IfOk result (λ picture. IsSvgOf claims finished.now (map (λ s. s.now) names.now) below.now (string_bytes picture)) }
+    ensures { IfOk result (λ picture. IsSvgOf claims around finished.now (map (λ s. s.now) names.now) below.now (string_bytes picture)) }
 {
-    svg_picture(alloc, finished, names, claims, below)
+    svg_picture(alloc, finished, names, claims, around, below)
 }
 
-// The page with that.
+// The page with a picture. The title and this text stand in the page alone.
 fn page_of(
     alloc: Global,
     finished: &FinishedFilm,
@@ -282,7 +290,7 @@ fn page_of(
 ) -> Result<String, OutOfMemory>
     ensures { IfOk result (λ page. IsPictureIn Form.Page claims finished.now (map (λ s. s.now) names.now) below.now (string_bytes page)) }
 {
-    let picture = svg_of(alloc, finished, claims, names, below)?;
+    let picture = svg_of(alloc, finished, claims, Around::Page, names, "")?;
     html_page(alloc, finished, picture.as_str(), names, claims, below)
 }
 

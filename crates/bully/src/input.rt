@@ -4,6 +4,7 @@ ghost use Rattle.bully.specs.AskedAnswer.{IsUnopened, unopened_line};
 
 use crate::telling::{Stop, answer_stop, tell};
 use bully_base::OutOfMemory;
+use bully_explain::push_shown;
 use std::alloc::Global;
 use std::io;
 use std::io::{ErrorKind, Read, Write};
@@ -44,7 +45,7 @@ pub fn answer_unopened<E: Write>(alloc: Global, path: &str, error: &io::Error, e
     }
 }
 
-// The line of a file that can't be opened: its path, and the system's reason.
+// The line of a file that can't be opened: its path, as all that comes from outside is shown, and the system's reason.
 fn unopened_line(alloc: Global, path: &str, error: &io::Error) -> Result<String, OutOfMemory>
     ensures { IfOk result (λ line. (reason : List ℕ) × (string_bytes line ≡ unopened_line path.now reason)) }
 {
@@ -52,7 +53,7 @@ fn unopened_line(alloc: Global, path: &str, error: &io::Error) -> Result<String,
     write!(reason, "{error}")?;
     let mut line = String::new(alloc);
     line.push_str("bully: ")?;
-    line.push_str(path)?;
+    push_shown(&mut line, path)?;
     line.push_str(": ")?;
     line.push_str(reason.as_str())?;
     line.push_str("\n")?;

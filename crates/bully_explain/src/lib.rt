@@ -29,3 +29,4 @@ pub use bully_account::{EventKind, NodeSheet, NodeSummary};
 pub use config::{ConfigSheet, explain_config};
 pub use explaining::{Sheet, account_sheet, explain};
 pub use sheet_text::reason;
+pub use shown::push_shown;

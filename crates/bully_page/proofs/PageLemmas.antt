@@ -1,18 +1,14 @@
 -- What a page has of its parts.
-use Rattle.std.proofs.Common.{◌≡◌, ◌∙◌, ℕ, ◌+◌, ◌<◌, ◌≤◌, ◌++◌, Bool, true, false, List, Result, Ok, Err, codes, get_or, length, take, ap, refl, subst, sym}
+use Rattle.std.proofs.Common.{◌≡◌, ◌∙◌, ℕ, ◌++◌, Bool, true, false, List, [], ◌∷◌, Result, Ok, Err, codes, ap, refl, subst, sym}
 use Rattle.std.specs.Prelude.{All, IfOk}
 use Rattle.std.specs.Str.Lines.{lines}
-use Rattle.std.proofs.lemmas.List.{append_assoc, take_all}
-use Rattle.std.proofs.lemmas.List.Elements.{All-weaker}
-use Rattle.bully_trace.specs.declared.verdict.Verdict.{Verdict}
-use Rattle.bully_film.specs.declared.scene.Scene.{Scene}
-use Rattle.bully_picture.specs.declared.claims.Claims.{Claims}
-use Rattle.bully_picture.specs.Drawn.{is_shown}
-use Rattle.bully_trace.specs.OneRow.{decides}
+use Rattle.std.specs.Prelude.{if◌then◌else◌}
+use Rattle.std.proofs.lemmas.List.{append_assoc, append-nil}
+use Rattle.std.proofs.lemmas.List.Elements.{All-cons, All-nil, All-weaker}
 use Rattle.bully_picture.specs.Title.{Begins, Ends, Has}
-use Rattle.bully_picture.specs.Written.{Gains, IsIn, Writes, Written}
-use Rattle.bully_picture.proofs.WrittenLemmas.{extends-same, has-more, has-within, one-gained}
-use Rattle.bully_page.specs.Page.{HasLines, HasSummaries, IsPage, line_text, page_end, page_start, summary_text, titled}
+use Rattle.bully_picture.specs.Written.{IsIn, Writes, Written}
+use Rattle.bully_picture.proofs.WrittenLemmas.{has-more, has-within, writes-nothing}
+use Rattle.bully_page.specs.Page.{HasLines, IsPage, line_text, lines_text, page_end, page_start, titled}
 
 -- what a text has, one with more before it has, too
 pub has-behind : (before text part : List ℕ) → Has text part → Has (before ++ text) part
@@ -45,60 +41,31 @@ pub lines-behind : (before text below : List ℕ) → HasLines text below → Ha
 lines-behind before text below has =
     All-weaker (λ line. Has text (line_text line)) (λ line. Has (before ++ text) (line_text line)) (λ line. has-behind before text (line_text line)) (lines below) has
 
-pub summaries-behind : (before text : List ℕ) (claims : Claims) (verdict : Verdict) (scenes : List Scene) → HasSummaries text claims verdict scenes → HasSummaries (before ++ text) claims verdict scenes
-summaries-behind before text claims verdict scenes has =
-    All-weaker (λ s. is_shown claims verdict s ≡ true → Has text (summary_text (decides verdict s.number) s))
-    (λ s. is_shown claims verdict s ≡ true → Has (before ++ text) (summary_text (decides verdict s.number) s))
-    (λ s told shown. has-behind before text (summary_text (decides verdict s.number) s) (told shown)) scenes has
-
--- what stands there already, stands there behind more
-pub lines-more : (below text more : List ℕ) → HasLines text below → HasLines (text ++ more) below
-lines-more below text more has =
-    All-weaker (λ line. Has text (line_text line)) (λ line. Has (text ++ more) (line_text line)) (λ line. has-more (line_text line) text more) (lines below) has
-
-pub summaries-more : (claims : Claims) (verdict : Verdict) (scenes : List Scene) (text more : List ℕ) → HasSummaries text claims verdict scenes → HasSummaries (text ++ more) claims verdict scenes
-summaries-more claims verdict scenes text more has =
-    All-weaker (λ s. is_shown claims verdict s ≡ true → Has text (summary_text (decides verdict s.number) s))
-    (λ s. is_shown claims verdict s ≡ true → Has (text ++ more) (summary_text (decides verdict s.number) s))
-    (λ s told shown. has-more (summary_text (decides verdict s.number) s) text more (told shown)) scenes has
-
 -- what was written last ends the text
 pub ends-written : {a b : Written} {p : List ℕ} → Writes a b p → IsIn b (λ text. Ends text p)
 ends-written {a} {b} {p} written good = (a.text, written.text good)
 
--- one more line
-pub one-line : (below : List ℕ) (k : ℕ) (line : List ℕ) (start a b : Written) → k < length (lines below) → line ≡ get_or (lines below) k line
-    → Gains start a (λ text. All (λ one. Has text (line_text one)) (take k (lines below))) → Gains a b (λ text. Has text (line_text line))
-    → Gains start b (λ text. All (λ one. Has text (line_text one)) (take (k + 1) (lines below)))
-one-line below k line start a b = one-gained (λ text one. Has text (line_text one)) (λ text more one. has-more (line_text one) text more) (lines below) k line start a b
+-- each of the lines stands where all of them do
+pub lines-has : (text : List ℕ) (them : List (List ℕ)) → Has text (lines_text them) → All (λ line. Has text (line_text line)) them
+lines-has text [] has = All-nil (λ line. Has text (line_text line))
+lines-has text (line ∷ them) has =
+    All-cons (λ one. Has text (line_text one)) line them (has-within text (lines_text (line ∷ them)) (line_text line) has ([], lines_text them, refl))
+    (lines-has text them (has-within text (lines_text (line ∷ them)) (lines_text them) has (line_text line, [], sym (append-nil (line_text line ++ lines_text them)))))
 
-pub all-lines : (below : List ℕ) (k : ℕ) (start a : Written) → length (lines below) ≤ k
-    → Gains start a (λ text. All (λ one. Has text (line_text one)) (take k (lines below))) → Gains start a (λ text. HasLines text below)
-all-lines below k start a all so_far = subst (λ l. Gains start a (λ text. All (λ one. Has text (line_text one)) l)) (take_all k (lines below) all) so_far
+-- the whole of a page that was made of its parts
+pub page-whole : {T E : Type 0} (bytes : T → List ℕ) (front behind : Written) (before picture after : List ℕ) (r : Result T E)
+    → IfOk r (λ text. front.has_failed ≡ false) → IfOk r (λ text. behind.has_failed ≡ false) → IfOk r (λ text. bytes text ≡ front.text ++ picture ++ behind.text)
+    → IsIn front (λ text. text ≡ before) → IsIn behind (λ text. text ≡ after) → IfOk r (λ text. bytes text ≡ before ++ picture ++ after)
+page-whole bytes front behind before picture after (Ok text) one other same first last =
+    same ∙ ap (λ f. f ++ picture ++ behind.text) (first one) ∙ ap (λ b. before ++ picture ++ b) (last other)
+page-whole bytes front behind before picture after (Err e) one other same first last = tt
 
--- one more row that has its place
-pub row-shown : (claims : Claims) (verdict : Verdict) (scenes : List Scene) (i : ℕ) (s : Scene) (d : Bool) (start a b : Written) → i < length scenes → s ≡ get_or scenes i s
-    → d ≡ decides verdict s.number → Gains start a (λ text. HasSummaries text claims verdict (take i scenes)) → Gains a b (λ text. Has text (summary_text d s))
-    → Gains start b (λ text. HasSummaries text claims verdict (take (i + 1) scenes))
-row-shown claims verdict scenes i s d start a b within is decided so_far gained =
-    one-gained (λ text one. is_shown claims verdict one ≡ true → Has text (summary_text (decides verdict one.number) one))
-    (λ text more one has shown. has-more (summary_text (decides verdict one.number) one) text more (has shown)) scenes i s start a b within is so_far
-    (record { extends = gained.extends; holds = λ good shown. subst (λ t. Has b.text (summary_text t s)) decided (gained.holds good) })
+-- ---- rows
+
+-- a row that has its place
+pub row-shown : (tested is_there : Bool) (row : List ℕ) (a b : Written) → tested ≡ is_there → tested ≡ true → Writes a b row → Writes a b (if is_there then row else [])
+row-shown tested is_there row a b test shown written = subst (λ c. Writes a b (if c then row else [])) (sym shown ∙ test) written
 
 -- and one that has none
-pub row-left-out : (claims : Claims) (verdict : Verdict) (scenes : List Scene) (i : ℕ) (s : Scene) (shown : Bool) (start a : Written) → i < length scenes → s ≡ get_or scenes i s
-    → shown ≡ is_shown claims verdict s → shown ≡ false → Gains start a (λ text. HasSummaries text claims verdict (take i scenes))
-    → Gains start a (λ text. HasSummaries text claims verdict (take (i + 1) scenes))
-row-left-out claims verdict scenes i s shown start a within is told out so_far =
-    one-gained (λ text one. is_shown claims verdict one ≡ true → Has text (summary_text (decides verdict one.number) one))
-    (λ text more one has would. has-more (summary_text (decides verdict one.number) one) text more (has would)) scenes i s start a a within is so_far
-    (record {
-      extends = extends-same a;
-      holds = λ good would.
-          let clash : true ≡ false = sym would ∙ sym told ∙ out in
-          absurd (cc);
-    })
-
-pub all-rows : (claims : Claims) (verdict : Verdict) (xs scenes : List Scene) (i : ℕ) (start a : Written) → length xs ≤ i → xs ≡ scenes
-    → Gains start a (λ text. HasSummaries text claims verdict (take i xs)) → Gains start a (λ text. HasSummaries text claims verdict scenes)
-all-rows claims verdict xs scenes i start a all same so_far = subst (λ l. Gains start a (λ text. HasSummaries text claims verdict l)) (take_all i xs all ∙ same) so_far
+pub row-left-out : (tested is_there : Bool) (row : List ℕ) (a : Written) → tested ≡ is_there → tested ≡ false → Writes a a (if is_there then row else [])
+row-left-out tested is_there row a test out = subst (λ c. Writes a a (if c then row else [])) (sym out ∙ test) (writes-nothing a)

@@ -1,9 +1,10 @@
 //! The page as a whole.
-ghost use Rattle.std.specs.Prelude.{◌≡◌, ◌++◌, false, length, IfOk, string_bytes};
+ghost use Rattle.std.specs.Prelude.{◌≡◌, ◌++◌, false, length, map, IfOk, string_bytes};
+ghost use Rattle.std.specs.Str.Lines.{lines};
 ghost use Rattle.bully_film.specs.Lane.{row_before};
-ghost use Rattle.bully_page.specs.Page.{HasLines, HasSummaries, IsPage, headed, line_text, page_end, page_start, titled};
+ghost use Rattle.bully_page.specs.Page.{HasLines, HasRowsOf, IsPage, behind_text, front_text, headed, line_text, lines_text, page_end, page_start, page_text, rows_text, titled};
 ghost use Rattle.bully_picture.specs.Title.{Begins, Ends, Has, title_text};
-ghost use Rattle.bully_picture.specs.Written.{Gains, IsIn, Writes};
+ghost use Rattle.bully_picture.specs.Written.{IsIn, Writes};
 ghost use Rattle.bully_trace.specs.VerdictText.{verdict_head};
 
 use crate::rows::push_rows;
@@ -46,12 +47,10 @@ details::details-content { content-visibility: visible; block-size: auto; }\n\
 
 // The search. It is hidden, until the script shows it.
 const SEARCH: &str = "\
-<p id=\"search\" hidden><label>Rows with <input type=\"search\" id=\"sought\" autocomplete=\"off\"></label> <output id=\"found\"></output></p>\n\
-<div id=\"rows\">\n";
+<p id=\"search\" hidden><label>Rows with <input type=\"search\" id=\"sought\" autocomplete=\"off\"></label> <output id=\"found\"></output></p>\n";
 
-// The end of the rows, and the script of the search: of what is typed, the rows that have it are open, and the others hidden.
+// The script of the search: of what is typed, the rows that have it are open, and the others hidden.
 const SCRIPT: &str = "\
-</div>\n\
 <script>\n\
 (function () {\n\
 const rows = Array.from(document.querySelectorAll('#rows > details'), row => [row, row.textContent.toLowerCase()]);\n\
@@ -74,8 +73,8 @@ document.getElementById('search').hidden = false;\n\
 </script>\n";
 
 /// The page of what a film shows: an HTML document with the verdict, this picture as it is, this text below it, a line each, and the
-/// rows, each folded, with what it changes inside. With these names of the nodes, from node 1 on. Where claims are left out, so are their
-/// rows, but for one that decided. Refused where an allocation fails.
+/// rows, each once and in order, folded, with what it changes inside. With these names of the nodes, from node 1 on. Where claims are left
+/// out, so are their rows, but for one that decided. Refused where an allocation fails.
 pub fn html_page(
     alloc: Global,
     finished: &FinishedFilm,
@@ -92,7 +91,12 @@ pub fn html_page(
         (headed (title_text finished.now.verdict finished.now.setup.nodes finished.now.setup.partitions (row_before finished.now.scenes.items) (length finished.now.scenes.items)))) }
     ensures picture { IfOk result (λ text. Has (string_bytes text) picture.now) }
     ensures below { IfOk result (λ text. HasLines (string_bytes text) below.now) }
-    ensures rows { IfOk result (λ text. HasSummaries (string_bytes text) claims finished.now.verdict finished.now.scenes.items) }
+    ensures rows { IfOk result (λ text. HasRowsOf (string_bytes text) claims finished.now.verdict finished.now.setup.nodes (map (λ s. s.now) names.now) finished.now.scenes.items) }
+
+    // It has nothing else.
+    ensures whole { IfOk result (λ text. string_bytes text ≡ page_text
+        (title_text finished.now.verdict finished.now.setup.nodes finished.now.setup.partitions (row_before finished.now.scenes.items) (length finished.now.scenes.items))
+        picture.now below.now (rows_text claims finished.now.verdict finished.now.setup.nodes (map (λ s. s.now) names.now) finished.now.scenes.items)) }
 {
     let front = front_of(alloc, finished);
     let behind = behind_of(alloc, finished, names, claims, below);
@@ -119,6 +123,8 @@ fn front_of(alloc: Global, finished: &FinishedFilm) -> Paper
         (titled (title_text finished.now.verdict finished.now.setup.nodes finished.now.setup.partitions (row_before finished.now.scenes.items) (length finished.now.scenes.items)))) }
     ensures heading { IsIn result (λ text. Has text
         (headed (title_text finished.now.verdict finished.now.setup.nodes finished.now.setup.partitions (row_before finished.now.scenes.items) (length finished.now.scenes.items)))) }
+    ensures text { IsIn result (λ text. text ≡ front_text
+        (title_text finished.now.verdict finished.now.setup.nodes finished.now.setup.partitions (row_before finished.now.scenes.items) (length finished.now.scenes.items))) }
 {
     let mut front = Paper::new(alloc);
     front.push("<!DOCTYPE html>\n");
@@ -155,13 +161,17 @@ fn behind_of(
 ) -> Paper
     ensures ends { IsIn result (λ text. Ends text page_end) }
     ensures below { IsIn result (λ text. HasLines text below.now) }
-    ensures rows { IsIn result (λ text. HasSummaries text claims finished.now.verdict finished.now.scenes.items) }
+    ensures rows { IsIn result (λ text. HasRowsOf text claims finished.now.verdict finished.now.setup.nodes (map (λ s. s.now) names.now) finished.now.scenes.items) }
+    ensures text { IsIn result (λ text. text ≡ behind_text below.now
+        (rows_text claims finished.now.verdict finished.now.setup.nodes (map (λ s. s.now) names.now) finished.now.scenes.items)) }
 {
     let mut behind = Paper::new(alloc);
     behind.push("</div>\n");
     push_below(&mut behind, below);
     behind.push(SEARCH);
+    behind.push("<div id=\"rows\">\n");
     push_rows(&mut behind, finished, names, claims);
+    behind.push("</div>\n");
     behind.push(SCRIPT);
     behind.push("</body>\n</html>\n");
     behind
@@ -169,7 +179,7 @@ fn behind_of(
 
 // Writes the text below the picture, a line each.
 fn push_below(page: &mut Paper, below: &str)
-    ensures { Gains page.old page.new (λ text. HasLines text below.now) }
+    ensures { Writes page.old page.new (lines_text (lines below.now)) }
 {
     for line in below.lines() {
         push_line(page, line);
@@ -178,7 +188,7 @@ fn push_below(page: &mut Paper, below: &str)
 
 // Writes a line of it.
 fn push_line(page: &mut Paper, line: &str)
-    ensures { Gains page.old page.new (λ text. Has text (line_text line.now)) }
+    ensures { Writes page.old page.new (line_text line.now) }
 {
     page.push("<p class=\"below\">");
     page.push_escaped(line);

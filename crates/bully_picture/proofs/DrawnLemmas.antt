@@ -70,7 +70,7 @@ arrow-later text i first next row before rest held at arrow = record {
   arrow = arrow.arrow;
 }
 
-up-to-or-behind : (row last : ℕ) → (row ≤ last) ⊎ (last + 1 ≤ row)
+pub up-to-or-behind : (row last : ℕ) → (row ≤ last) ⊎ (last + 1 ≤ row)
 up-to-or-behind row last = by (nat_le row last) refl
   where
     by : (b : Bool) → nat_le row last ≡ b → (row ≤ last) ⊎ (last + 1 ≤ row)
@@ -105,7 +105,7 @@ lane-arrows text i first snapshots lane is has =
     subst (HasArrows text i first) is.holdings
     (holdings-arrows text i first (first + length snapshots) lane.holdings.items is.holdings_joined (subst (λ k. HasHoldings text k lane.holdings.items) is.node has))
 
-first-or-later : (j i : ℕ) → j ≤ i → (j ≡ i) ⊎ (j + 1 ≤ i)
+pub first-or-later : (j i : ℕ) → j ≤ i → (j ≡ i) ⊎ (j + 1 ≤ i)
 first-or-later j i low = by (j == i) refl
   where
     by : (b : Bool) → (j == i) ≡ b → (j ≡ i) ⊎ (j + 1 ≤ i)

@@ -1,3 +1,5 @@
+mod BarLemmas
+mod ColumnLemmas
 mod DrawnLemmas
 mod EscapeLemmas
 mod HarmlessLemmas

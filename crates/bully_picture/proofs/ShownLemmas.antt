@@ -10,12 +10,12 @@ use Rattle.bully_rows.specs.TraceText.{row_fields}
 use Rattle.bully_trace.specs.declared.verdict.Verdict.{Verdict}
 use Rattle.bully_film.specs.declared.scene.Scene.{Scene}
 use Rattle.bully_picture.specs.declared.claims.Claims.{Claims}
-use Rattle.bully_picture.specs.Drawn.{AreNumbers, HasRows, HasSaid, HasText, bare_text, colour_of, is_shown, number_text, said_text, scenes_shown}
+use Rattle.bully_picture.specs.Drawn.{AreNumbers, HasRows, HasSaid, HasText, bare_text, colour_of, is_shown, number_text, said_text, scenes_shown, tail_text}
 use Rattle.bully_trace.specs.OneRow.{decides}
 use Rattle.bully_picture.specs.Escaping.{cut_text}
 use Rattle.bully_picture.specs.Title.{Has}
 use Rattle.bully_picture.specs.Written.{Extends, Gains, IsCopied, IsIn, Writes, Written, blank}
-use Rattle.bully_picture.proofs.WrittenLemmas.{extends-then, extends-written, has-more, has-within, written-in}
+use Rattle.bully_picture.proofs.WrittenLemmas.{extends-then, extends-written, has-more, has-within, has-written, writes-then}
 
 -- ---- which rows are shown
 
@@ -74,16 +74,20 @@ rows-copied text paper verdict scenes (good, within) are = (paper.text, within, 
 
 -- ---- their texts
 
+-- the row's text with so many letters, and what stands behind it
+abbrev pub whole_text : ℕ → Bool → Bool → Scene → List ℕ
+whole_text letters has_room is_decided s =
+    codes " fill=\"" ++ colour_of is_decided (codes "#555") ++ codes "\">" ++ cut_text letters (said_text s) ++ tail_text has_room is_decided s ++ codes "</text>\n"
+
 said-longer : (text more : List ℕ) (verdict : Verdict) (scenes : List Scene) → HasSaid text verdict scenes → HasSaid (text ++ more) verdict scenes
 said-longer text more verdict scenes has =
     All-weaker (λ s. HasText text (decides verdict s.number) s) (λ s. HasText (text ++ more) (decides verdict s.number) s)
-    (λ s one. (one.0, has-more (codes " fill=\"" ++ colour_of (decides verdict s.number) (codes "#555") ++ codes "\">" ++ cut_text one.0 (said_text s)) text more one.1)) scenes has
+    (λ s one. (one.0, one.1, has-more (whole_text one.0 one.1 (decides verdict s.number) s) text more one.2)) scenes has
 
 pub said-copied : (text : List ℕ) (paper : Written) (verdict : Verdict) (scenes : List Scene) → IsCopied paper text → IsIn paper (λ t. HasSaid t verdict scenes) → HasSaid text verdict scenes
 said-copied text paper verdict scenes (good, within) has =
     All-weaker (λ s. HasText paper.text (decides verdict s.number) s) (λ s. HasText text (decides verdict s.number) s)
-    (λ s one. (one.0, has-within text paper.text (codes " fill=\"" ++ colour_of (decides verdict s.number) (codes "#555") ++ codes "\">" ++ cut_text one.0 (said_text s)) within one.1))
-    scenes (has good)
+    (λ s one. (one.0, one.1, has-within text paper.text (whole_text one.0 one.1 (decides verdict s.number) s) within one.2)) scenes (has good)
 
 -- one more row has its text
 pub said-more : (claims : Claims) (verdict : Verdict) (scenes : List Scene) (i : ℕ) (s : Scene) (tested d : Bool) (a b : Written) → i < length scenes → s ≡ get_or scenes i s
@@ -111,15 +115,28 @@ pub said-all : (claims : Claims) (verdict : Verdict) (xs scenes : List Scene) (i
 said-all claims verdict xs scenes i a all same so_far =
     subst (λ l. IsIn a (λ text. HasSaid text verdict (scenes_shown claims verdict l))) (take_all i xs all ∙ same) so_far
 
--- what a row says was written on a paper of its own, and as much of it as there is room for behind this head
-pub text-gained : {start placed written end empty paper : Written} (head line : List ℕ) (letters : ℕ) → Extends start placed
+-- what was written on a paper of its own
+on-paper : (empty paper : Written) (line : List ℕ) → paper.has_failed ≡ false → empty ≡ blank → Writes empty paper line → paper.text ≡ line
+on-paper empty paper line good none said = said.text good ∙ ap (λ (p : Written). p.text ++ line) none
+
+-- what a row says was written on a paper of its own, and as much of it as there is room for behind this head; then what stands behind it
+pub text-gained : {start placed written tailed end empty paper bare tail : Written} (head line : List ℕ) (behind : Bool → List ℕ) (letters : ℕ) (has_room : Bool) → Extends start placed
     → Writes placed written (head ++ cut_text letters paper.text) → (written.has_failed ≡ false → paper.has_failed ≡ false) → empty ≡ blank → Writes empty paper line
-    → Extends written end → Gains start end (λ text. (n : ℕ) × Has text (head ++ cut_text n line))
-text-gained {start} {placed} {written} {end} {empty} {paper} head line letters place writes whole none said behind = record {
-  extends = extends-then place (extends-then (extends-written writes) behind);
+    → Writes written tailed tail.text → (tailed.has_failed ≡ false → tail.has_failed ≡ false) → bare ≡ blank → Writes bare tail (behind has_room)
+    → Writes tailed end (codes "</text>\n")
+    → Gains start end (λ text. (n : ℕ) × (room : Bool) × Has text (head ++ cut_text n line ++ behind room ++ codes "</text>\n"))
+text-gained {start} {placed} {written} {tailed} {end} {empty} {paper} {bare} {tail} head line behind letters has_room place writes whole none said copied tail_whole no_tail tail_said last = record {
+  extends = extends-then place (extends-then (extends-written writes) (extends-then (extends-written copied) (extends-written last)));
   holds = λ good.
-      let same : paper.text ≡ line = said.text (whole (behind.memory good)) ∙ ap (λ (p : Written). p.text ++ line) none in
-      (letters, subst (λ l. Has end.text (head ++ cut_text letters l)) same (written-in writes behind good));
+      let on = last.memory good in
+      let line_is : paper.text ≡ line = on-paper empty paper line (whole (copied.memory on)) none said in
+      let tail_is : tail.text ≡ behind has_room = on-paper bare tail (behind has_room) (tail_whole on) no_tail tail_said in (
+        letters,
+        has_room,
+        subst (λ t. Has end.text (head ++ cut_text letters line ++ t ++ codes "</text>\n")) tail_is
+            (subst (λ l. Has end.text (head ++ cut_text letters l ++ tail.text ++ codes "</text>\n")) line_is
+            ((has-written (writes-then (writes-then writes copied) last)).holds good)),
+      );
 }
 
 -- ---- what a row says

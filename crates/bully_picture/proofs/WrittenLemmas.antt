@@ -1,7 +1,8 @@
 -- What stands on a paper behind several writes.
-use Rattle.std.proofs.Common.{◌≡◌, ◌∙◌, ℕ, ◌+◌, ◌<◌, ◌++◌, List, [], false, Result, Ok, Err, codes, get_or, length, take, refl, sym, ap, subst}
+use Rattle.std.proofs.Common.{◌≡◌, ◌∙◌, ℕ, ◌+◌, ◌<◌, ◌≤◌, ◌++◌, List, [], ◌∷◌, false, Result, Ok, Err, codes, get_or, length, take, refl, sym, ap, subst}
 use Rattle.std.specs.Prelude.{All, IfOk}
-use Rattle.std.proofs.lemmas.List.{append_assoc, append-nil}
+use Rattle.std.specs.List.{flat_map}
+use Rattle.std.proofs.lemmas.List.{append_assoc, append-nil, flat_map_more, take_all, take_more}
 use Rattle.std.proofs.lemmas.List.Elements.{All-more, All-weaker}
 use Rattle.bully_picture.specs.Title.{Begins, Has, IsDocument}
 use Rattle.bully_picture.specs.Written.{Extends, Gains, IsCopied, IsIn, Writes, Written, blank}
@@ -86,6 +87,17 @@ writes-nothing a = record { memory = λ good. good; text = λ good. sym (append-
 pub writes-as : {a b : Written} {p q : List ℕ} → p ≡ q → Writes a b p → Writes a b q
 writes-as {a} {b} same written = subst (Writes a b) same written
 
+-- pieces of these things, one after the other, up to one more
+pub pieces-more : {X : Type 0} (piece : X → List ℕ) (xs : List X) (k : ℕ) (x : X) (start a b : Written) → k < length xs → x ≡ get_or xs k x
+    → Writes start a (flat_map piece (take k xs)) → Writes a b (piece x) → Writes start b (flat_map piece (take (k + 1) xs))
+pieces-more {X} piece xs k x start a b within is so_far written =
+    let grown : take k xs ++ x ∷ [] ≡ take (k + 1) xs = ap (λ (one : X). take k xs ++ one ∷ []) is ∙ sym (take_more xs k x within) in
+    writes-as (flat_map_more piece [] (take k xs) x ∙ ap (flat_map piece) grown) (writes-then so_far written)
+
+-- and all of them
+pub pieces-all : {X : Type 0} (piece : X → List ℕ) (xs : List X) (k : ℕ) (start a : Written) → length xs ≤ k → Writes start a (flat_map piece (take k xs)) → Writes start a (flat_map piece xs)
+pieces-all piece xs k start a all so_far = writes-as (ap (flat_map piece) (take_all k xs all)) so_far
+
 -- what was written still stands there behind a second step
 pub written-in : {a b c : Written} {p : List ℕ} → Writes a b p → Extends b c → IsIn c (λ text. Has text p)
 written-in {a} {b} {c} {p} written behind = (gains-still (λ text. Has text p) (has-more p) (has-written written) behind).holds
@@ -105,6 +117,10 @@ pub begins-written : {a b c : Written} {p : List ℕ} → a ≡ blank → Writes
 begins-written {a} {b} {c} {p} empty written behind good =
     let grown = behind.text good in
     (grown.0, grown.1 ∙ ap (λ t. t ++ grown.0) (written.text (behind.memory good) ∙ ap (λ w. w.text ++ p) empty))
+
+-- what was written on an empty paper is all that stands there
+pub written-whole : {a b : Written} {p : List ℕ} → a ≡ blank → Writes a b p → IsIn b (λ text. text ≡ p)
+written-whole {a} {b} {p} empty written good = written.text good ∙ ap (λ (w : Written). w.text ++ p) empty
 
 -- a document has its ends
 pub document : {a b c d : Written} → a ≡ blank → Writes a b (codes "<svg xmlns=\"http://www.w3.org/2000/svg\"") → Extends b c → Writes c d (codes "</svg>\n") → IsIn d IsDocument

@@ -1,6 +1,6 @@
 -- What stands in a picture of what a film shows: the number and the text of each row that is shown, the name of each node, an arrow of each
 -- call, and the text below.
-use Rattle.std.specs.Prelude.{◌≡◌, ℕ, ◌+◌, ◌-◌, ◌<◌, ◌≤◌, Bool, true, false, List, [], ◌∷◌, ◌++◌, ◌==◌, Option, Some, None, All, codes, filter, get_or, is_some, map, ◌||◌, if◌then◌else◌}
+use Rattle.std.specs.Prelude.{◌≡◌, ℕ, ◌+◌, ◌-◌, ◌<◌, ◌≤◌, Bool, true, false, List, [], ◌∷◌, ◌++◌, ◌==◌, Option, Some, None, All, codes, filter, get_or, is_some, map, not, ◌||◌, ◌&&◌, if◌then◌else◌}
 use Rattle.std.specs.Fmt.{decimal}
 use Rattle.std.specs.List.{join_with_byte}
 use Rattle.std.specs.Str.{chars}
@@ -22,6 +22,7 @@ use Rattle.bully_film.specs.Lane.{Holding, held_in}
 use Rattle.bully_picture.specs.declared.claims.Claims.{Claims}
 use Rattle.bully_picture.specs.Escaping.{cut_text, escaped}
 use Rattle.bully_picture.specs.Title.{Has}
+use Rattle.bully_picture.specs.Words.{meaning_text}
 
 -- the call as the profile names it
 abbrev pub kind_text : CallKind → List ℕ
@@ -60,6 +61,10 @@ abbrev pub row_word : Option EventKind → List ℕ
 row_word None = codes "saw"
 row_word (Some kind) = word_of kind
 
+abbrev pub is_plan : Option EventKind → Bool
+is_plan (Some EventKind.Plan) = true
+is_plan _ = false
+
 abbrev pub bare_text : Option EventKind → ℕ → List ℕ
 bare_text event_kind i = row_word event_kind ++ (codes "," ++ decimal i ++ [])
 
@@ -67,10 +72,21 @@ bare_text event_kind i = row_word event_kind ++ (codes "," ++ decimal i ++ [])
 abbrev pub said_text : Scene → List ℕ
 said_text s = elim s.said as (λ _. List ℕ) [ None ↦ bare_text s.event_kind s.own.node | Some row ↦ join_with_byte 44 (row_fields row) ]
 
--- the row's text at the right of its line, with as many letters at most
+-- who gets a table that has no room at the lane: it stands behind these words where it is shown
+abbrev pub getting_text : Scene → List ℕ
+getting_text s =
+    if is_some s.table && is_plan s.event_kind then codes ":"
+    else (codes ": " ++ decimal s.other.node ++ codes " ") ++ (if is_some s.table then codes "gets" else codes "gets a table")
+
+-- what stands behind what a row says: what it does, or, without room at the lane, who gets a table; nothing of the row that decided
+abbrev pub tail_text : Bool → Bool → Scene → List ℕ
+tail_text has_room is_decided s = if not is_decided && s.gets_table && not has_room then getting_text s else meaning_text is_decided s
+
+-- the row's text at the right of its line, with as many letters at most, and what stands behind it
 abbrev pub HasText : List ℕ → Bool → Scene → Type 0
 HasText text is_decided s =
-    (letters : ℕ) × Has text (codes " fill=\"" ++ colour_of is_decided (codes "#555") ++ codes "\">" ++ cut_text letters (said_text s))
+    (letters : ℕ) × (has_room : Bool)
+    × Has text (codes " fill=\"" ++ colour_of is_decided (codes "#555") ++ codes "\">" ++ cut_text letters (said_text s) ++ tail_text has_room is_decided s ++ codes "</text>\n")
 
 -- a node over its lane: all of its name, for where the pointer rests; or its number, where it has none, behind a word in wide lanes
 abbrev pub node_label : Bool → ℕ → Option (List ℕ) → List ℕ

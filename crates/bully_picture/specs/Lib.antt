@@ -1,6 +1,9 @@
+pub mod Bars
 pub mod Drawn
 pub mod Escaping
 pub mod Harmless
+pub mod Head
 pub mod Title
 pub mod Told
+pub mod Words
 pub mod Written

@@ -179,7 +179,9 @@ pub fn push_line(paper: &mut Paper, x1: u32, y1: u32, x2: u32, y2: u32)
 }
 
 /// Writes a rectangle, and behind where it lies the rest of it.
-pub fn push_area(paper: &mut Paper, area: Area, rest: &'static str) {
+pub fn push_area(paper: &mut Paper, area: Area, rest: &'static str)
+    ensures { Extends paper.old paper.new }
+{
     paper.push("<rect");
     paper.push_attribute("x", area.x);
     paper.push_attribute("y", area.y);

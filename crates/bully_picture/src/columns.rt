@@ -1,20 +1,29 @@
 //! The picture for a terminal: a line for each row that changes what a node is.
-ghost use Rattle.std.specs.Prelude.{◌≡◌, true, IfOk, OnOk, string_bytes};
-ghost use Rattle.bully_picture.specs.Title.{Begins, Ends, Has};
-ghost use Rattle.bully_picture.specs.Told.{HasTold, HasToldAbove, IsTold, line_start};
-ghost use Rattle.bully_picture.specs.Written.{Extends, Gains};
+ghost use Rattle.std.specs.Prelude.{◌≡◌, ◌≤◌, ◌-◌, [], ◌∷◌, ◌++◌, codes, length, max, replicate, IfOk, OnOk, string_bytes};
+ghost use Rattle.std.specs.Fmt.{decimal};
+ghost use Rattle.bully_base.specs.Places.{put_node};
+ghost use Rattle.bully_film.specs.Behind.{world_behind};
+ghost use Rattle.bully_film.specs.Film.{IsFilmOf};
+ghost use Rattle.bully_film.specs.Scene.{snapshot, snapshots_of};
+ghost use Rattle.bully_film.specs.Window.{WindowState};
+ghost use Rattle.bully_picture.specs.Title.{Begins, Ends};
+ghost use Rattle.bully_picture.specs.Told.{back_text, cell_text, cells_text, change_text, change_words, column_letter, column_of, column_word, columns_text, filled, form_of, front_text, heads_text, is_told, name_text, names_text, quiet_text, tells_change, told_behind, told_from, told_line, told_text};
+ghost use Rattle.bully_picture.specs.Words.{followed_text};
+ghost use Rattle.bully_picture.specs.Written.{Extends, Writes};
+ghost use Rattle.bully_rows.specs.Trace.{Trace};
+ghost use Rattle.bully_trace.specs.OneRow.{decides};
 ghost use Rattle.bully_trace.specs.VerdictText.{verdict_head};
 
 use crate::paper::Paper;
-use crate::words::{push_followed, push_meaning, push_row_text};
+use crate::words::{is_same_stand, push_followed, push_meaning, push_row_text};
 use bully_base::{Node, OutOfMemory, Status};
-use bully_film::{FinishedFilm, NodeSnapshot, Scene, lane_of};
-use std::alloc::Global;
+use bully_film::{Change, FinishedFilm, NodeSnapshot, Scene, lane_of};
+use std::alloc::{AllocError, Global};
 
 /// How the columns of the nodes look: a word of the status with the coordinator, where there are few; a letter with the coordinator; a
 /// letter alone, with what the row changes behind all of them; or that alone, where they are too many for a line.
 #[derive(Clone, Copy)]
-enum Form {
+pub enum Form {
     Words,
     Short,
     Letters,
@@ -23,7 +32,9 @@ enum Form {
 
 impl Form {
     // The form for so many nodes.
-    fn of(nodes: u16) -> Form {
+    fn of(nodes: u16) -> Form
+        ensures { result ≡ form_of nodes }
+    {
         match nodes {
             0..=6 => Form::Words,
             7..=20 => Form::Short,
@@ -33,7 +44,9 @@ impl Form {
     }
 
     // How wide the column of a node is.
-    fn column(self) -> usize {
+    fn column(self) -> usize
+        ensures { result ≡ column_of self }
+    {
         match self {
             Form::Words => 9,
             Form::Short => 4,
@@ -42,8 +55,17 @@ impl Form {
         }
     }
 
+    // Whether what the row changes stands behind the columns.
+    fn tells_change(self) -> bool
+        ensures { result ≡ tells_change self }
+    {
+        matches!(self, Form::Letters | Form::Changes)
+    }
+
     // What stands before the heads of the columns: what the letters mean, where there are any, and the head of the row's number.
-    fn front(self) -> &'static str {
+    fn front(self) -> &'static str
+        ensures { result.now ≡ front_text self }
+    {
         match self {
             Form::Words | Form::Changes => "    row  ",
             Form::Short | Form::Letters => {
@@ -53,16 +75,13 @@ impl Form {
     }
 
     // What stands behind the heads of the columns: the head of what the row changes, where that stands behind them, and of its text.
-    fn back(self) -> &'static str {
+    fn back(self) -> &'static str
+        ensures { result.now ≡ back_text self }
+    {
         match self {
             Form::Words | Form::Short => "what it says",
             Form::Letters | Form::Changes => "  changes       what it says",
         }
-    }
-
-    // Whether what the row changes stands behind the columns.
-    fn tells_change(self) -> bool {
-        matches!(self, Form::Letters | Form::Changes)
     }
 }
 
@@ -78,7 +97,10 @@ pub fn text_picture(
     below: &str,
 ) -> Result<String, OutOfMemory>
     ensures verdict { IfOk result (λ text. Begins (string_bytes text) (verdict_head finished.now.verdict)) }
-    ensures rows { IfOk result (λ text. HasToldAbove (string_bytes text) below.now finished.now.verdict finished.now.scenes.items) }
+
+    // Each node stands in the line of a row as it does in the world behind it.
+    ensures whole { (window : WindowState) (trace : Trace) (is : IsFilmOf window finished.now trace)
+        → IfOk result (λ text. string_bytes text ≡ columns_text finished.now.verdict finished.now.setup.nodes (told_from trace.setup is.before is.shown) ++ below.now) }
     ensures below { IfOk result (λ text. Ends (string_bytes text) below.now) }
 {
     let mut text = lines_of(alloc, finished)?;
@@ -89,7 +111,8 @@ pub fn text_picture(
 // The verdict and the lines of the rows.
 fn lines_of(alloc: Global, finished: &FinishedFilm) -> Result<String, OutOfMemory>
     ensures verdict { IfOk result (λ text. Begins (string_bytes text) (verdict_head finished.now.verdict)) }
-    ensures rows { IfOk result (λ text. HasTold (string_bytes text) finished.now.verdict finished.now.scenes.items) }
+    ensures whole { (window : WindowState) (trace : Trace) (is : IsFilmOf window finished.now trace)
+        → IfOk result (λ text. string_bytes text ≡ columns_text finished.now.verdict finished.now.setup.nodes (told_from trace.setup is.before is.shown)) }
 {
     let mut lines = Paper::new(alloc);
     lines.push_verdict(finished.verdict);
@@ -97,9 +120,12 @@ fn lines_of(alloc: Global, finished: &FinishedFilm) -> Result<String, OutOfMemor
     lines.into_text()
 }
 
-// Writes the lines of the rows.
+// Writes the heads of the columns and the lines of the rows.
 fn push_lines(alloc: Global, lines: &mut Paper, finished: &FinishedFilm) -> Result<(), OutOfMemory>
-    ensures { OnOk result (Gains lines.old lines.new (λ text. HasTold text finished.now.verdict finished.now.scenes.items)) }
+    ensures extends { OnOk result (Extends lines.old lines.new) }
+    ensures whole { (window : WindowState) (trace : Trace) (is : IsFilmOf window finished.now trace)
+        → OnOk result (Writes lines.old lines.new
+        (heads_text finished.now.setup.nodes ++ told_text finished.now.verdict finished.now.setup.nodes 0 (told_from trace.setup is.before is.shown) ++ codes "\n")) }
 {
     let mut now = Vec::with_capacity(alloc, usize::from(finished.setup.nodes()))?;
     push_starts(alloc, &mut now, finished)?;
@@ -112,115 +138,177 @@ fn push_starts(
     alloc: Global,
     now: &mut Vec<NodeSnapshot>,
     finished: &FinishedFilm,
-) -> Result<(), OutOfMemory> {
+) -> Result<(), OutOfMemory>
+    requires { now.old.items ≡ [] }
+    ensures { (window : WindowState) (trace : Trace) (is : IsFilmOf window finished.now trace)
+        → OnOk result (now.new.items ≡ snapshots_of (world_behind trace.setup is.before) 1 finished.now.setup.nodes) }
+{
     for before in 0..finished.setup.nodes() {
         let node = Node::new(before + 1).unwrap();
-        let lane = lane_of(alloc, finished, node)?;
-        if let Some(first) = lane.first() {
-            now.push(*first)?;
-        }
+        push_start(alloc, now, finished, node)?;
     }
     Ok(())
 }
 
-// Writes the lines of the rows, before which the nodes stand so. Each line begins with the line feed of the one before it.
-fn push_rows(lines: &mut Paper, finished: &FinishedFilm, now: &mut [NodeSnapshot])
-    ensures { Gains lines.old lines.new (λ text. HasTold text finished.now.verdict finished.now.scenes.items) }
+// Appends how the node stands before the first row. Refused where an allocation fails; and where the lane is empty, which none is.
+fn push_start(
+    alloc: Global,
+    now: &mut Vec<NodeSnapshot>,
+    finished: &FinishedFilm,
+    node: Node,
+) -> Result<(), OutOfMemory>
+    requires { node ≤ finished.now.setup.nodes }
+    ensures { (window : WindowState) (trace : Trace) (is : IsFilmOf window finished.now trace)
+        → OnOk result (now.new.items ≡ now.old.items ++ snapshot (world_behind trace.setup is.before) node ∷ []) }
 {
-    let form = Form::of(finished.setup.nodes());
-    push_names(lines, finished.setup.nodes(), form);
-    let mut quiet = 0u32;
+    let lane = lane_of(alloc, finished, node)?;
+    match lane.as_slice().first() {
+        Some(start) => {
+            now.push(*start)?;
+            Ok(())
+        }
+        None => Err(AllocError),
+    }
+}
+
+// Writes the heads of the columns and the lines of the rows, before which the nodes stand so. Each line begins with the line feed of the
+// one before it.
+fn push_rows(lines: &mut Paper, finished: &FinishedFilm, now: &mut [NodeSnapshot])
+    ensures { Writes lines.old lines.new
+        (heads_text finished.now.setup.nodes ++ told_text finished.now.verdict finished.now.setup.nodes 0 (told_behind now.old finished.now.scenes.items) ++ codes "\n") }
+{
+    push_heads(lines, finished.setup.nodes());
+    push_told(lines, finished, now);
+    lines.push("\n");
+}
+
+// Writes the lines of the rows.
+fn push_told(lines: &mut Paper, finished: &FinishedFilm, now: &mut [NodeSnapshot])
+    ensures { Writes lines.old lines.new (told_text finished.now.verdict finished.now.setup.nodes 0 (told_behind now.old finished.now.scenes.items)) }
+{
+    let mut quiet = 0usize;
     for scene in finished.scenes.as_slice() {
+        put(now, &scene.other);
+        put(now, &scene.own);
         if speaks(finished, scene) {
             push_quiet(lines, quiet);
             quiet = 0;
-            put(now, scene);
-            push_line(lines, scene, now, form);
+            push_line(lines, finished, scene, now);
         } else {
-            quiet = quiet.saturating_add(1);
+            quiet += 1;
         }
     }
     push_quiet(lines, quiet);
-    lines.push("\n");
 }
 
 // Whether the row has a line: it changes what a node is, or it decided.
 fn speaks(finished: &FinishedFilm, scene: &Scene) -> bool
-    ensures { IsTold finished.now.verdict scene.now → result ≡ true }
+    ensures { result ≡ is_told finished.now.verdict scene.now }
 {
     finished.verdict.decides(scene.number)
-        || scene.other.before.status != scene.other.after.status
-        || scene.other.before.coordinator != scene.other.after.coordinator
+        || !is_same_stand(&scene.other.before, &scene.other.after)
 }
 
-// The node whose vector the row changes stands as it does behind it.
-fn put(now: &mut [NodeSnapshot], scene: &Scene) {
-    let place = usize::from(scene.other.node.number() - 1);
+// The node stands as it does behind the change, if it is one of these.
+fn put(now: &mut [NodeSnapshot], change: &Change)
+    ensures { now.new ≡ put_node now.old change.now.node change.now.after }
+{
+    let place = usize::from(change.node.number() - 1);
     if place < now.len() {
-        now[place] = scene.other.after;
+        now[place] = change.after;
     }
 }
 
 // Writes what the letters mean, and the heads of the columns.
-fn push_names(lines: &mut Paper, nodes: u16, form: Form)
-    ensures { Extends lines.old lines.new }
+fn push_heads(lines: &mut Paper, nodes: u16)
+    ensures { Writes lines.old lines.new (heads_text nodes) }
 {
+    let form = Form::of(nodes);
     lines.push(form.front());
-    for before in 0..nodes {
-        push_name(lines, before.saturating_add(1), form);
-    }
+    push_names(lines, form, nodes);
     lines.push(form.back());
 }
 
-// Writes the head of a node's column: its number; of a column of one letter a mark, with the tens at each tenth.
-fn push_name(lines: &mut Paper, number: u16, form: Form)
-    ensures { Extends lines.old lines.new }
+// Writes the heads of the nodes' columns.
+fn push_names(lines: &mut Paper, form: Form, nodes: u16)
+    ensures { Writes lines.old lines.new (names_text form nodes) }
 {
-    let start = lines.len();
+    for before in 0..nodes {
+        push_name(lines, form, before + 1);
+    }
+}
+
+// Writes the head of a node's column: its number; of a column of one letter a mark, with the tens at each tenth.
+fn push_name(lines: &mut Paper, form: Form, number: u16)
+    ensures { Writes lines.old lines.new (name_text form number) }
+{
     match form {
-        Form::Words | Form::Short => {
-            lines.push_number("", u32::from(number), "");
-            fill(lines, start, form.column());
-        }
-        Form::Letters if number.is_multiple_of(10) => {
-            lines.push_number("", u32::from(number / 10 % 10), "");
-        }
-        Form::Letters => lines.push("."),
+        Form::Words => push_number(lines, number, form.column()),
+        Form::Short => push_number(lines, number, form.column()),
+        Form::Letters => push_mark(lines, number),
         Form::Changes => {}
     }
 }
 
-// Writes how many rows lie between; nothing where there are none.
-fn push_quiet(lines: &mut Paper, quiet: u32)
-    ensures { Extends lines.old lines.new }
+// Writes a number in a column.
+fn push_number(lines: &mut Paper, number: u16, column: usize)
+    ensures { Writes lines.old lines.new (filled column (decimal number)) }
 {
-    match quiet {
-        0 => {}
-        1 => lines.push("\n    ... 1 row"),
-        _ => lines.push_number("\n    ... ", quiet, " rows"),
+    let start = lines.len();
+    lines.push_number("", u32::from(number), "");
+    fill(lines, start, column);
+}
+
+// Writes the mark of a node in a column of one letter.
+fn push_mark(lines: &mut Paper, number: u16)
+    ensures { Writes lines.old lines.new (name_text Form.Letters number) }
+{
+    if number % 10 == 0 {
+        lines.push_number("", u32::from(number / 10 % 10), "");
+    } else {
+        lines.push(".");
+    }
+}
+
+// Writes how many rows lie between; nothing where there are none.
+fn push_quiet(lines: &mut Paper, quiet: usize)
+    ensures { Writes lines.old lines.new (quiet_text quiet) }
+{
+    if quiet == 1 {
+        lines.push("\n    ... 1 row");
+    } else if quiet > 1 {
+        lines.push_count("\n    ... ", quiet as u128, " rows");
     }
 }
 
 // Writes the line of a row, behind which the nodes stand so.
-fn push_line(lines: &mut Paper, scene: &Scene, now: &[NodeSnapshot], form: Form)
-    ensures { Gains lines.old lines.new (λ text. Has text (line_start scene.now.number)) }
+fn push_line(lines: &mut Paper, finished: &FinishedFilm, scene: &Scene, now: &[NodeSnapshot])
+    ensures { Writes lines.old lines.new
+        (told_line finished.now.setup.nodes (decides finished.now.verdict scene.now.number) (record { scene = scene.now; nodes = now.now })) }
 {
+    let nodes = finished.setup.nodes();
+    let form = Form::of(nodes);
     lines.push("\n");
     lines.push_right(scene.number);
     lines.push("  ");
+    push_cells(lines, now, form);
+    push_change(lines, form, nodes, &scene.other);
+    push_row_text(lines, scene);
+    push_meaning(lines, scene, finished.verdict.decides(scene.number));
+}
+
+// Writes how the nodes stand, each in its column.
+fn push_cells(lines: &mut Paper, now: &[NodeSnapshot], form: Form)
+    ensures { Writes lines.old lines.new (cells_text form now.now) }
+{
     for snapshot in now {
         push_cell(lines, snapshot, form);
     }
-    if form.tells_change() {
-        push_change(lines, scene);
-    }
-    push_row_text(lines, scene);
-    push_meaning(lines, scene);
 }
 
 // Writes how a node stands: its status, and its coordinator where the column has room for it.
 fn push_cell(lines: &mut Paper, snapshot: &NodeSnapshot, form: Form)
-    ensures { Extends lines.old lines.new }
+    ensures { Writes lines.old lines.new (cell_text form snapshot.now) }
 {
     match form {
         Form::Words => push_stand(lines, word(snapshot.status), " ", snapshot, form.column()),
@@ -238,26 +326,39 @@ fn push_stand(
     snapshot: &NodeSnapshot,
     column: usize,
 )
-    ensures { Extends lines.old lines.new }
+    ensures { Writes lines.old lines.new (filled column (followed_text word.now between.now snapshot.now.coordinator)) }
 {
     let start = lines.len();
     push_followed(lines, word, between, snapshot.coordinator);
     fill(lines, start, column);
 }
 
-// Writes how the node stands now whose vector the row may change.
-fn push_change(lines: &mut Paper, scene: &Scene)
-    ensures { Extends lines.old lines.new }
+// Writes what stands behind the columns: how the node stands now whose vector the row may change, where they have no room for it.
+fn push_change(lines: &mut Paper, form: Form, nodes: u16, change: &Change)
+    ensures { Writes lines.old lines.new (change_text form nodes change.now) }
 {
-    let start = lines.len();
-    let after = &scene.other.after;
-    lines.push_node("  ", scene.other.node, ": ");
-    push_followed(lines, word(after.status), " ", after.coordinator);
-    fill(lines, start, CHANGE);
+    if form.tells_change() {
+        let start = lines.len();
+        push_after(lines, nodes, change);
+        fill(lines, start, CHANGE);
+    }
+}
+
+// Writes how a node stands behind a row, if the group has it.
+fn push_after(lines: &mut Paper, nodes: u16, change: &Change)
+    ensures { Writes lines.old lines.new (change_words nodes change.now) }
+{
+    if change.node.number() <= nodes {
+        let after = &change.after;
+        lines.push_node("  ", change.node, ": ");
+        push_followed(lines, word(after.status), " ", after.coordinator);
+    }
 }
 
 // The status as a word.
-fn word(status: Status) -> &'static str {
+fn word(status: Status) -> &'static str
+    ensures { result.now ≡ column_word status }
+{
     match status {
         Status::Down => "-",
         Status::Election => "elect",
@@ -267,7 +368,9 @@ fn word(status: Status) -> &'static str {
 }
 
 // The status as a letter.
-fn letter(status: Status) -> &'static str {
+fn letter(status: Status) -> &'static str
+    ensures { result.now ≡ column_letter status }
+{
     match status {
         Status::Down => "-",
         Status::Election => "E",
@@ -276,9 +379,9 @@ fn letter(status: Status) -> &'static str {
     }
 }
 
-// Fills up a column that began at this length of the text.
+// Fills up a column that began at this length of the text, by one space at least.
 fn fill(lines: &mut Paper, start: usize, width: usize)
-    ensures { Extends lines.old lines.new }
+    ensures { Writes lines.old lines.new (replicate (max 1 (width - (length lines.old.text - start))) 32) }
 {
     let taken = lines.len().saturating_sub(start);
     let rest = width.saturating_sub(taken).max(1);

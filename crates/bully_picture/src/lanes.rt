@@ -1,8 +1,10 @@
 //! The bars of a node, and its name over them.
-ghost use Rattle.std.specs.Prelude.{◌≡◌, nat_le, option_map, slice_get};
+ghost use Rattle.std.specs.Prelude.{◌≡◌, ◌++◌, codes, nat_le, option_map, slice_get};
+ghost use Rattle.std.specs.Fmt.{decimal};
+ghost use Rattle.bully_picture.specs.Bars.{HasBars, bar_label, bar_look, behind_rows, stand_text};
 ghost use Rattle.bully_picture.specs.Drawn.{HasNodes, node_label};
 ghost use Rattle.bully_picture.specs.Title.{Has};
-ghost use Rattle.bully_picture.specs.Written.{Gains, IsIn};
+ghost use Rattle.bully_picture.specs.Written.{Extends, Gains, IsIn, Writes};
 
 use crate::boxes::{Area, letters_within};
 use crate::canvas::{Canvas, push_area, push_line};
@@ -13,10 +15,13 @@ use bully_base::{Node, Setup, Status};
 use bully_film::{Bar, Stand};
 use std::alloc::Global;
 
-/// Draws the bars of a node, and says beside the first one how the node stood before the rows. What a row changes was said there.
-pub fn draw_bars(canvas: &mut Canvas, node: Node, bars: &[Bar]) {
+/// Draws the bars of a node on a paper of their own, and says beside the first one how the node stood before the rows. What a row changes
+/// was said there. Whether any rows are shown is told.
+pub fn draw_bars(canvas: &mut Canvas, paper: &mut Paper, node: Node, bars: &[Bar], shows_rows: bool)
+    ensures { Gains paper.old paper.new (λ text. HasBars text shows_rows node bars.now) }
+{
     for bar in bars {
-        draw_bar(canvas, node, bar);
+        draw_bar(&canvas.layout, paper, node, bar, shows_rows);
     }
     if let Some(bar) = bars.first() {
         draw_stand(canvas, node, bar.first, bar.seen);
@@ -24,25 +29,24 @@ pub fn draw_bars(canvas: &mut Canvas, node: Node, bars: &[Bar]) {
 }
 
 // Draws a bar: a rectangle in the colour of its status, dotted where the node is down.
-fn draw_bar(canvas: &mut Canvas, node: Node, bar: &Bar) {
-    push_bar(canvas, node, bar);
-    let shows_rows = canvas.layout.rows > 0;
-    push_title(&mut canvas.lines, node, bar, shows_rows);
-    canvas.lines.push(match bar.seen.status {
-        Status::Down => "</line>\n",
-        _ => "</rect>\n",
-    });
+fn draw_bar(layout: &Layout, paper: &mut Paper, node: Node, bar: &Bar, shows_rows: bool)
+    ensures { Gains paper.old paper.new (λ text. Has text (bar_label shows_rows node bar.now)) }
+{
+    push_bar_place(paper, layout, node, bar);
+    paper.push(bar_look(bar.seen.status));
+    push_title(paper, node, bar, shows_rows);
+    paper.push(bar_end(bar.seen.status));
 }
 
-// Writes the element of a bar, but for its title and its end.
-fn push_bar(canvas: &mut Canvas, node: Node, bar: &Bar) {
-    let x = canvas.layout.x(node);
-    let top = canvas.layout.y(bar.first);
-    let end = canvas.layout.end(bar.last);
-    let look = bar_look(bar.seen.status);
+// Writes the start of a bar, and where it lies.
+fn push_bar_place(paper: &mut Paper, layout: &Layout, node: Node, bar: &Bar)
+    ensures { Extends paper.old paper.new }
+{
+    let x = layout.x(node);
+    let top = layout.y(bar.first);
+    let end = layout.end(bar.last);
     if let Status::Down = bar.seen.status {
-        push_line(&mut canvas.lines, x, top, x, end);
-        canvas.lines.push(look);
+        push_line(paper, x, top, x, end);
         return;
     }
     let area = Area {
@@ -51,11 +55,13 @@ fn push_bar(canvas: &mut Canvas, node: Node, bar: &Bar) {
         width: HALF * 2,
         height: end.saturating_sub(top),
     };
-    push_area(&mut canvas.lines, area, look);
+    push_area(paper, area, "");
 }
 
 // How a bar looks.
-fn bar_look(status: Status) -> &'static str {
+fn bar_look(status: Status) -> &'static str
+    ensures { result.now ≡ bar_look status }
+{
     match status {
         Status::Down => " stroke=\"#aaa\" stroke-width=\"2\" stroke-dasharray=\"2 4\">",
         Status::Election => " fill=\"#E69F00\">",
@@ -64,15 +70,33 @@ fn bar_look(status: Status) -> &'static str {
     }
 }
 
+// The end of a bar's element.
+fn bar_end(status: Status) -> &'static str {
+    match status {
+        Status::Down => "</line>\n",
+        _ => "</rect>\n",
+    }
+}
+
 // What is shown where the pointer rests on a bar: how the node stands, and behind which rows, where any are shown.
-fn push_title(paper: &mut Paper, node: Node, bar: &Bar, shows_rows: bool) {
+fn push_title(paper: &mut Paper, node: Node, bar: &Bar, shows_rows: bool)
+    ensures { Writes paper.old paper.new
+        ((codes "<title>node " ++ decimal node ++ codes ": ") ++ stand_text bar.now.seen ++ behind_rows shows_rows bar.now.first bar.now.last ++ codes "</title>") }
+{
     paper.push_node("<title>node ", node, ": ");
     push_stand(paper, bar.seen);
+    push_behind_rows(paper, bar, shows_rows);
+    paper.push("</title>");
+}
+
+// Writes behind which rows the node stands so, where any are shown.
+fn push_behind_rows(paper: &mut Paper, bar: &Bar, shows_rows: bool)
+    ensures { Writes paper.old paper.new (behind_rows shows_rows bar.now.first bar.now.last) }
+{
     if shows_rows {
         paper.push_number(", behind rows ", bar.first, " to ");
         paper.push_number("", bar.last, "");
     }
-    paper.push("</title>");
 }
 
 /// Says beside a bar how the node stands behind this row, where the lane has room for it.

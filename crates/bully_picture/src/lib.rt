@@ -1,11 +1,12 @@
 //! Pictures of traces: a lane for each node, and what each row of a window does there, as SVG or as text for a terminal.
 //!
 //! It stands on bully_film, which keeps what the rows of the window show, and on the crates below it. The sentence below a row that
-//! decided is the caller's. The program relies on the verdict in the title being the one of the film, which is the
-//! trace's, and on what was filmed being drawn: the number of each row that is shown and what it says, each node's name, and each call. Names go in escaped. How a picture
-//! looks is looked at.
+//! decided is the caller's. The program relies on the verdict in the title being the one of the film, which is the trace's, and on what
+//! was filmed being drawn: the number of each row that is shown, what it says and does, each node's name, how it stands behind each row,
+//! and each call. A picture for a terminal is exactly its lines. Names go in escaped. How a picture looks is looked at.
 #![tactic(auto)]
 
+mod around;
 mod arrows;
 mod boxes;
 mod canvas;
@@ -19,10 +20,11 @@ mod page;
 mod paper;
 mod words;
 
+pub use around::Around;
 pub use claims::{Claims, is_shown};
 pub use columns::text_picture;
 pub use escaping::push_escaped;
 pub use lanes::name_at;
 pub use page::{push_title, svg_picture};
 pub use paper::Paper;
-pub use words::{kind_text, push_followed, push_meaning, push_said};
+pub use words::{is_same_stand, kind_text, push_followed, push_meaning, push_said};

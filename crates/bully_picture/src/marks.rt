@@ -1,6 +1,6 @@
 //! What stands at a row: its number and its text, marks on the lanes, and tables.
-ghost use Rattle.std.specs.Prelude.{◌≡◌, ℕ, if◌then◌else◌};
-ghost use Rattle.bully_picture.specs.Drawn.{AreNumbers, HasSaid, HasText, number_text, scenes_shown};
+ghost use Rattle.std.specs.Prelude.{◌≡◌, ℕ, codes, if◌then◌else◌};
+ghost use Rattle.bully_picture.specs.Drawn.{AreNumbers, HasSaid, HasText, getting_text, is_plan, number_text, scenes_shown, tail_text};
 ghost use Rattle.bully_picture.specs.Written.{Extends, Gains, IsIn, Writes};
 
 use crate::boxes::{Anchor, Area, letters_within, width_of};
@@ -88,10 +88,11 @@ pub fn draw_texts(canvas: &mut Canvas, finished: &FinishedFilm, claims: Claims) 
 fn draw_text(canvas: &mut Canvas, texts: &mut Paper, scene: &Scene, decides: bool)
     ensures { Gains texts.old texts.new (λ text. HasText text decides scene.now) }
 {
+    let has_room = has_room(&canvas.layout, scene);
     let mut said = Paper::new(canvas.alloc);
     push_said(&mut said, scene);
     let mut tail = Paper::new(canvas.alloc);
-    push_tail(&mut tail, &canvas.layout, scene, decides);
+    push_tail(&mut tail, scene, decides, has_room);
     let letters = keep_text_free(canvas, scene, decides, &said, &tail);
     push_text_place(texts, &canvas.layout, scene.number);
     texts.push(" fill=\"");
@@ -201,27 +202,40 @@ fn plain_style(anchor: Anchor, colour: &'static str) -> Style {
 }
 
 // Writes what a row does behind its text; and of a table that has no room at its lane, who gets it.
-fn push_tail(paper: &mut Paper, layout: &Layout, scene: &Scene, decides: bool) {
-    if decides {
-        return;
-    }
-    if scene.gets_table && !has_room(layout, scene) {
+fn push_tail(paper: &mut Paper, scene: &Scene, decides: bool, has_room: bool)
+    ensures { Writes paper.old paper.new (tail_text has_room decides scene.now) }
+{
+    if !decides && scene.gets_table && !has_room {
         push_getting(paper, scene);
     } else {
-        push_meaning(paper, scene);
+        push_meaning(paper, scene, decides);
     }
 }
 
 // Writes who gets a table, which stands behind the text where it is shown.
-fn push_getting(paper: &mut Paper, scene: &Scene) {
+fn push_getting(paper: &mut Paper, scene: &Scene)
+    ensures { Writes paper.old paper.new (getting_text scene.now) }
+{
     let shows_table = scene.table.is_some();
-    if shows_table && matches!(scene.event_kind, Some(EventKind::Plan)) {
+    if shows_table && is_plan(scene.event_kind) {
         paper.push(":");
-        return;
+    } else {
+        paper.push_node(": ", scene.other.node, " ");
+        paper.push(getting_words(shows_table));
     }
-    let what = if shows_table { "gets" } else { LONG_TABLE };
-    paper.push_node(": ", scene.other.node, " ");
-    paper.push(what);
+}
+
+fn is_plan(event_kind: Option<EventKind>) -> bool
+    ensures { result ≡ is_plan event_kind }
+{
+    matches!(event_kind, Some(EventKind::Plan))
+}
+
+// What is said of a node that gets a table, which is shown behind that or isn't.
+fn getting_words(shows_table: bool) -> &'static str
+    ensures { result.now ≡ (if shows_table then codes "gets" else codes "gets a table") }
+{
+    if shows_table { "gets" } else { LONG_TABLE }
 }
 
 // Whether what is said of the table has room at the lane of the node that gets it.

@@ -1,15 +1,17 @@
 //! The picture as a whole.
-ghost use Rattle.std.specs.Prelude.{◌≡◌, ◌==◌, ◌++◌, [], codes, if◌then◌else◌, length, option_map, slice_get, IfOk, string_bytes};
+ghost use Rattle.std.specs.Prelude.{◌≡◌, ℕ, ◌==◌, ◌++◌, [], codes, if◌then◌else◌, length, option_map, slice_get, IfOk, string_bytes};
 ghost use Rattle.bully_film.specs.Film.{IsFilmOf};
 ghost use Rattle.bully_film.specs.Lane.{row_before};
 ghost use Rattle.bully_film.specs.Scene.{lane_of as lane_seen};
 ghost use Rattle.bully_film.specs.Window.{WindowState};
+ghost use Rattle.bully_picture.specs.Bars.{HasLaneBars, HasStands, shows_rows};
 ghost use Rattle.bully_picture.specs.Drawn.{AreNumbers, HasBelow, HasCalls, HasLanes, HasNodes, HasRows, HasSaid, below_label, scenes_shown};
+ghost use Rattle.bully_picture.specs.Head.{HasHead, head_text, title_line, title_start};
 ghost use Rattle.bully_picture.specs.Title.{Has, IsDocument, counted_text, shown_text, size_text, title_text};
 ghost use Rattle.bully_picture.specs.Written.{Extends, Gains, IsCopied, IsIn, Writes};
 ghost use Rattle.bully_rows.specs.Trace.{Trace};
-ghost use Rattle.bully_trace.specs.VerdictText.{verdict_head};
 
+use crate::around::Around;
 use crate::arrows::draw_calls;
 use crate::canvas::Canvas;
 use crate::claims::{Claims, is_shown};
@@ -18,7 +20,7 @@ use crate::layout::{Layout, ROW};
 use crate::marks::{draw_numbers, draw_row, draw_texts};
 use crate::paper::Paper;
 use bully_base::{OutOfMemory, Setup};
-use bully_film::{FinishedFilm, Lane, lanes, row_before};
+use bully_film::{FinishedFilm, Lane, Scene, lanes, row_before};
 use bully_trace::Verdict;
 use std::alloc::Global;
 
@@ -39,7 +41,6 @@ const MARKERS: &str = "\
 
 // What stands behind the title: what the colours and signs mean.
 const LEGEND: &str = "\
-</text>\n\
 <line x1=\"70\" y1=\"36\" x2=\"70\" y2=\"52\" stroke=\"#aaa\" stroke-width=\"2\" stroke-dasharray=\"2 4\"/>\
 <text x=\"81\" y=\"48\" font-size=\"11\">down</text>\
 <rect x=\"122\" y=\"38\" width=\"12\" height=\"12\" fill=\"#E69F00\"/><text x=\"139\" y=\"48\" font-size=\"11\">election</text>\
@@ -53,29 +54,31 @@ const LETTERS: &str = "\
 
 /// The picture of what a film shows, with these names over the lanes, from node 1 on, and below it this text, a line each. It is an SVG
 /// document. Each row has its number and what it says, but for claims that are left out; each node its name, or its number where it has
-/// none; and each call that a slot holds behind a row, sent or run, its arrow. Refused where an allocation fails.
+/// none; and each call that a slot holds behind a row, sent or run, its arrow. In a page it has no title. Refused where an allocation fails.
 pub fn svg_picture(
     alloc: Global,
     finished: &FinishedFilm,
     names: &[&str],
     claims: Claims,
+    around: Around,
     below: &str,
 ) -> Result<String, OutOfMemory>
     ensures document { IfOk result (λ text. IsDocument (string_bytes text)) }
-    ensures verdict { IfOk result (λ text. Has (string_bytes text) (verdict_head finished.now.verdict)) }
-    ensures title { IfOk result (λ text. Has (string_bytes text)
+    ensures head { IfOk result (λ text. HasHead (string_bytes text) around finished.now.verdict
         (title_text finished.now.verdict finished.now.setup.nodes finished.now.setup.partitions (row_before finished.now.scenes.items) (length finished.now.scenes.items))) }
     ensures rows { IfOk result (λ text. HasRows (string_bytes text) finished.now.verdict (scenes_shown claims finished.now.verdict finished.now.scenes.items)) }
     ensures says { IfOk result (λ text. HasSaid (string_bytes text) finished.now.verdict (scenes_shown claims finished.now.verdict finished.now.scenes.items)) }
     ensures nodes { IfOk result (λ text. HasNodes (string_bytes text) finished.now.setup.nodes (λ i. option_map (λ s. s.now) (slice_get names.now i))) }
 
-    // Of each node it has an arrow for each call in its slot.
+    // Of each node it has a bar of how it stands behind each row, and an arrow for each call in its slot.
+    ensures bars { (window : WindowState) (trace : Trace) (is : IsFilmOf window finished.now trace)
+        → IfOk result (λ text. HasStands (string_bytes text) (shows_rows finished.now.scenes.items) finished.now.setup.nodes (row_before finished.now.scenes.items) (λ i. lane_seen trace.setup is.before i is.shown)) }
     ensures calls { (window : WindowState) (trace : Trace) (is : IsFilmOf window finished.now trace)
         → IfOk result (λ text. HasCalls (string_bytes text) finished.now.setup.nodes (row_before finished.now.scenes.items) (λ i. lane_seen trace.setup is.before i is.shown)) }
     ensures below { IfOk result (λ text. HasBelow (string_bytes text) below.now) }
 {
     let mut canvas = Canvas::new(alloc, Layout::of(alloc, finished, claims)?);
-    let picture = picture_on(&mut canvas, finished, names, claims, below);
+    let picture = picture_on(&mut canvas, finished, names, claims, around, below);
     picture.into_text()
 }
 
@@ -85,20 +88,31 @@ fn picture_on(
     finished: &FinishedFilm,
     names: &[&str],
     claims: Claims,
+    around: Around,
     below: &str,
 ) -> Paper
     ensures document { IsIn result IsDocument }
-    ensures title { IsIn result (λ text. Has text
+    ensures head { IsIn result (λ text. HasHead text around finished.now.verdict
         (title_text finished.now.verdict finished.now.setup.nodes finished.now.setup.partitions (row_before finished.now.scenes.items) (length finished.now.scenes.items))) }
     ensures rows { IsIn result (λ text. HasRows text finished.now.verdict (scenes_shown claims finished.now.verdict finished.now.scenes.items)) }
     ensures says { IsIn result (λ text. HasSaid text finished.now.verdict (scenes_shown claims finished.now.verdict finished.now.scenes.items)) }
     ensures nodes { IsIn result (λ text. HasNodes text finished.now.setup.nodes (λ i. option_map (λ s. s.now) (slice_get names.now i))) }
+    ensures bars { (window : WindowState) (trace : Trace) (is : IsFilmOf window finished.now trace)
+        → IsIn result (λ text. HasStands text (shows_rows finished.now.scenes.items) finished.now.setup.nodes (row_before finished.now.scenes.items) (λ i. lane_seen trace.setup is.before i is.shown)) }
     ensures calls { (window : WindowState) (trace : Trace) (is : IsFilmOf window finished.now trace)
         → IsIn result (λ text. HasCalls text finished.now.setup.nodes (row_before finished.now.scenes.items) (λ i. lane_seen trace.setup is.before i is.shown)) }
     ensures below { IsIn result (λ text. HasBelow text below.now) }
 {
     match lanes(canvas.alloc, finished) {
-        Ok(lanes) => picture_with(canvas, finished, lanes.as_slice(), names, claims, below),
+        Ok(lanes) => picture_with(
+            canvas,
+            finished,
+            lanes.as_slice(),
+            names,
+            claims,
+            around,
+            below,
+        ),
         Err(_) => Paper::failed(canvas.alloc),
     }
 }
@@ -110,22 +124,24 @@ fn picture_with(
     lanes: &[Lane],
     names: &[&str],
     claims: Claims,
+    around: Around,
     below: &str,
 ) -> Paper
     ensures document { IsIn result IsDocument }
-    ensures title { IsIn result (λ text. Has text
+    ensures head { IsIn result (λ text. HasHead text around finished.now.verdict
         (title_text finished.now.verdict finished.now.setup.nodes finished.now.setup.partitions (row_before finished.now.scenes.items) (length finished.now.scenes.items))) }
     ensures rows { IsIn result (λ text. HasRows text finished.now.verdict (scenes_shown claims finished.now.verdict finished.now.scenes.items)) }
     ensures says { IsIn result (λ text. HasSaid text finished.now.verdict (scenes_shown claims finished.now.verdict finished.now.scenes.items)) }
     ensures nodes { IsIn result (λ text. HasNodes text finished.now.setup.nodes (λ i. option_map (λ s. s.now) (slice_get names.now i))) }
+    ensures bars { IsIn result (λ text. HasLaneBars text (shows_rows finished.now.scenes.items) lanes.now) }
     ensures lanes { IsIn result (λ text. HasLanes text lanes.now) }
     ensures below { IsIn result (λ text. HasBelow text below.now) }
 {
     let parts = draw(canvas, finished, lanes, names, claims, below);
     let mut picture = Paper::new(canvas.alloc);
     picture.push("<svg xmlns=\"http://www.w3.org/2000/svg\"");
-    push_head(&mut picture, &canvas.layout, finished.verdict, below);
-    push_title(&mut picture, finished);
+    push_head(&mut picture, &canvas.layout, below);
+    push_title_line(&mut picture, finished, around);
     push_parts(&mut picture, canvas, &parts);
     picture.push("</svg>\n");
     picture
@@ -137,8 +153,16 @@ struct Parts {
     numbers: Paper,
     texts: Paper,
     names: Paper,
+    bars: Paper,
     arrows: Paper,
     below: Paper,
+}
+
+// What a picture has of each lane.
+#[derive(Drop)]
+struct LaneParts {
+    bars: Paper,
+    arrows: Paper,
 }
 
 // Draws all but the head of the document and its title.
@@ -153,6 +177,7 @@ fn draw(
     ensures rows { IsIn result.numbers (AreNumbers finished.now.verdict (scenes_shown claims finished.now.verdict finished.now.scenes.items)) }
     ensures says { IsIn result.texts (λ text. HasSaid text finished.now.verdict (scenes_shown claims finished.now.verdict finished.now.scenes.items)) }
     ensures nodes { IsIn result.names (λ text. HasNodes text finished.now.setup.nodes (λ i. option_map (λ s. s.now) (slice_get names.now i))) }
+    ensures bars { IsIn result.bars (λ text. HasLaneBars text (shows_rows finished.now.scenes.items) lanes.now) }
     ensures lanes { IsIn result.arrows (λ text. HasLanes text lanes.now) }
     ensures below { IsIn result.below (λ text. HasBelow text below.now) }
 {
@@ -160,7 +185,11 @@ fn draw(
     let numbers = draw_numbers(canvas, finished, claims);
     let texts = draw_texts(canvas, finished, claims);
     draw_rows(canvas, finished, claims);
-    let arrows = draw_lanes(canvas, lanes);
+    let LaneParts { bars, arrows } = draw_lanes(
+        canvas,
+        lanes,
+        shows_rows(finished.scenes.as_slice()),
+    );
     draw_letters(canvas);
     let names = draw_names(canvas.alloc, &canvas.layout, &finished.setup, names);
     let below = draw_below(canvas.alloc, &canvas.layout, below);
@@ -168,6 +197,7 @@ fn draw(
         numbers,
         texts,
         names,
+        bars,
         arrows,
         below,
     }
@@ -179,10 +209,12 @@ fn push_parts(picture: &mut Paper, canvas: &Canvas, parts: &Parts)
     ensures numbers { IsIn picture.new (IsCopied parts.now.numbers) }
     ensures texts { IsIn picture.new (IsCopied parts.now.texts) }
     ensures names { IsIn picture.new (IsCopied parts.now.names) }
+    ensures bars { IsIn picture.new (IsCopied parts.now.bars) }
     ensures arrows { IsIn picture.new (IsCopied parts.now.arrows) }
     ensures below { IsIn picture.new (IsCopied parts.now.below) }
 {
     picture.push_paper(&canvas.lines);
+    picture.push_paper(&parts.bars);
     picture.push_paper(&parts.arrows);
     picture.push_paper(&parts.numbers);
     picture.push_paper(&parts.texts);
@@ -207,13 +239,21 @@ fn draw_letters(canvas: &mut Canvas) {
     }
 }
 
-// Draws the bars of these lanes, and on a paper of their own the arrows of their calls.
-fn draw_lanes(canvas: &mut Canvas, lanes: &[Lane]) -> Paper
-    ensures { IsIn result (λ text. HasLanes text lanes.now) }
+// Draws the bars of these lanes, and the arrows of their calls. Whether any rows are shown is told.
+fn draw_lanes(canvas: &mut Canvas, lanes: &[Lane], shows_rows: bool) -> LaneParts
+    ensures bars { IsIn result.bars (λ text. HasLaneBars text shows_rows lanes.now) }
+    ensures arrows { IsIn result.arrows (λ text. HasLanes text lanes.now) }
 {
+    let mut bars = Paper::new(canvas.alloc);
     let mut arrows = Paper::new(canvas.alloc);
     for lane in lanes {
-        draw_bars(canvas, lane.node, lane.bars.as_slice());
+        draw_bars(
+            canvas,
+            &mut bars,
+            lane.node,
+            lane.bars.as_slice(),
+            shows_rows,
+        );
         draw_calls(
             canvas,
             &mut arrows,
@@ -222,7 +262,14 @@ fn draw_lanes(canvas: &mut Canvas, lanes: &[Lane]) -> Paper
             lane.orphans.as_slice(),
         );
     }
-    arrows
+    LaneParts { bars, arrows }
+}
+
+// Whether any rows are shown.
+fn shows_rows(scenes: &[Scene]) -> bool
+    ensures { result ≡ shows_rows scenes.now }
+{
+    scenes.first().is_some()
 }
 
 // How wide the picture is.
@@ -239,9 +286,9 @@ fn height_of(layout: &Layout, below: &str) -> u32 {
         .saturating_add(BELOW)
 }
 
-// Writes the head of the document behind its first word, up to the words of the title.
-fn push_head(picture: &mut Paper, layout: &Layout, verdict: Verdict, below: &str)
-    ensures { Extends picture.old picture.new }
+// Writes the head of the document behind its first word.
+fn push_head(picture: &mut Paper, layout: &Layout, below: &str)
+    ensures { (width : ℕ) × (height : ℕ) × Writes picture.old picture.new (head_text width height) }
 {
     let width = width_of(layout);
     let height = height_of(layout, below);
@@ -250,16 +297,40 @@ fn push_head(picture: &mut Paper, layout: &Layout, verdict: Verdict, below: &str
     picture.push_point(" viewBox=\"0 0 ", width, height);
     picture.push("\" font-family=\"DejaVu Sans, sans-serif\">\n");
     picture.push(MARKERS);
-    picture.push(title_start(verdict));
+}
+
+// Writes the title of a picture that stands alone.
+fn push_title_line(picture: &mut Paper, finished: &FinishedFilm, around: Around)
+    ensures { Writes picture.old picture.new (title_line around finished.now.verdict
+        (title_text finished.now.verdict finished.now.setup.nodes finished.now.setup.partitions (row_before finished.now.scenes.items) (length finished.now.scenes.items))) }
+{
+    match around {
+        Around::Nothing => push_whole_title(picture, finished),
+        Around::Page => {}
+    }
+}
+
+// Writes the element of the title.
+fn push_whole_title(picture: &mut Paper, finished: &FinishedFilm)
+    ensures { Writes picture.old picture.new (title_line Around.Nothing finished.now.verdict
+        (title_text finished.now.verdict finished.now.setup.nodes finished.now.setup.partitions (row_before finished.now.scenes.items) (length finished.now.scenes.items))) }
+{
+    picture.push(title_start(finished.verdict));
+    push_title(picture, finished);
+    picture.push("</text>\n");
 }
 
 // What stands before the words of the title.
-fn title_start(verdict: Verdict) -> &'static str {
+fn title_start(verdict: Verdict) -> &'static str
+    ensures { result.now ≡ title_start verdict }
+{
     match verdict {
         Verdict::Lawful(_) => {
             "<text x=\"64\" y=\"24\" font-size=\"15\" font-weight=\"bold\" fill=\"#222\">"
         }
-        _ => { "<text x=\"64\" y=\"24\" font-size=\"15\" font-weight=\"bold\" fill=\"#D55E00\">" }
+        Verdict::Refused(_, _) | Verdict::Differs(_) => {
+            "<text x=\"64\" y=\"24\" font-size=\"15\" font-weight=\"bold\" fill=\"#D55E00\">"
+        }
     }
 }
 

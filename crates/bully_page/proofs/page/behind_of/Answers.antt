@@ -1,19 +1,22 @@
-use Rattle.bully_page.specs.Page.{HasLines, HasSummaries}
-use Rattle.bully_picture.proofs.WrittenLemmas.{extends-then, extends-written, gains-still}
-use Rattle.bully_page.proofs.PageLemmas.{ends-written, lines-more, summaries-more}
+use Rattle.std.specs.Str.Lines.{lines}
+use Rattle.bully_picture.proofs.WrittenLemmas.{extends-then, extends-written, writes-then, written-in, written-whole}
+use Rattle.bully_page.proofs.PageLemmas.{ends-written, lines-has}
 use Rattle.bully_page.proofs.page.behind_of.Goals as goal
 
 pub returns-clause-ends : goal.returns-clause-ends
-returns-clause-ends c = ends-written c.push-4.ensures
+returns-clause-ends c = ends-written c.push-6.ensures
 
 pub returns-clause-below : goal.returns-clause-below
-returns-clause-below c =
-    let below = c.args.below.now in
-    (gains-still (λ text. HasLines text below) (lines-more below) c.push_below.ensures
-    (extends-then (extends-written c.push-2.ensures) (extends-then c.push_rows.ensures.extends (extends-then (extends-written c.push-3.ensures) (extends-written c.push-4.ensures))))).holds
+returns-clause-below c = λ good.
+    lines-has c.push-6.new.self.text (lines c.args.below.now) (written-in c.push_below.ensures
+    (extends-then (extends-written c.push-2.ensures) (extends-then (extends-written c.push-3.ensures) (extends-then (extends-written c.push_rows.ensures)
+    (extends-then (extends-written c.push-4.ensures) (extends-then (extends-written c.push-5.ensures) (extends-written c.push-6.ensures)))))) good)
 
 pub returns-clause-rows : goal.returns-clause-rows
 returns-clause-rows c =
-    let finished = c.args.finished.now in
-    (gains-still (λ text. HasSummaries text c.args.claims finished.verdict finished.scenes.items) (summaries-more c.args.claims finished.verdict finished.scenes.items)
-    c.push_rows.ensures (extends-then (extends-written c.push-3.ensures) (extends-written c.push-4.ensures))).holds
+    written-in (writes-then (writes-then c.push-3.ensures c.push_rows.ensures) c.push-4.ensures) (extends-then (extends-written c.push-5.ensures) (extends-written c.push-6.ensures))
+
+pub returns-clause-text : goal.returns-clause-text
+returns-clause-text c =
+    written-whole c.new-behind.ensures (writes-then (writes-then (writes-then (writes-then (writes-then c.push.ensures c.push_below.ensures) c.push-2.ensures)
+    (writes-then (writes-then c.push-3.ensures c.push_rows.ensures) c.push-4.ensures)) c.push-5.ensures) c.push-6.ensures)

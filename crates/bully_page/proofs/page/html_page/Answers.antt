@@ -1,11 +1,11 @@
 -- What the two parts have, the page has; and the picture between them.
-use Rattle.std.proofs.Common.{◌++◌, length, refl, string_bytes}
+use Rattle.std.proofs.Common.{◌++◌, codes, length, map, refl, string_bytes}
 use Rattle.bully_film.specs.Lane.{row_before}
 use Rattle.bully_picture.specs.Title.{Has, title_text}
 use Rattle.bully_picture.proofs.TitleLemmas.{has-verdict}
 use Rattle.bully_trace.specs.VerdictText.{verdict_head}
-use Rattle.bully_page.specs.Page.{HasLines, HasSummaries, IsPage, headed, titled}
-use Rattle.bully_page.proofs.PageLemmas.{has-titled, in-page, lines-behind, of-front, page-ends, summaries-behind}
+use Rattle.bully_page.specs.Page.{HasLines, IsPage, behind_text, front_text, headed, rows_text, titled}
+use Rattle.bully_page.proofs.PageLemmas.{has-behind, has-titled, in-page, lines-behind, of-front, page-ends, page-whole}
 use Rattle.bully_page.proofs.page.html_page.Goals as goal
 
 pub returns-clause-document : goal.returns-clause-document
@@ -54,6 +54,17 @@ returns-clause-below c =
 pub returns-clause-rows : goal.returns-clause-rows
 returns-clause-rows c =
     let finished = c.args.finished.now in
-    in-page string_bytes c.front_of-front.result c.behind_of-behind.result c.args.picture.now (λ text. HasSummaries text c.args.claims finished.verdict finished.scenes.items) c.joined.result
+    let names = map (λ s. s.now) c.args.names.now in
+    let rows = codes "<div id=\"rows\">\n" ++ rows_text c.args.claims finished.verdict finished.setup.nodes names finished.scenes.items ++ codes "</div>\n" in
+    in-page string_bytes c.front_of-front.result c.behind_of-behind.result c.args.picture.now (λ text. Has text rows) c.joined.result
     c.joined.ensures.front c.joined.ensures.behind c.joined.ensures.text
-    (λ one other. summaries-behind (c.front_of-front.result.text ++ c.args.picture.now) c.behind_of-behind.result.text c.args.claims finished.verdict finished.scenes.items (c.behind_of-behind.ensures.rows other))
+    (λ one other. has-behind (c.front_of-front.result.text ++ c.args.picture.now) c.behind_of-behind.result.text rows (c.behind_of-behind.ensures.rows other))
+
+pub returns-clause-whole : goal.returns-clause-whole
+returns-clause-whole c =
+    let finished = c.args.finished.now in
+    page-whole string_bytes c.front_of-front.result c.behind_of-behind.result
+    (front_text (title_text finished.verdict finished.setup.nodes finished.setup.partitions (row_before finished.scenes.items) (length finished.scenes.items)))
+    c.args.picture.now
+    (behind_text c.args.below.now (rows_text c.args.claims finished.verdict finished.setup.nodes (map (λ s. s.now) c.args.names.now) finished.scenes.items))
+    c.joined.result c.joined.ensures.front c.joined.ensures.behind c.joined.ensures.text c.front_of-front.ensures.text c.behind_of-behind.ensures.text

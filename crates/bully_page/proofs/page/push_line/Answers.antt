@@ -1,5 +1,5 @@
-use Rattle.bully_picture.proofs.WrittenLemmas.{has-written, writes-then}
+use Rattle.bully_picture.proofs.WrittenLemmas.{writes-then}
 use Rattle.bully_page.proofs.page.push_line.Goals as goal
 
 pub returns : goal.returns
-returns c = has-written (writes-then (writes-then c.push.ensures c.push_escaped.ensures.escaped) c.push-2.ensures)
+returns c = writes-then (writes-then c.push.ensures c.push_escaped.ensures.escaped) c.push-2.ensures

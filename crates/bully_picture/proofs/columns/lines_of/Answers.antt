@@ -1,8 +1,8 @@
-use Rattle.std.proofs.Common.{string_bytes}
+use Rattle.std.proofs.Common.{◌≡◌, string_bytes}
 use Rattle.bully_picture.specs.Title.{Begins}
-use Rattle.bully_picture.specs.Told.{HasTold}
+use Rattle.bully_picture.specs.Told.{columns_text, told_from}
 use Rattle.bully_trace.specs.VerdictText.{verdict_head}
-use Rattle.bully_picture.proofs.WrittenLemmas.{begins-written, in-text}
+use Rattle.bully_picture.proofs.WrittenLemmas.{begins-written, in-text, writes-then, written-whole}
 use Rattle.bully_picture.proofs.columns.lines_of.Goals as goal
 
 pub returns-clause-verdict : goal.returns-clause-verdict
@@ -10,7 +10,9 @@ returns-clause-verdict c =
     in-text string_bytes c.push_lines.new.lines (λ text. Begins text (verdict_head c.args.finished.now.verdict)) c.into_text.result c.into_text.ensures.whole c.into_text.ensures.text
     (begins-written c.new-lines.ensures c.push_verdict.ensures c.in_ok-push_lines.ensures.extends)
 
-pub returns-clause-rows : goal.returns-clause-rows
-returns-clause-rows c =
-    in-text string_bytes c.push_lines.new.lines (λ text. HasTold text c.args.finished.now.verdict c.args.finished.now.scenes.items) c.into_text.result c.into_text.ensures.whole c.into_text.ensures.text
-    c.in_ok-push_lines.ensures.holds
+pub returns-clause-whole : goal.returns-clause-whole
+returns-clause-whole c = λ window trace is.
+    let finished = c.args.finished.now in
+    in-text string_bytes c.push_lines.new.lines (λ text. text ≡ columns_text finished.verdict finished.setup.nodes (told_from trace.setup is.before is.shown))
+    c.into_text.result c.into_text.ensures.whole c.into_text.ensures.text
+    (written-whole c.new-lines.ensures (writes-then c.push_verdict.ensures (c.in_ok-push_lines.ensures.whole window trace is)))

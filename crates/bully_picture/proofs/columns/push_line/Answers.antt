@@ -1,18 +1,22 @@
-use Rattle.std.proofs.Common.{subst, sym}
-use Rattle.bully_picture.specs.Title.{Has}
-use Rattle.bully_picture.specs.Told.{line_start}
-use Rattle.bully_picture.specs.Written.{Extends}
-use Rattle.bully_picture.proofs.WrittenLemmas.{extends-same, extends-then, extends-written, gains-still, has-more, has-written, writes-then}
+use Rattle.std.proofs.Common.{◌++◌, codes, subst}
+use Rattle.bully_picture.specs.Drawn.{bare_text}
+use Rattle.bully_picture.specs.Told.{cells_text, change_text, form_of}
+use Rattle.bully_picture.specs.Words.{meaning_text}
+use Rattle.bully_picture.specs.Written.{Writes, right_text}
+use Rattle.bully_picture.proofs.WrittenLemmas.{writes-then}
 use Rattle.bully_picture.proofs.columns.push_line.Goals as goal
-use Rattle.bully_picture.proofs.columns.push_line.Goals.{then-tells_change, else-tells_change}
 
 pub returns : goal.returns
 returns c =
-    let start = line_start c.args.scene.now.number in
-    let joined : Extends c.loop-snapshot.lines c.if-tells_change.lines =
-    elim c.if-tells_change.branch [
-      | then-tells_change w ↦ subst (Extends c.loop-snapshot.lines) (sym w.lines-is) w.push_change.ensures
-      | else-tells_change w ↦ subst (Extends c.loop-snapshot.lines) (sym w.lines-is) (extends-same c.loop-snapshot.lines)
-    ] in
-    gains-still (λ text. Has text start) (has-more start) (has-written (writes-then (writes-then c.push.ensures c.push_right.ensures) c.push-2.ensures))
-    (extends-then c.loop-snapshot.invariant (extends-then joined (extends-then (extends-written c.push_row_text.ensures) c.push_meaning.ensures)))
+    let s = c.args.scene.now in
+    let now = c.args.now.now in
+    let old = c.args.lines.now in
+    let new = c.push_meaning.new.paper in
+    subst (λ d. Writes old new (codes "\n" ++ right_text s.number ++ codes "  " ++ cells_text (form_of c.args.finished.now.setup.nodes) now
+    ++ change_text (form_of c.args.finished.now.setup.nodes) c.args.finished.now.setup.nodes s.other ++ bare_text s.event_kind s.own.node ++ meaning_text d s)) c.decides.ensures
+    (subst (λ n. Writes old new (codes "\n" ++ right_text s.number ++ codes "  " ++ cells_text (form_of n) now ++ change_text (form_of n) n s.other ++ bare_text s.event_kind s.own.node
+    ++ meaning_text c.decides.result s)) c.nodes-nodes.ensures.nodes
+    (subst (λ form. Writes old new (codes "\n" ++ right_text s.number ++ codes "  " ++ cells_text form now ++ change_text form c.nodes-nodes.result s.other ++ bare_text s.event_kind s.own.node
+    ++ meaning_text c.decides.result s)) c.of-form.ensures
+    (writes-then (writes-then (writes-then (writes-then (writes-then (writes-then c.push.ensures c.push_right.ensures) c.push-2.ensures) c.push_cells.ensures) c.push_change.ensures)
+    c.push_row_text.ensures) c.push_meaning.ensures)))
