@@ -1,6 +1,9 @@
 """What each store of a shared log does with epochs: tests that a store's tests have for it."""
+from __future__ import annotations
+
 import unittest
-from typing import TYPE_CHECKING, Callable, List, Tuple
+from collections.abc import Callable
+from typing import TYPE_CHECKING
 
 from bully.epochs import Opening
 from bully.logs import SECOND, Holder, Log, NoEpoch
@@ -30,11 +33,11 @@ class EpochLaws(Tests):
         """Another handle of the log, as another process has one."""
         raise NotImplementedError
 
-    def pair(self) -> Tuple[Log, Log]:
+    def pair(self) -> tuple[Log, Log]:
         log = self.created()
         return log, self.handle(log)
 
-    def two(self) -> Tuple[Log, Log]:
+    def two(self) -> tuple[Log, Log]:
         """The same, where 'a' is present."""
         log, other = self.pair()
         self.assertTrue(log.take('a', A, EMPTY, self.LONG))
@@ -175,7 +178,7 @@ class EpochLaws(Tests):
             self.assertTrue(log.finish(epoch, here.place, opening))
         other.prune(3)
         self.assertEqual((log.epochs(), log.opening(1), other.opening(2).epoch), (range(3, 5), OPENING, 2))
-        calls: List[Callable[[], object]] = [
+        calls: list[Callable[[], object]] = [
             lambda: log.read(2, 0), lambda: log.read(2, 3 * self.APPENDS), lambda: other.read(1, 5), lambda: log.read(5, 0),
         ]  # fmt: skip
         for call, epoch in zip(calls, (2, 2, 1, 5)):

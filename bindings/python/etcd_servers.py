@@ -14,8 +14,9 @@ import subprocess
 import tempfile
 import unittest
 from base64 import b64decode, b64encode
+from collections.abc import Sequence
 from pathlib import Path
-from typing import Any, Dict, List, NamedTuple, Optional, Sequence, Tuple
+from typing import Any, NamedTuple
 from unittest import mock
 
 from bully import etcd
@@ -27,7 +28,7 @@ from laws import OPENING, has_stopped, wait_until
 PROGRAM = shutil.which('etcd')
 QUICK = ('--heartbeat-interval', '50', '--election-timeout', '500')  # milliseconds; so the shortest lease is of 1 s
 
-Json = Dict[str, Any]
+Json = dict[str, Any]
 
 
 def coded(word: str) -> str:
@@ -38,7 +39,7 @@ def decoded(word: str) -> str:
     return b64decode(word).decode()
 
 
-def free_ports(count: int) -> List[int]:
+def free_ports(count: int) -> list[int]:
     """Ports of the loopback on which nobody listens."""
     found = [socket.create_server(('127.0.0.1', 0)) for _ in range(count)]
     ports = [int(each.getsockname()[1]) for each in found]
@@ -52,10 +53,10 @@ class Place(NamedTuple):
 
     client: Endpoint
     peer: Endpoint
-    within: Tuple[str, ...] = ()
+    within: tuple[str, ...] = ()
 
 
-def free_places(count: int) -> List[Place]:
+def free_places(count: int) -> list[Place]:
     """Places on the loopback."""
     found = [Endpoint('127.0.0.1', port) for port in free_ports(2 * count)]
     return [Place(client, peer) for client, peer in zip(found[::2], found[1::2])]
@@ -73,7 +74,7 @@ class Server:
             '--advertise-client-urls', client, '--listen-peer-urls', peer, '--initial-advertise-peer-urls', peer,
             '--initial-cluster', cluster, *words,
         ]  # fmt: skip
-        self.process: Optional['subprocess.Popen[bytes]'] = None
+        self.process: subprocess.Popen[bytes] | None = None
 
     def start(self) -> None:
         with open(self.folder / f'{self.name}.said', 'ab') as said:
@@ -99,7 +100,7 @@ class Server:
     def has_ended(self) -> bool:
         return self.process is None or self.process.poll() is not None
 
-    def ask(self, path: str, told: Json, tls: Optional[ssl.SSLContext] = None, token: str = '') -> Json:
+    def ask(self, path: str, told: Json, tls: ssl.SSLContext | None = None, token: str = '') -> Json:
         """What it answers. Raises OSError, HTTPException, ValueError."""
         if tls is None:
             connection = http.client.HTTPConnection(*self.place.client, timeout=5.0)
@@ -112,7 +113,7 @@ class Server:
             raise ValueError(answer['error'])
         return answer
 
-    def is_up(self, tls: Optional[ssl.SSLContext] = None) -> bool:
+    def is_up(self, tls: ssl.SSLContext | None = None) -> bool:
         """Whether it answers what needs a quorum; also that it doesn't know who asks."""
         try:
             self.ask('/v3/kv/range', {'key': coded('x')}, tls)
@@ -122,7 +123,7 @@ class Server:
             return False
         return True
 
-    def keys(self, prefix: str = '') -> Dict[str, Json]:
+    def keys(self, prefix: str = '') -> dict[str, Json]:
         """What is known of the keys that begin so."""
         found = self.ask('/v3/kv/range', {'key': coded(prefix or '\0'), 'range_end': coded(prefix + '\x7f')})
         return {decoded(pair['key']): pair for pair in found.get('kvs', ())}
@@ -143,12 +144,12 @@ class Servers:
     """Servers that are one etcd."""
 
     def __init__(
-        self, count: int = 1, words: Sequence[str] = QUICK, tls: Optional[ssl.SSLContext] = None, places: Sequence[Place] = ()
+        self, count: int = 1, words: Sequence[str] = QUICK, tls: ssl.SSLContext | None = None, places: Sequence[Place] = ()
     ) -> None:  # fmt: skip
         """As many servers as there are places, or else so many on the loopback."""
         self._folder = tempfile.TemporaryDirectory()
         self._tls = tls
-        self.each: List[Server] = []
+        self.each: list[Server] = []
         try:
             for _ in range(5):  # others may take a port before its server does
                 self.each = self._begun(places or free_places(count), words)
@@ -166,7 +167,7 @@ class Servers:
         """Whether one has."""
         return any(server.has_ended for server in self.each)
 
-    def _begun(self, places: Sequence[Place], words: Sequence[str]) -> List[Server]:
+    def _begun(self, places: Sequence[Place], words: Sequence[str]) -> list[Server]:
         named = [(f's{number}', place) for number, place in enumerate(places)]
         cluster = ','.join(f'{name}=http://{place.peer}' for name, place in named)
         shutil.rmtree(self._folder.name)
@@ -181,7 +182,7 @@ class Servers:
 
     def leader(self) -> Server:
         """The one that is known as the leader to a server that answers."""
-        found: List[Server] = []
+        found: list[Server] = []
 
         def is_found() -> bool:
             found[:] = [server for server in self.each if self.leads(server)]
@@ -211,7 +212,7 @@ class Servers:
 
 # ---- What tests share.
 
-_alone: List[Servers] = []  # the server of the module that runs
+_alone: list[Servers] = []  # the server of the module that runs
 NUMBERS = itertools.count()  # of tests, so that none meets what another one left
 
 
@@ -247,7 +248,7 @@ class WithEtcd(unittest.TestCase):
         self.addCleanup(log.close)
         return log
 
-    def servers(self, count: int = 1, words: Sequence[str] = (), tls: Optional[ssl.SSLContext] = None) -> Servers:
+    def servers(self, count: int = 1, words: Sequence[str] = (), tls: ssl.SSLContext | None = None) -> Servers:
         """Servers of the test's own."""
         servers = Servers(count, [*QUICK, *words], tls)
         self.addCleanup(servers.close)

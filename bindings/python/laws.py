@@ -1,4 +1,6 @@
 """What each store of a shared log does: tests that `test_stores.py` and `test_etcd.py` have for their stores."""
+from __future__ import annotations
+
 import contextlib
 import inspect
 import random
@@ -6,8 +8,9 @@ import socket
 import threading
 import time
 import unittest
+from collections.abc import Callable
 from pathlib import Path
-from typing import TYPE_CHECKING, Callable, Dict, List, Optional, Tuple
+from typing import TYPE_CHECKING
 from unittest import mock
 
 from bully.epochs import Opening
@@ -59,7 +62,7 @@ class Clock:
         return self.now
 
 
-def present(log: Log) -> Dict[str, Holder]:
+def present(log: Log) -> dict[str, Holder]:
     """Who is present."""
     return dict(log.look(1, 0).presences)
 
@@ -76,7 +79,7 @@ def end_of(log: Log) -> Promise:
     return Promise(epoch, len(log.read(epoch, 0)))
 
 
-def be_idle(log: Log, *presences: Tuple[str, Life], here: Optional[Promise] = None) -> Promise:
+def be_idle(log: Log, *presences: tuple[str, Life], here: Promise | None = None) -> Promise:
     """These promise the end of the log, or that place."""
     there = here or end_of(log)
     for name, life in presences:
@@ -84,7 +87,7 @@ def be_idle(log: Log, *presences: Tuple[str, Life], here: Optional[Promise] = No
     return there
 
 
-def add(log: Log, rows: List[str], name: str = 'a', life: Life = A) -> Promise:
+def add(log: Log, rows: list[str], name: str = 'a', life: Life = A) -> Promise:
     """The rows are appended, while that one alone is present. The end of the log."""
     here = be_idle(log, (name, life))
     assert log.append(here.epoch, here.place, rows), here
@@ -106,7 +109,7 @@ class Laws(Tests):
         """Another handle of the log, as another process has one."""
         raise NotImplementedError
 
-    def pair(self) -> Tuple[Log, Log]:
+    def pair(self) -> tuple[Log, Log]:
         log = self.created()
         return log, self.handle(log)
 
@@ -262,7 +265,7 @@ class Laws(Tests):
         end = add(log, ['recover,1', 'start,1'])
         be_idle(log, ('a', A))
         for here in (Promise(1, 3), Promise(2, 0), Promise(2, 1)):
-            calls: List[Callable[[], object]] = [
+            calls: list[Callable[[], object]] = [
                 lambda: other.look(here.epoch, here.place), lambda: other.append(here.epoch, here.place, ['recover,1']),
                 lambda: other.finish(here.epoch, here.place, OPENING.next(None, ())),
             ]  # fmt: skip
@@ -277,7 +280,7 @@ class Laws(Tests):
     def test_rows_that_are_none(self) -> None:
         log, _ = self.pair()
         self.assertTrue(log.take('a', A, EMPTY, self.LONG))
-        none: List[List[str]] = [[], ['recover,1\n'], ['recover,1\nrecover,2']]
+        none: list[list[str]] = [[], ['recover,1\n'], ['recover,1\nrecover,2']]
         for rows in none:
             with self.assertRaises(ValueError):
                 log.append(1, 0, rows)
@@ -315,7 +318,7 @@ class Laws(Tests):
         """Whatever is kept or read together, the rows are the same, from each place on."""
         choice, (log, other) = random.Random(1), self.pair()
         self.assertTrue(log.take('a', A, EMPTY, self.LONG))
-        rows: List[str] = []
+        rows: list[str] = []
         for number in range(5 * self.PAGE):
             more = [f'start,{choice.randint(1, 3)}' for _ in range(choice.choice([1, 1, 2, 3, 10, 1001]))]
             add(log, more)
@@ -337,7 +340,7 @@ class Laws(Tests):
         self.assertEqual([rows[place : place + 3] for place in range(0, len(rows), 3)], [[rows[place]] * 3 for place in range(0, len(rows), 3)])
         self.assertGreater(refused, 0, 'no two have met')
 
-    def race(self, logs: List[Log], times: int) -> Tuple[int, int]:
+    def race(self, logs: list[Log], times: int) -> tuple[int, int]:
         """Each handle appends so often, in a thread of its own. How many appends were done, and how many were refused."""
         counts, barrier = [0, 0], threading.Barrier(len(logs))
         guard = threading.Lock()
@@ -424,7 +427,7 @@ class Calls:
         self.choice, self.memory = choice, memory
         self.done = dict.fromkeys(('take', 'promise', 'append', 'finish', 'ask', 'order'), 0)
 
-    def choose(self) -> Tuple[str, Callable[[Log], object]]:
+    def choose(self) -> tuple[str, Callable[[Log], object]]:
         """The name of a call, and the call."""
         name, ask = self._chosen()
         kind = name.split()[0]
@@ -437,7 +440,7 @@ class Calls:
 
         return name, asked
 
-    def _chosen(self) -> Tuple[str, Callable[[Log], object]]:
+    def _chosen(self) -> tuple[str, Callable[[Log], object]]:
         choice, memory = self.choice, self.memory
         name, life = choice.choice('abc'), Life(choice.randint(1, 2), choice.randint(1, 2))
         held = memory.presences.get(name)
@@ -452,7 +455,7 @@ class Calls:
         orders, before = (Orders(frozenset(choice.sample('abc', 1)), choice.choice([None, {'a': life}])) for _ in range(2))
         known = choice.choice([memory.orders, memory.orders, before, None])
         many, some = 8, 4
-        asked: List[Tuple[int, str, Callable[[Log], object]]] = [
+        asked: list[tuple[int, str, Callable[[Log], object]]] = [
             (some, f'take {name} {life} {promise}', lambda log: log.take(name, life, promise, self.TTL)),
             (2, f'renew {name} {life}', lambda log: log.renew(name, life, self.TTL)),
             (some, f'release {name} {life}', lambda log: log.release(name, life)),
@@ -489,7 +492,7 @@ class Waits(Tests):
         """The same."""
         raise NotImplementedError
 
-    def pair(self) -> Tuple[Log, Log]:
+    def pair(self) -> tuple[Log, Log]:
         log = self.created()
         return log, self.handle(log)
 
@@ -505,7 +508,7 @@ class Waits(Tests):
     def test_news(self) -> None:
         log, other = self.pair()
         wish = OPENING.after(None)
-        acts: List[Callable[[], object]] = [
+        acts: list[Callable[[], object]] = [
             lambda: other.take('1', A, EMPTY, self.LONG), lambda: other.take('2', B, EMPTY, self.SHORT), lambda: None,
             lambda: other.append(1, 0, ['recover,1']), lambda: other.release('1', A), lambda: other.take('1', B, Promise(1, 1), self.LONG),
             lambda: other.ask(wish, 1), lambda: other.cancel(1), lambda: other.promise('1', B, Promise(1, 1)) and other.append(1, 1, ['x', 'y']),

@@ -11,9 +11,10 @@ the same trace. With a BREACH one premise is broken now and then:
     late      requests of nodes that crashed or dropped them are delivered
     twice     requests run twice
 """
+from __future__ import annotations
+
 import sys
 from dataclasses import dataclass
-from typing import List, Optional
 
 import bully
 from bully import Agent, Setup, Status, Want
@@ -37,7 +38,7 @@ class Random:
         self._state = state
         return state
 
-    def below(self, count: int) -> Optional[int]:
+    def below(self, count: int) -> int | None:
         """A number below this one; none below 0, though the next number is used up."""
         number = self.next()
         return number % count if count else None
@@ -57,15 +58,15 @@ class Mail:
 class Network:
     """Nodes on their own, what is on its way between them, and their log: rows in which all is said."""
 
-    def __init__(self, setup: Setup, seed: int, breach: Optional[str] = None) -> None:
+    def __init__(self, setup: Setup, seed: int, breach: str | None = None) -> None:
         """Nodes that are all Down. One of them crashes or recovers in every tenth step; of every third seed in every hundredth."""
         self.agents = [Agent(setup, number + 1) for number in range(setup.nodes)]
-        self.rows: List[str] = []
+        self.rows: list[str] = []
         self._setup = setup
         self._random = Random(seed * 2 + 1)
         self._breach = breach
         self._period = 100 if seed % 3 == 0 else 10
-        self._mail: List[Mail] = []
+        self._mail: list[Mail] = []
 
     def step(self) -> None:
         """One step: a crash or a recovery, once in a period; else a delivery, a node's turn, its timer, or a look at it."""
@@ -234,7 +235,7 @@ class Network:
         return self.agents[node - 1].status is Status.DOWN
 
 
-def trace(nodes: int, seed: int, steps: int, breach: Optional[str] = None) -> str:
+def trace(nodes: int, seed: int, steps: int, breach: str | None = None) -> str:
     """The trace of a network, at whose end each node's vector stands. It has as many partitions as nodes; of an even seed tasks are
     kept over a crash."""
     setup = Setup(nodes, nodes, keeps=seed % 2 == 0)

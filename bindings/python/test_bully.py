@@ -1,13 +1,15 @@
 #!/usr/bin/env python3
 """Tests of the binding. What is wanted comes from `docs/FORMATS.md`, `docs/ALGORITHM.md`, `docs/NODE.md`, `include/bully.h` and the
 files of `examples/`, and never from what the library answered. `try` runs them."""
+from __future__ import annotations
+
 import copy
 import os
 import pickle
 import random
 import re
-import signal
 import shutil
+import signal
 import subprocess
 import sys
 import tempfile
@@ -15,13 +17,16 @@ import textwrap
 import threading
 import time
 import unittest
+from collections.abc import Callable, Iterable, Sequence
 from pathlib import Path
 from types import ModuleType
-from typing import Any, Callable, Dict, Iterable, List, Optional, Sequence, Tuple, Type, Union
+from typing import Any
 
 import bully
-from bully import Agent, Answer, Call, CallKind, NotLearned, Refused, Replica, Setup, State, Status, Verdict, VerdictKind, Want
-from bully import check, plan_table
+from bully import (
+    Agent, Answer, Call, CallKind, NotLearned, Refused, Replica, Setup, State, Status, Verdict, VerdictKind, Want,
+    check, plan_table,
+)  # fmt: skip
 from bully.faults import FAULTS
 from bully.header import functions
 from bully.values import Event
@@ -88,7 +93,7 @@ def led(agent: Agent) -> None:
             agent.plan(agent.prepare(agent.task))
 
 
-def end_of(state: State, task: Optional[Sequence[int]]) -> str:
+def end_of(state: State, task: Sequence[int] | None) -> str:
     """The line of a verdict's node."""
     owners = ','.join(map(str, task or ())) or '-'
     return f'{state.node} {state.status} {state.coordinator or "-"} {state.halter or "-"} {owners}'
@@ -107,7 +112,7 @@ class Head(unittest.TestCase):
     def test_docstrings(self) -> None:
         """Everything public says what it is."""
         classes = [each for each in vars(bully).values() if isinstance(each, type) and each.__module__.startswith('bully.')]
-        owners: List[Any] = [bully, *classes]
+        owners: list[Any] = [bully, *classes]
         for owner in owners:
             for name, each in vars(owner).items():
                 if name[0] != '_' and getattr(each, '__module__', 'bully').startswith('bully') and (callable(each) or isinstance(each, property)):
@@ -120,11 +125,11 @@ class Headers(unittest.TestCase):
 
     text = (ROOT / 'include' / 'bully.h').read_text()
 
-    def numbers(self) -> Dict[str, int]:
+    def numbers(self) -> dict[str, int]:
         named = re.findall(r'\bBULLY_([A-Z_]+)(?: =)? (\d+)\b', self.text)
         return {name: int(number) for name, number in named}
 
-    def statuses(self) -> Dict[int, str]:
+    def statuses(self) -> dict[int, str]:
         """The names of the statuses, which stand in the header up to the functions that tell of them."""
         listed = self.text[self.text.index('    BULLY_OK = 0') : self.text.index('bully_status_name(')]
         return {int(number): name for name, number in re.findall(r'^ +BULLY_([A-Z_]+) = (\d+)', listed, re.MULTILINE)}
@@ -238,7 +243,7 @@ class Traces(unittest.TestCase):
 
     def test_kinds_of_texts(self) -> None:
         text = b'bully,1,2,2\nsaw,2,down,-\n'
-        kinds: List[Union[str, bytes, bytearray, memoryview]] = [text, bytearray(text), memoryview(text), text.decode()]
+        kinds: list[str | bytes | bytearray | memoryview] = [text, bytearray(text), memoryview(text), text.decode()]
         for same in kinds:
             self.assertEqual(str(check(same)), 'lawful 0')
         for wrong in (Path('alone.csv'), None, 7, [98]):
@@ -248,7 +253,7 @@ class Traces(unittest.TestCase):
     def test_threads(self) -> None:
         """Traces are judged in several threads at once."""
         trace = b'bully,1,1,1\n' + b'recover,1\ncrash,1\n' * 50_000
-        told: List[str] = []
+        told: list[str] = []
         threads = [threading.Thread(target=lambda: told.append(str(check(trace)))) for _ in range(4)]
         for thread in threads:
             thread.start()
@@ -278,7 +283,7 @@ class Tables(unittest.TestCase):
 
     def test_faults(self) -> None:
         weighted, old = self.weighted, [1, 1, 2, 2, 2, 2, 3]
-        wanted: List[Tuple[type, Callable[[], object]]] = [
+        wanted: list[tuple[type, Callable[[], object]]] = [
             (bully.BadNodes, lambda: plan_table(Setup(0, 7), [1])),
             (bully.BadNodes, lambda: plan_table(Setup(1025, 7), [1])),
             (bully.BadPartitions, lambda: plan_table(Setup(3, 0), [1])),
@@ -304,7 +309,7 @@ class Tables(unittest.TestCase):
 
     def test_numbers_that_do_not_fit(self) -> None:
         old = [1] * 7
-        wanted: List[Callable[[], object]] = [
+        wanted: list[Callable[[], object]] = [
             lambda: plan_table(Setup(65_536 + 3, 7), [1]),
             lambda: plan_table(Setup(-1, 7), [1]),
             lambda: plan_table(Setup(3, 65_536 + 7), [1]),
@@ -324,7 +329,7 @@ class Tables(unittest.TestCase):
                 call()
 
     def test_wrong_kinds(self) -> None:
-        wanted: List[Callable[[], object]] = [
+        wanted: list[Callable[[], object]] = [
             lambda: plan_table(Setup('3', 7), [1]),  # type: ignore[arg-type]
             lambda: plan_table(Setup(3, 7.0), [1]),  # type: ignore[arg-type]
             lambda: plan_table(Setup(3, 7), ['1']),  # type: ignore[list-item]
@@ -346,8 +351,8 @@ class Follower:
         told = tuple(map(int, weights.split()))
         self.setup = Setup(int(fields[2]), int(fields[3]), weights=told, keeps=keeps == 'keep')
         self.agents = [Agent(self.setup, node + 1) for node in range(self.setup.nodes)]
-        self.replies: Dict[int, Optional[str]] = {}
-        self.rows: List[str] = []
+        self.replies: dict[int, str | None] = {}
+        self.rows: list[str] = []
 
     def follow(self, row: str) -> None:
         word, number, *rest = row.split(',')
@@ -389,7 +394,7 @@ class Follower:
         claim = self.agents[int(row.split(',')[1]) - 1].claim()
         return claim == row or claim.startswith(row + ',')
 
-    def ends(self) -> List[str]:
+    def ends(self) -> list[str]:
         """The lines of a verdict's nodes."""
         return [end_of(agent.state, agent.task) for agent in self.agents]
 
@@ -402,7 +407,7 @@ class Following(unittest.TestCase):
             with self.subTest(path=path.name):
                 self.follow(path.read_text().splitlines(), path.with_suffix('.out').read_text().splitlines())
 
-    def follow(self, rows: List[str], verdict: List[str]) -> None:
+    def follow(self, rows: list[str], verdict: list[str]) -> None:
         kind, number, *cause = verdict[0].split()
         follower = Follower(rows[0])
         last = int(number) if kind == 'refused' else len(rows) + 1
@@ -563,7 +568,7 @@ class AgentFaults(unittest.TestCase):
             self.assertEqual(before, after)
 
     def test_open(self) -> None:
-        wanted: List[Tuple[type, Callable[[], object]]] = [
+        wanted: list[tuple[type, Callable[[], object]]] = [
             (bully.BadNodes, lambda: Agent(Setup(0, 3), 1)),
             (bully.BadPartitions, lambda: Agent(Setup(2, 0), 1)),
             (bully.BadLimit, lambda: Agent(Setup(2, 3, 0), 1)),
@@ -621,7 +626,7 @@ class AgentFaults(unittest.TestCase):
 
     def test_tables(self) -> None:
         with recovered(TWO, 2) as agent:
-            wrong: Dict[type, List[List[int]]] = {
+            wrong: dict[type, list[list[int]]] = {
                 bully.TableLength: [[], [2, 2], [2, 2, 2, 2]],
                 bully.TableOwner: [[2, 2, 3], [0, 2, 2]],
                 ValueError: [[2, 2, 65_538], [-1, 2, 2]],
@@ -639,7 +644,7 @@ class AgentFaults(unittest.TestCase):
 
     def test_requests(self) -> None:
         with recovered(TWO, 1) as agent:
-            wrong: Dict[type, List[Union[str, bytes]]] = {
+            wrong: dict[type, list[str | bytes]] = {
                 bully.LineWord: ['', 'tell,2,0,yes', 'asks,2,0,1,halt', ' ask,2,0,1,halt', '\u00e9', '\ud800', b'ask\xff'],
                 bully.LineCaller: ['ask', 'ask,', 'ask,3,0,1,halt', 'ask,0,0,1,halt', 'ask,02,0,1,halt', 'ask,x,0,1,halt'],
                 bully.LineNumber: ['ask,2', 'ask,2,,1,halt', 'ask,2,00,1,halt', 'ask,2,1000000,1,halt', 'ask,2,-1,1,halt'],
@@ -661,7 +666,7 @@ class AgentFaults(unittest.TestCase):
 
     def test_replies(self) -> None:
         with recovered(TWO, 1) as agent:
-            wrong: Dict[type, List[Union[str, bytes]]] = {
+            wrong: dict[type, list[str | bytes]] = {
                 bully.LineWord: ['', 'ask,1,1,2,are-you-up', 'tell!', '\u00e9', b'tell\xfe'],
                 bully.LineCaller: ['tell', 'tell,3,1,yes', 'tell,0,1,yes'],
                 bully.LineNumber: ['tell,1', 'tell,1,01,yes', 'tell,1,1000000,yes'],
@@ -730,7 +735,7 @@ class HeaderRows(unittest.TestCase):
                 self.assertIs(type(replica.keeps), bool)
 
     def test_faults(self) -> None:
-        wanted: List[Tuple[type, Setup]] = [
+        wanted: list[tuple[type, Setup]] = [
             (bully.BadNodes, Setup(0, 3)),
             (bully.BadNodes, Setup(1025, 3)),
             (bully.BadPartitions, Setup(2, 0)),
@@ -751,10 +756,10 @@ class HeaderRows(unittest.TestCase):
                 setup.header()
 
 
-def log_of(*steps: str) -> List[str]:
+def log_of(*steps: str) -> list[str]:
     """Rows of a log. `call,i` stands for those of a call of node i that runs, and `fail,i` for those of one that is lost."""
     whole = {'call': ('start', 'run', 'return'), 'fail': ('start', 'lose', 'return')}
-    rows: List[str] = []
+    rows: list[str] = []
     for step in steps:
         word, rest = step.split(',', 1)
         rows += [f'{each},{rest}' for each in whole.get(word, (word,))]
@@ -775,7 +780,7 @@ def text_of(header: str, rows: Iterable[str]) -> bytes:
     return '\n'.join([header, *rows, '']).encode()
 
 
-def shown(replica: Replica) -> List[object]:
+def shown(replica: Replica) -> list[object]:
     """All that a replica shows."""
     group = [replica.rows, replica.events, replica.token, replica.planner, replica.last_table]
     setup = [replica.nodes, replica.partitions, replica.keeps]
@@ -786,7 +791,7 @@ def shown(replica: Replica) -> List[object]:
 class Member:
     """A process of one node, with its replica of a log, to which it appends a row behind all rows that it read, or not at all."""
 
-    def __init__(self, header: str, log: List[str], node: int) -> None:
+    def __init__(self, header: str, log: list[str], node: int) -> None:
         self.replica, self.log, self.node = Replica(header), log, node
 
     def read(self) -> Replica:
@@ -816,16 +821,16 @@ def go_to_rest(*members: Member) -> None:
 class Elections(unittest.TestCase):
     """Groups of replicas over a list of rows: what they append is what `docs/ALGORITHM.md` has them do, row by row."""
 
-    def group(self, header: str, nodes: int) -> List[Member]:
+    def group(self, header: str, nodes: int) -> list[Member]:
         """A member for each node, which recovers and has turns until all rest."""
-        log: List[str] = []
+        log: list[str] = []
         members = [Member(header, log, node + 1) for node in range(nodes)]
         for member in members:
             self.assertTrue(member.append(member.read().recover(member.node)))
         go_to_rest(*members)
         return members
 
-    def expect(self, member: Member, rows: List[str], token: int, planner: int, table: Sequence[int], up: Sequence[int]) -> None:
+    def expect(self, member: Member, rows: list[str], token: int, planner: int, table: Sequence[int], up: Sequence[int]) -> None:
         """The log has these rows and is lawful; each of these nodes is Normal by this plan, and the others are Down."""
         self.assertEqual(member.log, rows)
         replica = member.read()
@@ -882,7 +887,7 @@ class Elections(unittest.TestCase):
     def test_forgotten_task(self) -> None:
         """A coordinator that comes back without its task plans from the last plan's table: nothing moves. Without that table it
         would be 1 1 2."""
-        log: List[str] = []
+        log: list[str] = []
         first, second = (Member('bully,1,2,3', log, node) for node in (1, 2))
         second.append(second.read().recover(2))
         go_to_rest(second)
@@ -901,7 +906,7 @@ class Elections(unittest.TestCase):
 
     def test_behind_others(self) -> None:
         """A row that was made before another one came to stand in the log isn't appended, and is made anew."""
-        log: List[str] = []
+        log: list[str] = []
         first, second = (Member('bully,1,2,3', log, node) for node in (1, 2))
         stale = first.read().recover(1)
         self.assertTrue(second.append(second.read().recover(2)))
@@ -987,7 +992,7 @@ class Replicas(unittest.TestCase):
             self.assertEqual(replica.recover(1), 'recover,1')
 
     def test_ways_to_tell_rows(self) -> None:
-        ways: List[Iterable[Union[str, bytes]]] = [
+        ways: list[Iterable[str | bytes]] = [
             ELECTION_OF_TWO,
             tuple(row.encode() for row in ELECTION_OF_TWO),
             (row + '\n' for row in ELECTION_OF_TWO),
@@ -998,7 +1003,7 @@ class Replicas(unittest.TestCase):
                 self.assertEqual((replica.learn(rows), replica.learn([]), replica.token), (19, 0, 15))
 
     def test_ways_to_tell_headers(self) -> None:
-        headers: List[Union[str, bytes]] = ['bully,1,2,3', 'bully,1,2,3\n', b'bully,1,2,3', b'bully,1,2,3\n']
+        headers: list[str | bytes] = ['bully,1,2,3', 'bully,1,2,3\n', b'bully,1,2,3', b'bully,1,2,3\n']
         for header in headers:
             with self.subTest(header=header), Replica(header) as replica:
                 self.assertEqual((replica.nodes, replica.partitions, replica.keeps), (2, 3, False))
@@ -1045,7 +1050,7 @@ class Replicas(unittest.TestCase):
                 replica.next(1)
 
 
-def judged(header: Union[str, bytes], rows: Iterable[Union[str, bytes]]) -> str:
+def judged(header: str | bytes, rows: Iterable[str | bytes]) -> str:
     """What becomes of rows that are learned one by one, in the words of a verdict."""
     with Replica(header) as replica:
         for row in rows:
@@ -1060,7 +1065,7 @@ def judged(header: Union[str, bytes], rows: Iterable[Union[str, bytes]]) -> str:
 class Learning(unittest.TestCase):
     """A row is learned if `check` takes it, and else it is told why not."""
 
-    def expect(self, replica: Replica, rows: Sequence[Union[str, bytes]], taken: int, cause: Type[bully.BullyError]) -> None:
+    def expect(self, replica: Replica, rows: Sequence[str | bytes], taken: int, cause: type[bully.BullyError]) -> None:
         """So many of the rows are learned, and the next one isn't, for this cause, however often it is told."""
         before = replica.rows
         with self.assertRaises(NotLearned) as caught:
@@ -1089,7 +1094,7 @@ class Learning(unittest.TestCase):
 
     def test_causes(self) -> None:
         plans = log_of('recover,2', 'move,2', 'fail,2', 'move,2', 'move,2')
-        wanted: List[Tuple[Type[bully.BullyError], List[str], str]] = [
+        wanted: list[tuple[type[bully.BullyError], list[str], str]] = [
             (bully.BadNode, [], 'recover,3'),
             (bully.IsDown, [], 'crash,1'),
             (bully.IsUp, ['recover,1'], 'recover,1'),
@@ -1111,7 +1116,7 @@ class Learning(unittest.TestCase):
 
     def test_bad_rows(self) -> None:
         """What is no row, also where it is the first of those that are told."""
-        wrong: List[Union[str, bytes]] = [
+        wrong: list[str | bytes] = [
             ' ', 'saw', 'recover', 'recover,', 'recover,1,', ' recover,1', 'recover,1 ', 'Recover,1', 'recover;1', 'recover,+1',
             'bully,1,2,3', 'plan,1,1 1', 'plan,1,1 1 3', 'start,1,are-you-up,2', '\u00e9', '\ud800', b'\xff', b'recover,1\x00',
             '"recover,1', '"', '""', 'recover,1"', '\ufeffrecover,1', b'\xef\xbb\xbfrecover,1', 'recover,1\x0b', 'recover\u20281',
@@ -1129,7 +1134,7 @@ class Learning(unittest.TestCase):
     def test_no_rows(self) -> None:
         """What isn't exactly one row is refused before anything is learned."""
         with Replica('bully,1,2,3') as replica:
-            wrong_rows: List[Union[str, bytes]] = [
+            wrong_rows: list[str | bytes] = [
                 '', '\n', 'recover,2\n\n', 'recover,2\r\n', 'recover,2\r', '\nrecover,2', 'recover,2\nstart,2', b'a\rb', b'',
             ]  # fmt: skip
             for row in wrong_rows:
@@ -1177,7 +1182,7 @@ class Learning(unittest.TestCase):
             with self.subTest(seed=seed):
                 self.agree(spoiled)
 
-    def agree(self, log: List[bytes]) -> None:
+    def agree(self, log: list[bytes]) -> None:
         """A replica takes the log as `check` does, whose faults of form come before any verdict."""
         seen = judged(log[0], log[1:])
         try:
@@ -1197,7 +1202,7 @@ class ReplicaFaults(unittest.TestCase):
                 call()
             self.assertEqual(None if replica.is_closed else shown(replica), before)
 
-    def of_node(self, replica: Replica) -> List[Callable[[Any], object]]:
+    def of_node(self, replica: Replica) -> list[Callable[[Any], object]]:
         """All calls that take a node."""
         offers = [replica.next, replica.crash, replica.recover, replica.check, replica.timeout, replica.drop]
         parts = [replica.status, replica.coordinator, replica.halter, replica.wants, replica.call, replica.generation]
@@ -1279,7 +1284,7 @@ class Walk:
         self.header = Setup(nodes, self.choice.randint(1, 9), weights=weights, keeps=seed % 4 == 3).header()
         if seed % 3 == 0:
             self.header = self.header.replace('bully,2', 'bully,3')
-        self.log: List[str] = []
+        self.log: list[str] = []
         self.members = [Member(self.header, self.log, node + 1) for node in range(nodes)]
         self.crashes = self.choice.choice([20, 100, 500])
         self.watcher = Replica(self.header)
@@ -1298,7 +1303,7 @@ class Walk:
         if row is not None and member.append(row):
             self.watch()
 
-    def row(self, replica: Replica, node: int) -> Optional[str]:
+    def row(self, replica: Replica, node: int) -> str | None:
         """The row that the member of this node would append."""
         if self.choice.randrange(self.crashes) == 0:
             return replica.crash(self.choice.randint(1, replica.nodes))
@@ -1318,7 +1323,7 @@ class Walk:
                 assert (self.watcher.coordinator(node), self.watcher.task(node)) == plan
                 self.normal += 1
 
-    def last_plan(self) -> Tuple[Optional[int], Optional[int], Optional[Tuple[int, ...]]]:
+    def last_plan(self) -> tuple[int | None, int | None, tuple[int, ...] | None]:
         """The token, the planner and the table of the last plan, as the rows have them."""
         plans = [(place, row.split(',')) for place, row in enumerate(self.log) if row.startswith('plan')]
         if not plans:
@@ -1444,13 +1449,13 @@ class Memory(unittest.TestCase):
 class Loading(unittest.TestCase):
     """How the library is found."""
 
-    def run_with(self, library: Optional[str], program: str, place: Path = Path(__file__).parent) -> 'subprocess.CompletedProcess[str]':
+    def run_with(self, library: str | None, program: str, place: Path = Path(__file__).parent) -> subprocess.CompletedProcess[str]:
         environment = {name: value for name, value in os.environ.items() if name != 'BULLY_LIBRARY'}
         if library is not None:
             environment['BULLY_LIBRARY'] = library
         environment['PYTHONPATH'] = str(place)
         words = [sys.executable, '-c', program]
-        return subprocess.run(words, env=environment, cwd=place, stdout=subprocess.PIPE, stderr=subprocess.PIPE, universal_newlines=True)
+        return subprocess.run(words, env=environment, cwd=place, capture_output=True, text=True)
 
     def test_ways(self) -> None:
         folder = os.environ['BULLY_LIBRARY']
@@ -1517,7 +1522,7 @@ class CountingResult(unittest.TextTestResult):
         return len(self.failures) + len(self.errors)
 
 
-def run(module: ModuleType = sys.modules[__name__]) -> Tuple[int, int]:
+def run(module: ModuleType = sys.modules[__name__]) -> tuple[int, int]:
     """Runs all tests of the module: how many passed, and how many failed."""
     tests = unittest.defaultTestLoader.loadTestsFromModule(module)
     result = unittest.TextTestRunner(stream=sys.stdout, resultclass=CountingResult).run(tests)

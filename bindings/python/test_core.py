@@ -1,21 +1,23 @@
 #!/usr/bin/env python3
 """Tests of settlements and of a member's rules. What is wanted comes from `docs/ALGORITHM.md` and `include/bully.h`, and
 never from what the library answered. `try` runs them."""
+from __future__ import annotations
+
 import copy
 import pickle
 import random
 import re
 import unittest
+from collections.abc import Callable
 from dataclasses import FrozenInstanceError, replace
 from enum import Enum
 from pathlib import Path
-from typing import Callable, Dict, List, Optional, Tuple, Type
 
 import bully
 from bully import NotLearned, Owned, Replica, Status, check
 from bully.member import (
-    TTL_MAX, TTL_MIN, Ask, Begin, Core, End, Ending, Life, Opening, Presence, Present, Promise, Request, Rest, Seen, Step, Stop, StoreAnswer,
-    Unknown, Until, Wait, Way, Work,
+    TTL_MAX, TTL_MIN, Ask, Begin, Core, End, Ending, Life, Opening, Presence, Present, Promise, Request, Rest, Seen,
+    Step, Stop, StoreAnswer, Unknown, Until, Wait, Way, Work,
 )  # fmt: skip
 
 ROOT = Path(__file__).resolve().parents[2]
@@ -29,7 +31,7 @@ BEHIND = ['start,2', 'run,2', 'return,2', 'move,2']
 ALONE = ['recover,1', 'move,1', 'move,1', 'move,1', 'plan,1,1', 'move,1']
 
 
-def settled(table: str) -> List[str]:
+def settled(table: str) -> list[str]:
     return [*BEFORE, f'plan,2,{table}', *BEHIND]
 
 
@@ -39,7 +41,7 @@ class Numbers(unittest.TestCase):
     def test_numbers(self) -> None:
         text = (ROOT / 'include' / 'bully.h').read_text()
         named = {name: int(number) for name, number in re.findall(r'\bBULLY_([A-Z_]+)(?: =)? (\d+)\b', text)}
-        prefixes: Dict[Type[Enum], str] = {Ending: 'ENDING_', Until: 'UNTIL_', StoreAnswer: 'STORE_', Way: 'WORK_'}
+        prefixes: dict[type[Enum], str] = {Ending: 'ENDING_', Until: 'UNTIL_', StoreAnswer: 'STORE_', Way: 'WORK_'}
         for kind, prefix in prefixes.items():
             for number, name in enumerate(kind.__members__, 1):
                 self.assertEqual(named[prefix + name], number)
@@ -56,7 +58,7 @@ class Settling(unittest.TestCase):
             self.assertEqual((replica.rows, replica.owned(1)), (0, None))
             replica.learn(settled('1 2'))
             self.assertEqual([replica.is_at_rest([1, 2], place) for place in (0, 11, 12)], [True, True, False])
-            some: List[List[int]] = [[1], [2], []]
+            some: list[list[int]] = [[1], [2], []]
             self.assertEqual([replica.is_at_rest(present) for present in some], [False] * 3)
             self.assertEqual((replica.owned(1), replica.owned(2, 11)), (Owned(12, (0,)), Owned(12, (1,))))
             self.assertEqual((replica.owned(1, 12), replica.owned(2, 0xFFFF_FFFF)), (None, None))
@@ -98,9 +100,9 @@ class Settling(unittest.TestCase):
                 self.assertEqual(parts, list(range(replica.partitions)) if present else [])
                 self.assertTrue(check(''.join(f'{row}\n' for row in (header, *rows, *more)).encode()).is_lawful)
 
-    def random_log(self, replica: Replica, chance: random.Random) -> List[str]:
+    def random_log(self, replica: Replica, chance: random.Random) -> list[str]:
         """A lawful log of up to 40 rows, which the replica has learned."""
-        rows: List[str] = []
+        rows: list[str] = []
         for _ in range(chance.randrange(40)):
             node = chance.randrange(1, replica.nodes + 1)
             try:
@@ -114,7 +116,7 @@ class Settling(unittest.TestCase):
 
     def test_refusals(self) -> None:
         with Replica(TWO) as replica:
-            cases: List[Tuple[Type[Exception], List[int], Optional[List[int]]]] = [
+            cases: list[tuple[type[Exception], list[int], list[int] | None]] = [
                 (bully.BadNode, [0], None), (bully.BadNode, [1, 3], [1]), (bully.TableLength, [1], [1]), (bully.TableLength, [1], []),
                 (bully.TableLength, [], [1, 1, 1]), (bully.TableOwner, [1], [1, 3]),
             ]  # fmt: skip
@@ -134,7 +136,7 @@ class Settling(unittest.TestCase):
             with self.assertRaises(ValueError):
                 replica.owned(1, 0x1_0000_0000)
             self.assertEqual((replica.rows, replica.events), (0, 0))
-        calls: List[Callable[[], object]] = [lambda: replica.settle([0]), lambda: replica.is_at_rest([1]), lambda: replica.owned(1)]
+        calls: list[Callable[[], object]] = [lambda: replica.settle([0]), lambda: replica.is_at_rest([1]), lambda: replica.owned(1)]
         for call in calls:
             with self.assertRaises(bully.Closed):
                 call()
@@ -153,7 +155,7 @@ class Stories(unittest.TestCase):
     def ask(self, now: int, request: Request, life: Life = Life(0, 0), place: int = 0) -> None:
         self.assertEqual(self.core.next(now), Ask(request, life, place))
 
-    def looked(self, now: int, place: Optional[int] = None, is_wished: bool = False) -> None:
+    def looked(self, now: int, place: int | None = None, is_wished: bool = False) -> None:
         presences = () if place is None else (Presence(1, FIRST, Promise(7, place)),)
         self.core.looked(now, Seen(7, presences, False, is_wished))
 
@@ -298,7 +300,7 @@ class Stories(unittest.TestCase):
             self.core.next(1 << 64)
 
     def test_it_is_one(self) -> None:
-        copying: List[Callable[[Core], object]] = [copy.copy, copy.deepcopy, pickle.dumps]
+        copying: list[Callable[[Core], object]] = [copy.copy, copy.deepcopy, pickle.dumps]
         for call in copying:
             with self.assertRaises(TypeError):
                 call(self.core)
@@ -307,7 +309,7 @@ class Stories(unittest.TestCase):
             ONE.epoch = 8  # type: ignore[misc]
         self.core.close()
         self.assertEqual((repr(self.core), self.core.is_closed), ('<Core closed>', True))
-        calls: List[Callable[[], object]] = [lambda: self.core.next(0), self.core.settlement, self.core.woke, self.core.close, lambda: self.core.place]
+        calls: list[Callable[[], object]] = [lambda: self.core.next(0), self.core.settlement, self.core.woke, self.core.close, lambda: self.core.place]
         for closed in calls:
             with self.assertRaises(bully.Closed):
                 closed()
@@ -318,8 +320,8 @@ class Store:
 
     def __init__(self, header: str) -> None:
         self.header = header
-        self.log: List[str] = []
-        self.presences: Dict[int, Presence] = {}
+        self.log: list[str] = []
+        self.presences: dict[int, Presence] = {}
 
     def ask(self, core: Core, now: int, ask: Ask) -> None:
         """Does what is asked, and tells what became of it."""
@@ -353,7 +355,7 @@ class Store:
 
 
 class Groups(unittest.TestCase):
-    def settle(self, store: Store, cores: List[Core], now: int) -> int:
+    def settle(self, store: Store, cores: list[Core], now: int) -> int:
         """Each does what it does, until all wait: the time then."""
         for _ in range(200):
             waiting = 0
@@ -372,7 +374,7 @@ class Groups(unittest.TestCase):
                 return now
         raise AssertionError(f'no rest behind {store.log}')
 
-    def works(self, cores: List[Core]) -> Tuple[int, ...]:
+    def works(self, cores: list[Core]) -> tuple[int, ...]:
         owned = [core.owned() for core in cores]
         return tuple(sorted(part for each in owned if each for part in each.partitions))
 

@@ -1,5 +1,7 @@
 #!/usr/bin/env python3
 """Tests of logs in etcd, over servers of their own. `try` runs them; without the program `etcd` on the path they are skipped."""
+from __future__ import annotations
+
 import contextlib
 import os
 import random
@@ -12,8 +14,9 @@ import threading
 import time
 import unittest
 from base64 import b64decode, b64encode
+from collections.abc import Callable, Sequence
 from pathlib import Path
-from typing import Any, Callable, Dict, List, Optional, Sequence, Tuple, Type
+from typing import Any
 from unittest import mock
 
 from bully import etcd, gateway
@@ -27,8 +30,8 @@ from bully.repairing import damage_of, repair
 from bully.stores import EtcdStore
 from epoch_laws import EpochLaws
 from etcd_servers import (
-    NUMBERS, OLDER, Json, Server, Servers, WithCertificates, WithEtcd, add_users, alone, begin_alone, coded, decoded, free_ports, older_row,
-    prune_in_part, put_older,
+    NUMBERS, OLDER, Json, Server, Servers, WithCertificates, WithEtcd, add_users, alone, begin_alone, coded, decoded,
+    free_ports, older_row, prune_in_part, put_older,
 )  # fmt: skip
 from laws import EMPTY, OPENING, PATIENCE, A, B, C, Laws, Waits, add, be_idle, present, wait_until
 from test_stores import environment, has_failed, race
@@ -42,7 +45,7 @@ class Proxy:
     def __init__(self, port: int, host: str = '127.0.0.1') -> None:
         self.port = port  # of the server
         self.requests = 0
-        self._loses: Tuple[str, bytes] = ('', b'')
+        self._loses: tuple[str, bytes] = ('', b'')
         self.lost = threading.Event()
         self._listening = socket.create_server((host, 0), family=socket.AF_INET6 if ':' in host else socket.AF_INET)
         self.endpoint = str(Endpoint(host, self._listening.getsockname()[1]))
@@ -155,7 +158,7 @@ class InEtcd(WithEtcd):
             with contextlib.suppress(Unanswered):
                 return log.renew('a', life, ttl)
 
-    def leases(self, server: Optional[Server] = None, prefix: str = '') -> Dict[str, Optional[str]]:
+    def leases(self, server: Server | None = None, prefix: str = '') -> dict[str, str | None]:
         """The leases of lives and promises."""
         root = f'{prefix or self.prefix}/presence/'
         return {key[len(root) :]: pair.get('lease') for key, pair in (server or self.server).keys(root).items()}
@@ -324,7 +327,7 @@ class Promises(InEtcd):
 
     def late(self, call: Callable[[], object], part: str = 'request_put') -> Json:
         """The transaction of this call that writes, which isn't done; it may be so later."""
-        asked: List[Json] = []
+        asked: list[Json] = []
         ask = Client.ask
 
         def lose(client: Client, path: str, told: Json, repeats: bool = False) -> Json:
@@ -344,7 +347,7 @@ class Promises(InEtcd):
             return 'succeeded' in self.server.ask('/v3/kv/txn', asked)
         return False
 
-    def revoke(self, lease: Optional[str]) -> None:
+    def revoke(self, lease: str | None) -> None:
         """The lease ends."""
         self.server.ask('/v3/lease/revoke', {'ID': lease})
 
@@ -380,7 +383,7 @@ class Promises(InEtcd):
     def test_a_promise_while_it_moves(self) -> None:
         """The move keeps it."""
         ask = Client.ask
-        done: List[bool] = []
+        done: list[bool] = []
 
         def promise_first(client: Client, path: str, told: Json, repeats: bool = False) -> Json:
             if path == gateway.LEASE_GRANT:
@@ -541,7 +544,7 @@ class Prefixes(InEtcd):
             Path(folder, 'resolv.conf').write_text('nameserver 127.0.0.1\n')
             within = f'ip link set lo up && mount --bind {folder}/resolv.conf /etc/resolv.conf && exec "$@"'
             words = ['unshare', '--mount', '--net', 'sh', '-c', within, 'sh', sys.executable, '-c', SILENT_NAMES]
-            ran = subprocess.run(words, env=environment(), stdout=subprocess.PIPE, universal_newlines=True, check=True)
+            ran = subprocess.run(words, env=environment(), stdout=subprocess.PIPE, text=True, check=True)
         said = 'nowhere.test:2379: its name was not looked up in time; elsewhere.test:2379: its name was not looked up in time\n'
         self.assertEqual(ran.stdout, 3 * said + 'asked\nin time\nFalse\n')
 
@@ -559,7 +562,7 @@ class Prefixes(InEtcd):
 class Contents(InEtcd):
     """What can be wrong with what is there."""
 
-    def refused(self, fault: Type[LogError], call: Callable[[], object]) -> None:
+    def refused(self, fault: type[LogError], call: Callable[[], object]) -> None:
         with self.assertRaises(fault) as caught:
             call()
         self.assertIn(self.address, str(caught.exception))
@@ -664,7 +667,7 @@ class Contents(InEtcd):
             for call in (log.epochs, lambda: log.look(1, 0), lambda: log.read(1, 0)):
                 self.refused(DamagedLog, call)
 
-    def calls(self, log: EtcdLog) -> List[Callable[[], object]]:
+    def calls(self, log: EtcdLog) -> list[Callable[[], object]]:
         """Each call of a log."""
         return [
             lambda: log.read(1, 0), lambda: log.look(1, 0), lambda: log.append(1, 0, ['recover,2']), lambda: log.renew('a', A, LONG),
@@ -743,19 +746,19 @@ class Contents(InEtcd):
             server.start()
             wait_until(server.is_up)
             if way == 'restored':
-                reads: List[Callable[[], object]] = [lambda: log.look(1, 0), log.epochs, lambda: log.renew('a', A, LONG)]
+                reads: list[Callable[[], object]] = [lambda: log.look(1, 0), log.epochs, lambda: log.renew('a', A, LONG)]
                 self.refuse(reads, DamagedLog, 'it went back, as one does that is restored')
             else:
                 self.created(address)
             for _ in range(20):  # so that its revision is higher than it was
                 server.put('x', 'y')
             if way == 'restored':
-                beyond: List[Callable[[], object]] = [lambda: log.look(1, 2), lambda: log.append(1, 2, ['recover,1'])]
+                beyond: list[Callable[[], object]] = [lambda: log.look(1, 2), lambda: log.append(1, 2, ['recover,1'])]
                 self.refuse(beyond, DamagedLog, 'read up to place 2 of epoch 1, and ends at 0 of 1')
             else:
                 self.refuse(self.calls(log), ForeignLog, 'another log is in its place')
 
-    def refuse(self, calls: List[Callable[[], object]], fault: Type[LogError], why: str) -> None:
+    def refuse(self, calls: list[Callable[[], object]], fault: type[LogError], why: str) -> None:
         for number, call in enumerate(calls):
             with self.subTest(call=number), self.assertRaisesRegex(fault, why):
                 call()
@@ -900,7 +903,7 @@ class Lost(InEtcd):
     def test_lease_that_has_ended_already(self) -> None:
         """Before the presence stands under it, as behind a pause. Then nothing is done, and it is tried again."""
         ask = Client.ask
-        ended: List[str] = []
+        ended: list[str] = []
 
         def end_at_once(client: Client, path: str, told: Json, repeats: bool = False) -> Json:
             answer = ask(client, path, told, repeats)
@@ -909,7 +912,7 @@ class Lost(InEtcd):
                 ended.append(answer['ID'])
             return answer
 
-        calls: List[Callable[[], object]] = [
+        calls: list[Callable[[], object]] = [
             lambda: self.log.take('a', A, EMPTY, 50 * SECOND), lambda: self.log.renew('a', A, 60 * SECOND),
         ]  # fmt: skip
         for number, call in enumerate(calls):
@@ -929,7 +932,7 @@ class Lost(InEtcd):
 
     def test_reads(self) -> None:
         """They are asked for again, of another server, if there is one."""
-        calls: List[Callable[[EtcdLog], object]] = [lambda log: list(log.read(1, 0)), present, lambda log: log.epochs()]
+        calls: list[Callable[[EtcdLog], object]] = [lambda log: list(log.read(1, 0)), present, lambda log: log.epochs()]
         for call in calls:
             self.loses('answer', TXN, lambda: call(self.log))
             both = self.opened(f'etcd://{self.between.endpoint},127.0.0.1:{self.server.port}/{self.prefix}')
@@ -950,7 +953,7 @@ class Lost(InEtcd):
         self.created(other.address(self.prefix))
         self.between.port = other.each[0].port
         self.loses('request', TXN, self.log.epochs)
-        calls: List[Callable[[], object]] = [
+        calls: list[Callable[[], object]] = [
             lambda: self.log.read(1, 0), lambda: self.log.append(1, 0, ['recover,1']), lambda: self.log.look(1, 0),
         ]  # fmt: skip
         for call in calls:
@@ -967,7 +970,7 @@ class Watching(InEtcd):
         self.direct = self.begun()
         self.log = self.opened(self.between.address(self.prefix))
 
-    def wait(self, place: int, seconds: Optional[float] = None, until: Until = Until.NEWS) -> float:
+    def wait(self, place: int, seconds: float | None = None, until: Until = Until.NEWS) -> float:
         """How long it took."""
         begun = time.monotonic()
         self.log.wait(1, place, {'a': A}, until, PATIENCE if seconds is None else seconds)
@@ -1003,7 +1006,7 @@ class Watching(InEtcd):
         """What comes between the look and the watch is seen."""
         watch = Client.watch
         self.assertTrue(self.direct.append(1, 0, ['recover,1']))
-        acts: List[Tuple[Callable[[], object], Until]] = [
+        acts: list[tuple[Callable[[], object], Until]] = [
             (lambda: self.direct.promise('a', A, Promise(1, 1)), Until.ALL_IDLE), (lambda: self.direct.append(1, 1, ['recover,1']), Until.NEWS),
             (lambda: self.direct.ask(OPENING.after(None), 1), Until.NEWS),
             (lambda: self.direct.order(Orders(frozenset('b')), None), Until.NEWS),
@@ -1047,9 +1050,9 @@ class Watching(InEtcd):
             self.wait(0, 0.3, Until.ANY_IDLE)
         self.assertIn(f'{self.prefix}/presence/promise/a', seen)
 
-    def seen(self) -> List[str]:
+    def seen(self) -> list[str]:
         """The keys of all events from now on."""
-        found: List[str] = []
+        found: list[str] = []
         see = etcd.News.see
 
         def note(news: etcd.News, event: Json) -> None:
@@ -1082,15 +1085,15 @@ class Watching(InEtcd):
         """Of presences those alone that are newer than the last look, but for the first one."""
         for number in range(20):
             self.assertTrue(self.direct.take(str(number), A, EMPTY, LONG))
-        read: List[int] = []
+        read: list[int] = []
         pairs_of = gateway.pairs_of
 
-        def count(found: Json) -> List[gateway.Pair]:
+        def count(found: Json) -> list[gateway.Pair]:
             pairs = pairs_of(found)
             read.append(sum(b'/presence/' in pair.key for pair in pairs))
             return pairs
 
-        acts: List[Callable[[], object]] = [
+        acts: list[Callable[[], object]] = [
             lambda: None, lambda: None, lambda: self.direct.promise('7', A, Promise(1, 1)), lambda: self.direct.take('x', A, EMPTY, LONG),
             lambda: self.direct.renew('x', A, 2 * LONG), lambda: self.direct.release('x', A), lambda: None,
         ]  # fmt: skip
@@ -1129,7 +1132,7 @@ class Watching(InEtcd):
             self.log.look(1, 0)
 
 
-def there_of(log: EtcdLog) -> Dict[str, Life]:
+def there_of(log: EtcdLog) -> dict[str, Life]:
     """The lives that a look finds."""
     return log.look(1, 0).lives
 
@@ -1207,7 +1210,7 @@ class Killed(InEtcd):
         log.look(1, 0)
         log.wait(1, 0, {'a': A}, Until.NEWS, 0.1)
         server.kill()
-        calls: List[Callable[[], object]] = [
+        calls: list[Callable[[], object]] = [
             lambda: log.read(1, 0), lambda: log.append(1, 0, ['recover,1']), lambda: log.renew('a', A, LONG), lambda: log.look(1, 0),
             lambda: log.promise('a', A, EMPTY), lambda: log.wait(1, 0, {'a': A}, Until.NEWS, 1.0),
         ]  # fmt: skip
@@ -1226,7 +1229,7 @@ class Killed(InEtcd):
         log = self.begun(servers.address('x'))
         for server in servers.each[1:]:
             server.kill()
-        calls: List[Callable[[], object]] = [
+        calls: list[Callable[[], object]] = [
             lambda: log.read(1, 0), lambda: log.append(1, 0, ['recover,1']), lambda: log.take('b', B, EMPTY, LONG),
         ]  # fmt: skip
         for call in calls:
@@ -1294,7 +1297,7 @@ class Killed(InEtcd):
         is_renewed = self.renewed(log)
         self.assertEqual(self.made(servers), made if is_renewed else None)
 
-    def made(self, servers: Servers) -> Optional[str]:
+    def made(self, servers: Servers) -> str | None:
         """The revision in which the presence was taken, if it is held."""
         wait_until(servers.are_up)
         found = servers.each[0].keys('x/presence/life/a').get('x/presence/life/a')
@@ -1400,7 +1403,7 @@ class Killed(InEtcd):
             for name, log in members.items():
                 log.release(name, life)
 
-    def renew_for(self, members: Dict[str, EtcdLog], life: Life, seconds: float) -> None:
+    def renew_for(self, members: dict[str, EtcdLog], life: Life, seconds: float) -> None:
         """The presences are renewed over and over, and are never found to be gone."""
         end = time.monotonic() + seconds
         while time.monotonic() < end:
@@ -1437,7 +1440,7 @@ class Users(InEtcd):
     def setUp(self) -> None:
         self.address = self.servers_of_users.address('x')
 
-    def words(self, user: str) -> Dict[str, Any]:
+    def words(self, user: str) -> dict[str, Any]:
         return {'user': user, 'password': f'{user} password'}
 
     def tearDown(self) -> None:
@@ -1466,7 +1469,7 @@ class Users(InEtcd):
         log = self.opened(**self.words('reader'))
         self.assertEqual((list(log.read(1, 0)), set(present(log))), (['recover,1'], {'a'}))
         log.wait(1, 0, {'a': A}, Until.NEWS, PATIENCE)
-        calls: List[Callable[[], object]] = [
+        calls: list[Callable[[], object]] = [
             lambda: log.append(1, 1, ['recover,2']), lambda: log.take('b', B, Promise(1, 1), LONG), lambda: log.release('a', A),
             lambda: log.promise('a', A, Promise(1, 1)),
         ]  # fmt: skip
@@ -1501,7 +1504,7 @@ class Users(InEtcd):
 class Certificates(InEtcd, WithCertificates):
     """Logs over TLS."""
 
-    def refused(self, call: Callable[[], object], why: str, fault: Type[LogError] = Denied) -> None:
+    def refused(self, call: Callable[[], object], why: str, fault: type[LogError] = Denied) -> None:
         with self.assertRaisesRegex(fault, f'^127.0.0.1:[0-9]+: .*{why}'):
             call()
 
@@ -1632,7 +1635,7 @@ class Overlooks(EtcdLog):
         return super()._see_all(answer, since)
 
 
-PLANTED: Tuple[Tuple[Type[EtcdLog], unittest.TestCase], ...] = (
+PLANTED: tuple[tuple[type[EtcdLog], unittest.TestCase], ...] = (
     (NoLives, Promises('test_late_requests_of_a_life_that_ended')), (NoLives, Promises('test_a_late_move')),
     (NoLives, Promises('test_a_late_take')), (NoPromises, Promises('test_a_late_append')), (NoPromises, OverEtcd('test_promises_rise')),
     (NoPromises, OverEtcd('test_all_have_to_be_idle')), (NoPlace, Promises('test_a_late_take')), (NoPlace, Promises('test_a_late_append')), (NoPlace, OverEtcd('test_racers')),

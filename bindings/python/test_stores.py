@@ -1,5 +1,7 @@
 #!/usr/bin/env python3
 """Tests of logs in memory and in files, and of what epochs begin with. `try` runs them."""
+from __future__ import annotations
+
 import contextlib
 import os
 import sqlite3
@@ -8,15 +10,16 @@ import sys
 import tempfile
 import time
 import unittest
+from collections.abc import Callable, Mapping, Sequence, Set as AbstractSet
 from pathlib import Path
-from typing import AbstractSet, Any, Callable, Dict, List, Mapping, Optional, Sequence, Type
+from typing import Any
 from unittest import mock
 
 from bully import Setup, settings, sqlite
 from bully.epochs import Opening, Token, setup_of
 from bully.logs import (
-    SECOND, DamagedLog, DiskFull, ForeignLog, Holder, Log, LogBusy, LogError, LogExists, MemoryLog, NoEpoch, NoLog, OtherLog, ReadOnlyLog, Wanted,
-    nanoseconds_of_boot, rows_text,
+    SECOND, DamagedLog, DiskFull, ForeignLog, Holder, Log, LogBusy, LogError, LogExists, MemoryLog, NoEpoch, NoLog,
+    OtherLog, ReadOnlyLog, Wanted, nanoseconds_of_boot, rows_text,
 )  # fmt: skip
 from bully.member import Life, Promise, Until
 from bully.sqlite import SqliteLog
@@ -34,7 +37,7 @@ class InFolder(unittest.TestCase):
         folder = tempfile.TemporaryDirectory()
         self.addCleanup(folder.cleanup)
         self.folder = Path(folder.name)
-        self.paths: List[Path] = []
+        self.paths: list[Path] = []
 
     @property
     def path(self) -> Path:
@@ -152,13 +155,13 @@ def in_mounts(test: unittest.TestCase, mounted: str, *words: str) -> str:
     if os.getuid() != 0:
         test.skipTest('only root can mount')
     command = ['unshare', '--mount', 'sh', '-c', f'{mounted} && exec "$@"', 'sh', sys.executable, '-c', *words]
-    return subprocess.run(command, env=environment(), stdout=subprocess.PIPE, universal_newlines=True, check=True).stdout
+    return subprocess.run(command, env=environment(), stdout=subprocess.PIPE, text=True, check=True).stdout
 
 
 class Files(InFolder):
     """What can be wrong with a file."""
 
-    def refused(self, fault: Type[LogError], why: str = '') -> None:
+    def refused(self, fault: type[LogError], why: str = '') -> None:
         with self.assertRaisesRegex(fault, why) as caught:
             SqliteLog(self.path)
         self.assertIn(str(self.path), str(caught.exception))
@@ -258,7 +261,7 @@ except LogError as fault:
     print(type(fault).__name__)
 '''
         self.folder.chmod(0o755)
-        ran = subprocess.run([sys.executable, '-c', words], env=environment(), stdout=subprocess.PIPE, universal_newlines=True, check=True)
+        ran = subprocess.run([sys.executable, '-c', words], env=environment(), stdout=subprocess.PIPE, text=True, check=True)
         self.assertEqual(ran.stdout, f'{ReadOnlyLog.__name__}\n')
 
     def test_full_disk(self) -> None:
@@ -280,7 +283,7 @@ except LogError as fault:
         self.begun()
         log, other = self.opened(0.05), self.opened()
         other._file.execute('begin immediate')
-        calls: List[Callable[[], object]] = [
+        calls: list[Callable[[], object]] = [
             lambda: log.append(1, 0, ['recover,1']), lambda: log.take('b', B, EMPTY, LONG), lambda: log.renew('a', A, LONG),
             lambda: log.promise('a', A, Promise(1, 1)), lambda: log.release('a', A), lambda: log.ask(OPENING.after(None), 1),
             lambda: log.finish(1, 0, OPENING.after(None)),
@@ -301,7 +304,7 @@ except LogError as fault:
         for end in ('-wal', '-shm'):
             Path(f'{self.path}{end}').unlink()
         SqliteLog.create(self.path, OPENING).close()
-        calls: List[Callable[[], object]] = [lambda: log.renew('a', A, LONG), lambda: log.take('b', B, EMPTY, LONG)]
+        calls: list[Callable[[], object]] = [lambda: log.renew('a', A, LONG), lambda: log.take('b', B, EMPTY, LONG)]
         for call in calls:
             with self.assertRaises(ForeignLog):
                 call()
@@ -315,7 +318,7 @@ except LogError as fault:
             self.path.write_bytes(backup)
             for end in ends:
                 Path(f'{self.path}{end}').unlink()
-            calls: List[Callable[[], object]] = [
+            calls: list[Callable[[], object]] = [
                 lambda: log.renew('a', A, LONG), lambda: log.take('b', B, EMPTY, LONG), lambda: log.append(1, 1, ['recover,2']),
                 lambda: log.look(1, 1), lambda: log.promise('a', A, Promise(1, 1)), lambda: log.wait(1, 1, {'a': A}, Until.NEWS, PATIENCE),
             ]  # fmt: skip
@@ -388,7 +391,7 @@ except LogError as fault:
         clock.now = nanoseconds_of_boot() + 2 * LONG
         with mock.patch.object(sqlite, 'nanoseconds_of_boot', clock):
             self.assertTrue(later.take('b', B, EMPTY, LONG))
-        calls: List[Callable[[], object]] = [
+        calls: list[Callable[[], object]] = [
             lambda: log.renew('a', A, LONG), lambda: log.append(1, 0, ['recover,1']), lambda: log.look(1, 0), lambda: SqliteLog(self.path),
             lambda: log.take('a', A, EMPTY, LONG), lambda: log.wait(1, 0, {'a': A}, Until.NEWS, PATIENCE), lambda: log.ask(OPENING.after(None), 1),
         ]  # fmt: skip
@@ -420,7 +423,7 @@ except LogError as fault:
         """One that was written into the same file has another name."""
         log = self.begun()
         self.change("update changes set name = 'another'")
-        calls: List[Callable[[], object]] = [lambda: log.renew('a', A, LONG), lambda: log.append(1, 0, ['recover,1']), lambda: log.look(1, 0)]
+        calls: list[Callable[[], object]] = [lambda: log.renew('a', A, LONG), lambda: log.append(1, 0, ['recover,1']), lambda: log.look(1, 0)]
         for call in calls:
             with self.assertRaisesRegex(ForeignLog, 'another log is in its place'):
                 call()
@@ -435,7 +438,7 @@ except LogError as fault:
             reader = self.opened()
             self.assertEqual(len(reader.look(1, 2).rows), 0)
             backup.backup(file)
-        calls: List[Callable[[], object]] = [lambda: reader.look(1, 2), lambda: log.append(1, 2, ['recover,2']), lambda: log.read(1, 2)]
+        calls: list[Callable[[], object]] = [lambda: reader.look(1, 2), lambda: log.append(1, 2, ['recover,2']), lambda: log.read(1, 2)]
         for call in calls:
             with self.assertRaisesRegex(DamagedLog, 'read up to place 2 of epoch 1, and ends at 0 of 1: its store went back'):
                 call()
@@ -444,9 +447,9 @@ except LogError as fault:
         """What is appended does; presences and promises need not."""
         log = self.begun()
         self.assertEqual(log._one('pragma synchronous'), 1)
-        told: List[str] = []
+        told: list[str] = []
         log._file.set_trace_callback(told.append)
-        calls: List[Callable[[], object]] = [
+        calls: list[Callable[[], object]] = [
             lambda: log.renew('a', A, LONG), lambda: log.promise('a', A, EMPTY), lambda: log.look(1, 0), lambda: log.append(1, 0, ['x']),
         ]  # fmt: skip
         for number, call in enumerate(calls):
@@ -536,7 +539,7 @@ print(refused)
 '''
 
 
-def environment() -> 'dict[str, str]':
+def environment() -> dict[str, str]:
     """That of a process with this package."""
     return {**os.environ, 'PYTHONPATH': str(Path(__file__).resolve().parent)}
 
@@ -544,7 +547,7 @@ def environment() -> 'dict[str, str]':
 def race(test: unittest.TestCase, log: Log, kind: str, where: str) -> None:
     """Processes append, each as soon as it can. Each append stands once and as a whole, and in the order of its process."""
     words, refused = [sys.executable, '-W', 'error', '-c', RACER], 0
-    pipes: Dict[str, Any] = {'stdin': subprocess.PIPE, 'stdout': subprocess.PIPE, 'universal_newlines': True}
+    pipes: dict[str, Any] = {'stdin': subprocess.PIPE, 'stdout': subprocess.PIPE, 'universal_newlines': True}
     with contextlib.ExitStack() as opened:
         racers = [opened.enter_context(subprocess.Popen([*words, str(number), kind, where], env=environment(), **pipes)) for number in range(3)]
         for racer in racers:
@@ -758,7 +761,7 @@ class SlowSql(SqliteLog):
 class EarlierBoots(SqliteLog):
     """Whoever took a presence before the machine booted has it still."""
 
-    def _look_around(self, standing: sqlite.Standing) -> Dict[str, Holder]:
+    def _look_around(self, standing: sqlite.Standing) -> dict[str, Holder]:
         self._boot = self._one_text("select coalesce(max(boot), '') from presence")
         return super()._look_around(standing)
 
@@ -790,7 +793,7 @@ class Planted(unittest.TestCase):
 
     def test_in_memory(self) -> None:
         for store, name in PLANTED:
-            laws: Type[unittest.TestCase] = next(each for each in (InMemory, EpochsInMemory, WaitsInMemory) if hasattr(each, name))
+            laws: type[unittest.TestCase] = next(each for each in (InMemory, EpochsInMemory, WaitsInMemory) if hasattr(each, name))
             right, wrong = laws(name), laws(name)
             with self.subTest(store=store.__name__, law=name):
                 self.assertFalse(has_failed(right))

@@ -5,7 +5,8 @@ answer yet. So it may not change what it begins with before its last answer, and
 """
 from __future__ import annotations
 
-from typing import AbstractSet, Callable, Dict, List, Mapping, NamedTuple, Optional, Tuple, TypeVar, Union
+from collections.abc import Callable, Mapping, Set as AbstractSet
+from typing import NamedTuple, TypeVar
 from unittest import mock
 
 from bully import etcd
@@ -43,10 +44,10 @@ class Pending(BaseException):
 class Journal:
     """What a call has seen up to now: moments, and what became of its requests."""
 
-    def __init__(self, clock: Callable[[], float], turn: int, seen: Tuple[int, int]) -> None:
+    def __init__(self, clock: Callable[[], float], turn: int, seen: tuple[int, int]) -> None:
         self.turn, self.seen = turn, seen  # the server that was asked first, and what was known then
         self._clock = clock
-        self._seen: List[Union[float, Outcome]] = []
+        self._seen: list[float | Outcome] = []
         self._place = 0
 
     def rewind(self) -> None:
@@ -69,7 +70,7 @@ class Journal:
         assert not isinstance(outcome, float)
         return outcome
 
-    def _next(self) -> Union[float, Outcome]:
+    def _next(self) -> float | Outcome:
         self._place += 1
         return self._seen[self._place - 1]
 
@@ -80,7 +81,7 @@ class Asking(Client):
     def __init__(self, cluster: Cluster, address: Address, patience: float, first: int) -> None:
         super().__init__(address, patience, None, '', '')
         self.cluster = cluster
-        self.journal: Optional[Journal] = None
+        self.journal: Journal | None = None
         self.reads_alone = False  # servers may tell by themselves what is read
         self._turn = first
 
@@ -133,7 +134,7 @@ class KeptLog(EtcdLog):
         return self._client
 
     def wait(
-        self, epoch: int, place: int, lives: Mapping[str, Life], until: Until, seconds: float, woken: Optional[int] = None,
+        self, epoch: int, place: int, lives: Mapping[str, Life], until: Until, seconds: float, woken: int | None = None,
     ) -> None:  # fmt: skip
         """Nobody waits by this."""
 
@@ -150,13 +151,13 @@ class KeptLog(EtcdLog):
         told = {name.encode(): life_text(life).encode() for name, life in lives.items()}
         return self._below(self._keys.lives) != told or are_idle(until, self._below(self._keys.promises), here, {name.encode() for name in before})
 
-    def _below(self, prefix: bytes) -> Dict[bytes, Optional[bytes]]:
+    def _below(self, prefix: bytes) -> dict[bytes, bytes | None]:
         """The values of all keys that begin so, by what is behind that."""
         found = self.client.cluster.keys.found(prefix, behind(prefix))
         return {key[len(prefix) :]: version.value for key, version in found}
 
 
-def opened(cluster: Cluster, kind: 'type[KeptLog]', patience: float, first: int) -> KeptLog:
+def opened(cluster: Cluster, kind: type[KeptLog], patience: float, first: int) -> KeptLog:
     """The log of the cluster, by a client that asks this server first."""
     with mock.patch.object(etcd, 'Client', lambda address, *_: Asking(cluster, address, patience, first)):
         log = kind(ADDRESS)

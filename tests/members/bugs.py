@@ -2,8 +2,9 @@
 from __future__ import annotations
 
 import random
+from collections.abc import Mapping, Sequence, Set as AbstractSet
 from dataclasses import replace
-from typing import AbstractSet, Dict, List, Mapping, NamedTuple, Optional, Sequence, Type
+from typing import NamedTuple
 
 import planted
 from asking import KeptLog
@@ -335,14 +336,14 @@ class PromisesForAnybodyThere(KeptLog):
 class AppendsAnyPlaceThere(KeptLog):
     """Rows are appended where all have promised the place, whatever the log has by then."""
 
-    def _are_idle(self, epoch: int, place: int) -> List[Json]:
+    def _are_idle(self, epoch: int, place: int) -> list[Json]:
         return super()._are_idle(epoch, place)[1:]
 
 
 class AppendsAnywayThere(KeptLog):
     """Rows are appended, and epochs ended, whether all are idle or not."""
 
-    def _are_idle(self, epoch: int, place: int) -> List[Json]:
+    def _are_idle(self, epoch: int, place: int) -> list[Json]:
         return super()._are_idle(epoch, place)[:1]
 
 
@@ -374,7 +375,7 @@ class TrustsRenewals(KeptLog):
 class TakesStaleRenewals(KeptLog):
     """A renewal counts if the server that was asked was in the term of the grant, whatever came behind it."""
 
-    def _counts(self, held: Held, before: Optional[int], behind: int) -> bool:
+    def _counts(self, held: Held, before: int | None, behind: int) -> bool:
         return held.term == before
 
 
@@ -393,7 +394,7 @@ class ForgetsMoves(KeptLog):
 class KeepsLease(KeptLog):
     """It keeps its lease under another leader than that of the grant."""
 
-    def _counts(self, held: Held, before: Optional[int], behind: int) -> bool:
+    def _counts(self, held: Held, before: int | None, behind: int) -> bool:
         return before == behind
 
 
@@ -433,14 +434,14 @@ class SlowPromises(SlowTakes):
 class Bug(NamedTuple):
     """What is broken, and the first seed that shows it, with a part of what it shows; 0, if none did. With what trouble, if not with any."""
 
-    log: 'Type[MemoryLog] | Type[KeptLog]'  # noqa: UP007
+    log: type[MemoryLog] | type[KeptLog]  # noqa: UP007
     seed: int
     shows: str
     make: Maker = Core
-    trouble: Type[Trouble] = Trouble
+    trouble: type[Trouble] = Trouble
 
 
-BUGS: Dict[str, Bug] = {
+BUGS: dict[str, Bug] = {
     # In memory: logs by the proved rules, members by broken plain ones.
     'a presence is taken at any place': Bug(TakesAnyPlace, 158, 'by the token', trouble=SlowTakes),
     'a new life works by the old plan': Bug(TakesWithoutPromise, 1, 'by the token', planted.WorksAtOnce),
@@ -482,7 +483,7 @@ BUGS: Dict[str, Bug] = {
 }
 
 # No seed shows these. README.md says why they are harmless.
-HARMLESS: Dict[str, Bug] = {
+HARMLESS: dict[str, Bug] = {
     'etcd: a presence is taken at any place': Bug(TakesAnyPlaceThere, 0, '', trouble=ShortLives),
     'a presence is taken from who holds it': Bug(TakesFromOthers, 0, ''),
     'a promise counts for whoever is present': Bug(PromisesForAnybody, 0, ''),

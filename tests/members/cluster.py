@@ -11,8 +11,9 @@ from __future__ import annotations
 import random
 from base64 import b64decode, b64encode
 from bisect import bisect_left, bisect_right, insort
+from collections.abc import Callable
 from dataclasses import dataclass, field
-from typing import Callable, Dict, List, NamedTuple, Optional, Set, Tuple, Union
+from typing import NamedTuple, Union
 
 from bully.gateway import KV_RANGE, KV_TXN, LEASE_GRANT, LEASE_KEEPALIVE, Endpoint, Json, Refusal, Silent
 
@@ -55,7 +56,7 @@ def weather_of(choice: random.Random) -> Weather:
 class Version(NamedTuple):
     """A key from some revision on. Nothing is its value, if it isn't there."""
 
-    value: Optional[bytes] = None
+    value: bytes | None = None
     created: int = 0
     modified: int = 0
     version: int = 0
@@ -66,9 +67,9 @@ class Keys:
     """All keys, in all revisions."""
 
     def __init__(self) -> None:
-        self.times: List[float] = [0.0]  # of the revisions, from the first on
-        self._names: List[bytes] = []
-        self._versions: Dict[bytes, List[Version]] = {}
+        self.times: list[float] = [0.0]  # of the revisions, from the first on
+        self._names: list[bytes] = []
+        self._versions: dict[bytes, list[Version]] = {}
 
     @property
     def revision(self) -> int:
@@ -77,14 +78,14 @@ class Keys:
     def revision_at(self, moment: float) -> int:
         return max(1, bisect_right(self.times, moment))
 
-    def get(self, key: bytes, revision: Optional[int] = None) -> Version:
+    def get(self, key: bytes, revision: int | None = None) -> Version:
         versions = self._versions.get(key, ())
         for version in reversed(versions):
             if revision is None or version.modified <= revision:
                 return version
         return Version()
 
-    def found(self, key: bytes, end: Optional[bytes], revision: Optional[int] = None) -> List[Tuple[bytes, Version]]:
+    def found(self, key: bytes, end: bytes | None, revision: int | None = None) -> list[tuple[bytes, Version]]:
         """The keys from one on that are before another one, or that one alone."""
         names = [key] if end is None else self._names[bisect_left(self._names, key) : bisect_left(self._names, end)]
         pairs = ((name, self.get(name, revision)) for name in names)
@@ -107,7 +108,7 @@ class Lease:
     """A lease, as all servers know it."""
 
     seconds: float
-    keys: Set[bytes] = field(default_factory=set)
+    keys: set[bytes] = field(default_factory=set)
 
 
 @dataclass
@@ -116,17 +117,17 @@ class Leader:
 
     term: int
     server: int
-    ends: Dict[int, float]
+    ends: dict[int, float]
 
 
 @dataclass
 class Stale(Leader):
     """A leader that was cut off from the others, or paused, and knows nothing of a new one: what it knew then, and what it was asked."""
 
-    seconds: Dict[int, float]
+    seconds: dict[int, float]
     revision: int
     is_paused: bool
-    asked: List[Tuple[str, Json, Reply]] = field(default_factory=list)
+    asked: list[tuple[str, Json, Reply]] = field(default_factory=list)
 
 
 class Cluster:
@@ -135,13 +136,13 @@ class Cluster:
     def __init__(self, choice: random.Random, weather: Weather, clock: Callable[[], float], after: Callable[[float, Action], None]) -> None:
         self.choice, self.weather, self.clock, self.after = choice, weather, clock, after
         self.keys = Keys()
-        self.leases: Dict[int, Lease] = {}
+        self.leases: dict[int, Lease] = {}
         self.granted = 0
         self.leader = Leader(2, 0, {})
         self.is_led = self.is_up = True
-        self.stale: Optional[Stale] = None
-        self.awaiting: List[Tuple[str, Json, Reply]] = []  # a leader
-        self.changed: Callable[[List[bytes]], None] = lambda keys: None
+        self.stale: Stale | None = None
+        self.awaiting: list[tuple[str, Json, Reply]] = []  # a leader
+        self.changed: Callable[[list[bytes]], None] = lambda keys: None
         self.ends: Callable[[bytes, bytes], None] = lambda key, value: None  # told of what is gone with its lease
 
     # What is asked.
@@ -219,7 +220,7 @@ class Cluster:
 
     # Keys.
 
-    def transact(self, told: Json, revision: int, term: Optional[int] = None) -> Outcome:
+    def transact(self, told: Json, revision: int, term: int | None = None) -> Outcome:
         is_so = all(self.holds(condition, revision) for condition in told['compare'])
         steps = told['success' if is_so else 'failure']
         refusal = next(filter(None, (self.refusal(step['request_put']) for step in steps if 'request_put' in step)), None)
@@ -234,7 +235,7 @@ class Cluster:
             self.changed(changed)
         return answer
 
-    def refusal(self, put: Json) -> Optional[Refusal]:
+    def refusal(self, put: Json) -> Refusal | None:
         """Why a key isn't put, if it isn't."""
         if (put.get('ignore_value') or put.get('ignore_lease')) and self.keys.get(b64decode(put['key'])).value is None:
             return Refusal(INVALID, 'etcdserver: key not found')
@@ -242,7 +243,7 @@ class Cluster:
             return Refusal(NOT_FOUND, 'etcdserver: requested lease not found')
         return None
 
-    def change(self, steps: List[Json]) -> List[bytes]:
+    def change(self, steps: list[Json]) -> list[bytes]:
         """Does what isn't a range, in one revision. The keys that changed."""
         revision, changed = self.keys.revision + 1, []
         for step in steps:
@@ -287,7 +288,7 @@ class Cluster:
         numbers = [{'VERSION': each.version, 'CREATE': each.created, 'MOD': each.modified}[target] for each in versions]
         return all(number > wanted if condition['result'] == 'GREATER' else number == wanted for number in numbers)
 
-    def found(self, asked: Json, revision: Optional[int]) -> Json:
+    def found(self, asked: Json, revision: int | None) -> Json:
         """What a range finds."""
         pairs = self.keys.found(*interval(asked), revision)
         if asked.get('sort_order') == 'DESCEND':
@@ -406,7 +407,7 @@ def is_serializable(path: str, told: Json) -> bool:
     return bool(steps) and all(step.get('request_range', {}).get('serializable') for step in steps)
 
 
-def interval(asked: Json) -> Tuple[bytes, Optional[bytes]]:
+def interval(asked: Json) -> tuple[bytes, bytes | None]:
     """The first key of a range, and the first one behind it, if it isn't one key."""
     return b64decode(asked['key']), b64decode(asked['range_end']) if 'range_end' in asked else None
 

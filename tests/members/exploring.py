@@ -9,7 +9,8 @@ or uses it again in another life.
 from __future__ import annotations
 
 from collections import deque
-from typing import Deque, Dict, FrozenSet, Iterator, NamedTuple, Optional, Tuple
+from collections.abc import Iterator
+from typing import Deque, NamedTuple
 
 EPOCH = 100
 FIRST = EPOCH + 1  # the end of a log of the first epoch with its header alone
@@ -47,7 +48,7 @@ class Node(NamedTuple):
     learned: int = FIRST
     promised: int = 0
     work: int = 0
-    used: Tuple[int, int] = (0, 0)
+    used: tuple[int, int] = (0, 0)
 
 
 class Request(NamedTuple):
@@ -61,11 +62,11 @@ class Request(NamedTuple):
 
 class State(NamedTuple):
     end: int
-    nodes: Tuple[Node, ...]
-    asked: FrozenSet[Request] = frozenset()
+    nodes: tuple[Node, ...]
+    asked: frozenset[Request] = frozenset()
 
 
-Way = Tuple[str, State]
+Way = tuple[str, State]
 
 
 def plan_before(end: int) -> int:
@@ -89,7 +90,7 @@ class Explorer:
     def steps_of(self, state: State, number: int) -> Iterator[Way]:
         node, end = state.nodes[number], state.end
 
-        def to(more: Optional[Request] = None, **changes: object) -> State:
+        def to(more: Request | None = None, **changes: object) -> State:
             nodes = (*state.nodes[:number], node._replace(**changes), *state.nodes[number + 1 :])  # type: ignore[arg-type]
             return state._replace(nodes=nodes, asked=state.asked | ({more} if more else frozenset()))
 
@@ -144,10 +145,10 @@ class Explorer:
             if node.asking == request.life and not node.life:
                 yield 'is present, and knows', to(held=request.life, promise=promise, life=request.life, asking=0)
 
-    def explore(self, most: int) -> Tuple[Optional[str], int]:
+    def explore(self, most: int) -> tuple[str | None, int]:
         """How what must not be is reached, if it is, by the fewest steps; and how many states were seen, which is `most` if there are more."""
         first = State(FIRST, (Node(),) * self.bounds.nodes)
-        seen: Dict[State, Optional[Tuple[State, str]]] = {first: None}
+        seen: dict[State, tuple[State, str] | None] = {first: None}
         queue: Deque[State] = deque([first])
         while queue and len(seen) < most:
             state = queue.popleft()
@@ -161,7 +162,7 @@ class Explorer:
         return None, len(seen)
 
 
-def path_to(seen: Dict[State, Optional[Tuple[State, str]]], state: State, what: str) -> str:
+def path_to(seen: dict[State, tuple[State, str] | None], state: State, what: str) -> str:
     path, before = [what], seen[state]
     while before is not None:
         path.append(before[1])
@@ -169,7 +170,7 @@ def path_to(seen: Dict[State, Optional[Tuple[State, str]]], state: State, what: 
     return f'{len(path)} steps: {", ".join(reversed(path))}'
 
 
-def wrong_with(before: State, after: State) -> Optional[str]:
+def wrong_with(before: State, after: State) -> str | None:
     last = plan_before(after.end)
     for old, new in zip(before.nodes, after.nodes):
         if new.work and new.work != last:

@@ -7,9 +7,9 @@ import statistics
 import subprocess
 import sys
 import time
+from collections.abc import Callable, Sequence, Set as AbstractSet
 from dataclasses import dataclass, field
 from pathlib import Path
-from typing import AbstractSet, Callable, Dict, List, Optional, Sequence, Set
 
 from bully import Status, check
 from bully.command import parser
@@ -45,11 +45,11 @@ class Times:
     """How long a group took to come to rest behind changes of one kind, and how many rows; the same behind the end of a presence, if one
     ended, or else behind the begin of the last one, if one began; and until all partitions were worked on, if that was looked for at once."""
 
-    to_rest: List[float] = field(default_factory=list)
-    behind_end: List[float] = field(default_factory=list)
-    behind_begin: List[float] = field(default_factory=list)
-    to_work: List[float] = field(default_factory=list)
-    rows: List[int] = field(default_factory=list)
+    to_rest: list[float] = field(default_factory=list)
+    behind_end: list[float] = field(default_factory=list)
+    behind_begin: list[float] = field(default_factory=list)
+    to_work: list[float] = field(default_factory=list)
+    rows: list[int] = field(default_factory=list)
 
     def __str__(self) -> str:
         told = told_seconds('to rest in', self.to_rest) + told_seconds("behind a presence's end", self.behind_end)
@@ -66,12 +66,12 @@ class Work:
         self.worker = [sys.executable, '-I', '-S', str(HERE / 'worker.py'), str(folder)]  # its words
         folder.mkdir()
 
-    def sizes(self) -> List[int]:
+    def sizes(self) -> list[int]:
         """How much was done on each partition."""
         files = [self.folder / str(partition) for partition in range(self.partitions)]
         return [file.stat().st_size if file.exists() else 0 for file in files]
 
-    def last_tokens(self) -> List[int]:
+    def last_tokens(self) -> list[int]:
         """The token of the last unit on each partition."""
         return [self._last_token(partition) for partition in range(self.partitions)]
 
@@ -83,11 +83,11 @@ class Work:
             rows = file.read().split(b'\n')[-2:-1]  # of the whole ones
         return int(rows[0].split()[0]) if rows else 0
 
-    def units(self, partition: int) -> List[List[str]]:
+    def units(self, partition: int) -> list[list[str]]:
         """The units on a partition that were done: token and node of each."""
         return [row.split() for row in (self.folder / str(partition)).read_text().split('\n')[:-1]]
 
-    def faults(self, kind: str) -> List[str]:
+    def faults(self, kind: str) -> list[str]:
         """What workers told of faults of this kind."""
         file = self.folder / 'faults'
         rows = file.read_text().splitlines() if file.exists() else []
@@ -98,7 +98,7 @@ class Group:
     """Members, and what came of them."""
 
     def __init__(
-        self, folder: Path, stores: Dict[str, str], ttl: float, within: Callable[[str], Sequence[str]] = lambda _: (),
+        self, folder: Path, stores: dict[str, str], ttl: float, within: Callable[[str], Sequence[str]] = lambda _: (),
         names: Sequence[str] = NAMES, partitions: int = PARTITIONS, words: Sequence[str] = (), work: Callable[[Path, int], Work] = Work,
     ) -> None:  # fmt: skip
         """A new group. The store is told for each member, and for who looks at them (''). `within` has the words by which a process is
@@ -108,9 +108,9 @@ class Group:
         self.configs = 0
         self.config = self.configured(names, partitions)
         self.work = work(folder / 'work', partitions)
-        self.members: Dict[str, 'subprocess.Popen[bytes]'] = {}
+        self.members: dict[str, subprocess.Popen[bytes]] = {}
         self.passed = self.failed = 0
-        self.times: Dict[str, Times] = {}
+        self.times: dict[str, Times] = {}
         self.count(self.command('init', '--config', str(self.config)).wait(PATIENCE) == 0, 'no log can be made')
         self.view = LogView(self.opened())
         self.shown = self.view.show()  # as it was seen last
@@ -128,7 +128,7 @@ class Group:
         """The log."""
         return store_of(parser().parse_args(['status', '--log', self.stores['']])).open()
 
-    def command(self, name: str, *more: str, member: str = '') -> 'subprocess.Popen[bytes]':
+    def command(self, name: str, *more: str, member: str = '') -> subprocess.Popen[bytes]:
         """Starts `bully-member`, where the member is, if one is named."""
         environment = {**os.environ, 'PYTHONPATH': str(ROOT / 'bindings' / 'python')}
         within = self.within(member) if member else ()
@@ -157,7 +157,7 @@ class Group:
 
     # Rest.
 
-    def look(self, present: Optional[AbstractSet[str]] = None) -> Optional[GroupView]:
+    def look(self, present: AbstractSet[str] | None = None) -> GroupView | None:
         """How the group stands; nothing, if the store doesn't answer. If some are told, it is noted until when these were all present, and until
         when not all were that have a process."""
         now = time.monotonic()
@@ -187,7 +187,7 @@ class Group:
         normal = [node.name for node in shown.nodes if node.status is Status.NORMAL]
         return up == normal == alive and shown.coordinator == alive[-1] and set(shown.owners) == set(alive)
 
-    def rest(self, settles: float, end: float) -> Optional[float]:
+    def rest(self, settles: float, end: float) -> float | None:
         """Waits for a rest that lasts for so many seconds at least. When it began; nothing, if it didn't up to the end."""
         since, rows, present = 0.0, -1, present_in(self.shown)
         while time.monotonic() < end:
@@ -201,7 +201,7 @@ class Group:
             time.sleep(0.01)
         return None
 
-    def goes_on(self, end: float, but: str = '') -> Optional[float]:
+    def goes_on(self, end: float, but: str = '') -> float | None:
         """Waits until one more unit is done on each partition, but those of that node, by the token of the table. When that was."""
         before = self.work.sizes()
         while time.monotonic() < end:
@@ -346,7 +346,7 @@ class Group:
         print(f'idle for {length:.0f} s: no row, and {shares[0]:.2f} to {shares[-1]:.2f} % of a processor for a member; '
               f'{memory[0]:.1f} to {memory[-1]:.1f} MiB of its own')
 
-    def end(self, program: Optional[Path] = None) -> None:
+    def end(self, program: Path | None = None) -> None:
         """All leave in order, one of them behind the others, and what they left is judged; also with everything said, if there is the program
         `bully`."""
         *others, last = self.members
@@ -361,7 +361,7 @@ class Group:
         self.judge_log(program)
         self.judge_work()
 
-    def judge_log(self, program: Optional[Path]) -> None:
+    def judge_log(self, program: Path | None) -> None:
         log = self.opened()
         self.judge_moves(log)
         for epoch in log.epochs():
@@ -375,7 +375,7 @@ class Group:
 
     def judge_moves(self, log: Log) -> None:
         """No partition moved at a change of the epoch that needn't."""
-        before: List[str] = []
+        before: list[str] = []
         for epoch in log.epochs():
             first, last = owners_by_name(log, epoch)
             stayed, could = kept(before, first), most_kept(before, first)
@@ -415,11 +415,11 @@ class Group:
         self.view.close()
 
 
-def present_in(shown: GroupView) -> Set[str]:
+def present_in(shown: GroupView) -> set[str]:
     """Who is present."""
     return {node.name for node in shown.nodes if node.is_present}
 
 
-def cost(processes: Dict[str, List[int]]) -> List[float]:
+def cost(processes: dict[str, list[int]]) -> list[float]:
     """How much processor time each member and its processes took."""
     return [sum(map(processor_seconds, each)) for each in processes.values()]

@@ -6,8 +6,8 @@ import random
 import select
 import subprocess
 import time
+from collections.abc import Sequence
 from contextlib import suppress
-from typing import List, Sequence
 
 from etcd_servers import Servers
 from laws import wait_until
@@ -42,7 +42,7 @@ class Contender:
 
 def time_lock(servers: Servers, hosts: Sequence[Sequence[str]], name: str, ttl: float, choice: random.Random) -> float:
     """The holder of a lock is killed at some moment: the seconds until the other contender holds it."""
-    contenders: List[Contender] = []
+    contenders: list[Contender] = []
     try:
         for count, within in enumerate(hosts, 1):
             contenders.append(Contender(within, servers, name, ttl))

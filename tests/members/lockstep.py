@@ -2,8 +2,9 @@
 from __future__ import annotations
 
 import random
+from collections.abc import Callable, Iterator, Sequence
 from dataclasses import replace
-from typing import Callable, Dict, Iterator, List, Optional, Sequence, Tuple, TypeVar
+from typing import TypeVar
 
 import proved
 from bully import BullyError, Owned, Setup
@@ -28,7 +29,7 @@ class Both:
     def __init__(self, opening: Opening, process: int, ttl: int, other: Maker = proved.member) -> None:
         self.plain = Plain(opening, process, ttl)
         self.other: Rules = other(opening, process, ttl)
-        self.told: List[str] = []  # what was told to both last
+        self.told: list[str] = []  # what was told to both last
 
     def _same(self, what: str, plain: Told, other: Told) -> Told:
         if plain != other:
@@ -49,10 +50,10 @@ class Both:
         self.owned()
         return step
 
-    def owned(self) -> Optional[Owned]:
+    def owned(self) -> Owned | None:
         return self._same('what it owns', self.plain.owned(), self.other.owned())
 
-    def settlement(self) -> List[str]:
+    def settlement(self) -> list[str]:
         Both.settlements += 1
         return self._same('the settlement', self.plain.settlement(), self.other.settlement())
 
@@ -76,7 +77,7 @@ class Both:
         self.plain.passed()
         self.other.passed()
 
-    def followed(self, now: int, opening: Optional[Opening]) -> None:
+    def followed(self, now: int, opening: Opening | None) -> None:
         self._note(now, opening)
         self._same('what is refused', *(refused(lambda: rules.followed(now, opening)) for rules in (self.plain, self.other)))
 
@@ -105,7 +106,7 @@ class Both:
         self.other.close()
 
 
-def words_of(rules: Rules) -> Dict[str, object]:
+def words_of(rules: Rules) -> dict[str, object]:
     """What is shown of it, for people."""
     return {name: getattr(rules, name, None) for name in ('life', 'work', 'ending', 'promised', 'place', 'epoch', 'is_wished')}
 
@@ -167,7 +168,7 @@ class Anything:
         elif kind == 'leave' and (is_rare or plain.work is not None):
             both.leave()
 
-    def rows(self) -> List[str]:
+    def rows(self) -> list[str]:
         """Mostly what may stand next."""
         choice, plain, nodes = self.choice, self.both.plain, self.setup.nodes
         if plain.place + SETTLEMENT * nodes > 5_000 or choice.random() < 0.6:
@@ -216,7 +217,7 @@ class Anything:
         return is_free and is_at_rest(plain.world, present, promised) and plain.node in plain.world.table
 
 
-def tell_anything(seed: int, other: Maker = proved.member) -> Optional[str]:
+def tell_anything(seed: int, other: Maker = proved.member) -> str | None:
     """What is wrong with a member that is told anything, if something is."""
     anything = Anything(seed, other)
     try:
@@ -236,7 +237,7 @@ def tell_anything(seed: int, other: Maker = proved.member) -> Optional[str]:
 # ---- Beginnings that are refused.
 
 
-def refusals() -> Iterator[Tuple[Opening, int, Optional[str]]]:
+def refusals() -> Iterator[tuple[Opening, int, str | None]]:
     """By the order of the rules: each beginning has all faults of those behind it, too."""
     header = Setup(3, 4).header()
     yield Opening(header, 1, 4, 65, (1, 2)), 999_999, 'BadNode'
@@ -251,7 +252,7 @@ def refusals() -> Iterator[Tuple[Opening, int, Optional[str]]]:
     yield Opening(header, 7, 3, 66, None), 1_000_000, None
 
 
-def refused(call: Callable[[], object]) -> Optional[str]:
+def refused(call: Callable[[], object]) -> str | None:
     """Why the call is refused, if it is."""
     try:
         call()
@@ -262,11 +263,11 @@ def refused(call: Callable[[], object]) -> Optional[str]:
     return None
 
 
-def refused_alike() -> List[Optional[str]]:
+def refused_alike() -> list[str | None]:
     """What is wrong with each beginning that both rules refuse, or don't."""
-    wrongs: List[Optional[str]] = []
+    wrongs: list[str | None] = []
     for opening, ttl, expected in refusals():
-        makers: Tuple[Maker, ...] = (Plain, proved.member)
+        makers: tuple[Maker, ...] = (Plain, proved.member)
         told = [refused(lambda: make(opening, 1, ttl).close()) for make in makers]
         wrongs.append(None if told == [expected, expected] else f'{opening}, {ttl}: {told}, and not {expected}')
     return wrongs

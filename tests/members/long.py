@@ -5,7 +5,6 @@ import gc
 import os
 import random
 from pathlib import Path
-from typing import List
 
 from bully.learned import Learned
 from bully.member import Core
@@ -39,7 +38,7 @@ class Long:
     def __init__(self) -> None:
         self.choice = random.Random(1)
         self.simulation = OverMemory(1, Core, trouble=Little)
-        self.memory: List[float] = []
+        self.memory: list[float] = []
         self.open = self.rows = self.processes = 0
 
     def run(self, changes: int) -> None:

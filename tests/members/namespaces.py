@@ -9,8 +9,8 @@ import ctypes
 import os
 import shutil
 import subprocess
+from collections.abc import Sequence
 from pathlib import Path
-from typing import List, Sequence, Tuple
 
 NAMED = Path('/run/netns')  # where `ip` has its namespaces
 PREFIX = 'bully-test-'
@@ -46,7 +46,7 @@ class Network:
     def __init__(self, names: Sequence[str]) -> None:
         """Makes them. This thread, and what it begins, is where the bridges are from then on. Raises NoNetwork."""
         self.hosts = {name: number for number, name in enumerate(names, 11)}
-        self._made: List[str] = []
+        self._made: list[str] = []
         if os.geteuid() != 0:
             raise NoNetwork('this is not root')
         remove_left()
@@ -93,7 +93,7 @@ class Network:
         """The address of a host on a bridge."""
         return f'10.83.{bridge}.{self.hosts[name]}'
 
-    def within(self, name: str) -> Tuple[str, ...]:
+    def within(self, name: str) -> tuple[str, ...]:
         """The words by which a process is begun at a host."""
         return ('ip', 'netns', 'exec', self._space(name))
 

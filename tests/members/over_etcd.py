@@ -6,8 +6,8 @@ asks the next server. A watch tells what is new late, or not at all. What is jud
 from __future__ import annotations
 
 import random
+from collections.abc import Callable
 from functools import partial
-from typing import Callable, Dict, List, Optional, Tuple, Type
 
 from asking import KeptLog, Pending, Request, made, opened
 from bully import logs
@@ -15,8 +15,7 @@ from bully.epochs import FIRST, Opening
 from bully.etcd import AGAIN, FEW, place_of
 from bully.gateway import Json, Silent, behind
 from bully.logs import SECOND, LogError, NoEpoch, Unanswered, orders_of
-from bully.member import Ask, Promise, Until, Wait
-from bully.member import Request as Asked
+from bully.member import Ask, Promise, Request as Asked, Until, Wait
 from bully.orders import Orders
 from bully.settings import Settings
 from bully.sqlite import life_of
@@ -36,21 +35,21 @@ class EtcdStore(LogStore):
 
     def __init__(self, cluster: Cluster, settings: Settings, limit: int) -> None:
         self.cluster = cluster
-        self._epochs: List[Epoch] = []
-        self.leases: Dict[str, Lease] = {}
+        self._epochs: list[Epoch] = []
+        self.leases: dict[str, Lease] = {}
         self.log = made(cluster, Opening.first(settings.setup.header(), settings.names, limit))
         self.see([self.log._keys.opening(FIRST)])
 
     @property
-    def epochs(self) -> List[Epoch]:
+    def epochs(self) -> list[Epoch]:
         return self._epochs
 
-    def below(self, prefix: bytes) -> Dict[str, bytes]:
+    def below(self, prefix: bytes) -> dict[str, bytes]:
         """The values of all keys that begin so, by what is behind that."""
         found = self.cluster.keys.found(prefix, behind(prefix))
         return {key[len(prefix) :].decode(): version.value or b'' for key, version in found}
 
-    def see(self, changed: List[bytes]) -> Optional[str]:
+    def see(self, changed: list[bytes]) -> str | None:
         """Keys have changed, in one transaction. Whether that is an append, or the end of an epoch."""
         keys, what = self.log._keys, None
         for key in changed:
@@ -76,14 +75,14 @@ class EtcdStore(LogStore):
             }
         return what
 
-    def held(self) -> Dict[str, Lease]:
+    def held(self) -> dict[str, Lease]:
         return self.leases
 
     @property
     def orders(self) -> Orders:
         return orders_of(self.log.address, self.cluster.keys.get(self.log._keys.orders).value)
 
-    def wished(self) -> Optional[Settings]:
+    def wished(self) -> Settings | None:
         wished = self.cluster.keys.get(self.log._keys.next).value
         return None if wished is None else Opening.parse(wished.decode()).settings
 
@@ -96,7 +95,7 @@ class Call:
         self.simulation = member.simulation
         self.client = member.kept.client
         self.journal = self.client.begun()
-        self.awaited: Optional[Request] = None
+        self.awaited: Request | None = None
 
     def go_on(self) -> None:
         """It goes on up to its next request, or to its end."""
@@ -155,8 +154,8 @@ class EtcdMember(LogMember):
     """A member whose log is in etcd."""
 
     simulation: OverEtcd
-    call_type: Type[Call] = Call
-    asked: Optional[Ask] = None
+    call_type: type[Call] = Call
+    asked: Ask | None = None
 
     def opened(self) -> logs.Log:
         simulation = self.simulation
@@ -190,9 +189,9 @@ class EtcdMember(LogMember):
 class OverEtcd(OverMemory):
     """A group over an etcd."""
 
-    member: Type[Member] = EtcdMember
+    member: type[Member] = EtcdMember
 
-    def __init__(self, seed: int, make: Maker, log_type: Type[KeptLog] = KeptLog, trouble: Type[Trouble] = Trouble) -> None:
+    def __init__(self, seed: int, make: Maker, log_type: type[KeptLog] = KeptLog, trouble: type[Trouble] = Trouble) -> None:
         self.of_etcd = random.Random(f'{seed} etcd')
         self.weather = self.new_weather()
         self.log_type = log_type
@@ -240,7 +239,7 @@ class OverEtcd(OverMemory):
             if not member.is_dead and member.life == life_of(life.decode()) and self.now < member.worker.until:
                 raise Wrong(f'the presence of {member} ended, and it is sure for {member.worker.until - self.now} ns')
 
-    def see_change(self, changed: List[bytes]) -> None:
+    def see_change(self, changed: list[bytes]) -> None:
         """Something has changed in etcd."""
         what = self.there.see(changed)
         if what is not None:
@@ -267,7 +266,7 @@ class Watch:
 
     def __init__(self, is_wide: bool, begin: bytes, end: bytes) -> None:
         self.is_wide, self.begin, self.end = is_wide, begin, end
-        self.events: List[Tuple[int, Json]] = []
+        self.events: list[tuple[int, Json]] = []
 
     def add(self, due: int, event: Json) -> None:
         """It tells all in order."""
@@ -278,7 +277,7 @@ class Watched(EtcdMember):
     """A member that waits by what a watch tells to the package's own log, and looks by what that knows then."""
 
     simulation: Watching
-    watch: Optional[Watch] = None
+    watch: Watch | None = None
     broken = 0  # when its watch broke
 
     def is_news(self, wait: Wait) -> bool:
@@ -322,16 +321,16 @@ class Watched(EtcdMember):
 class Watching(OverEtcd):
     """A group whose members wait so. A watch is late, or breaks."""
 
-    member: Type[Member] = Watched
+    member: type[Member] = Watched
 
-    def events_since(self, revision: int, begin: bytes, end: bytes) -> List[Json]:
+    def events_since(self, revision: int, begin: bytes, end: bytes) -> list[Json]:
         """What has happened to these keys behind a revision, in order."""
         there = self.cluster.keys
         names = [name for name in there._names if begin <= name < end]
         found = [(version.modified, name, version) for name in names for version in there._versions[name] if version.modified > revision]
         return [event_of(name, version) for _, name, version in sorted(found)]
 
-    def see_change(self, changed: List[bytes]) -> None:
+    def see_change(self, changed: list[bytes]) -> None:
         for member in self.members:
             if not isinstance(member, Watched) or member.is_dead or member.watch is None:
                 continue

@@ -4,18 +4,18 @@ A member asks the log as `bully.running` does. What is judged is read from the l
 """
 from __future__ import annotations
 
+from collections.abc import Callable, Mapping, Sequence, Set as AbstractSet
 from contextlib import suppress
 from dataclasses import dataclass, replace
 from functools import cached_property, partial
-from typing import AbstractSet, Callable, Dict, List, Mapping, Optional, Protocol, Sequence, Set, Tuple, Type, cast
+from typing import Protocol, cast
 
 from bully import Status, logs, ordering
 from bully.asks import Asker
 from bully.epochs import FIRST, Opening
 from bully.logs import MemoryLog
 from bully.looks import awaited, seen_of
-from bully.member import Ask, Core, Ending, Life, Promise, Request, Seen, Until, Wait
-from bully.member import Opening as Terms
+from bully.member import Ask, Core, Ending, Life, Opening as Terms, Promise, Request, Seen, Until, Wait
 from bully.orders import Orders
 from bully.settings import Settings
 from bully.stores import BadWords
@@ -39,17 +39,17 @@ class FoundInLog(Found):
     told: logs.Found = logs.Found(0, (), {}, None)
 
     @cached_property
-    def lives(self) -> Dict[str, Life]:
+    def lives(self) -> dict[str, Life]:
         """Whose lives it found, by name."""
         return self.told.lives
 
 
-def epoch_of(opening: Opening, rows: List[str]) -> Epoch:
+def epoch_of(opening: Opening, rows: list[str]) -> Epoch:
     """An epoch whose rows are these."""
     return Epoch(opening.epoch, opening.settings, opening.limit, opening.table or None, rows)
 
 
-def terms_of(opening: Opening, name: str) -> Optional[Terms]:
+def terms_of(opening: Opening, name: str) -> Terms | None:
     """What the epoch begins with for the member of this name; none, if it isn't in the group."""
     if name not in opening.names:
         return None
@@ -70,7 +70,7 @@ class LogStore:
     kept_from = 0  # no member is told that an epoch was taken away: looks tell of the current one
 
     @property
-    def epochs(self) -> List[Epoch]:
+    def epochs(self) -> list[Epoch]:
         """All that there were."""
         raise NotImplementedError
 
@@ -79,7 +79,7 @@ class LogStore:
         """The current one."""
         return self.epochs[-1]
 
-    def held(self) -> Dict[str, Lease]:
+    def held(self) -> dict[str, Lease]:
         """Who is present, by name."""
         raise NotImplementedError
 
@@ -98,15 +98,15 @@ class LogStore:
     def orders(self) -> Orders:
         raise NotImplementedError
 
-    def wished(self) -> Optional[Settings]:
+    def wished(self) -> Settings | None:
         raise NotImplementedError
 
     @property
-    def wish(self) -> Optional[Settings]:
+    def wish(self) -> Settings | None:
         return self.wished()
 
     @wish.setter
-    def wish(self, settings: Optional[Settings]) -> None:
+    def wish(self, settings: Settings | None) -> None:
         opening = self.log.opening()
         if settings is None or opening.is_of(settings):
             self.log.cancel(opening.epoch)
@@ -121,20 +121,20 @@ class MemoryStore(LogStore):
     """The same of a log in memory."""
 
     log: MemoryLog
-    log_type: Type[MemoryLog] = MemoryLog
+    log_type: type[MemoryLog] = MemoryLog
 
     def __init__(self, settings: Settings, limit: Callable[[int], int], clock: Callable[[], int]) -> None:
         self.log = self.log_type(Opening.first(settings.setup.header(), settings.names, limit(settings.setup.nodes)), clock)
-        self._epochs: List[Epoch] = []
+        self._epochs: list[Epoch] = []
 
     @property
-    def epochs(self) -> List[Epoch]:
+    def epochs(self) -> list[Epoch]:
         while len(self._epochs) < self.log.epoch:
             number = len(self._epochs) + FIRST
             self._epochs.append(epoch_of(self.log.opening(number), self.log._rows[number]))
         return self._epochs
 
-    def held(self) -> Dict[str, Lease]:
+    def held(self) -> dict[str, Lease]:
         there = self.log.presences
         return {name: Lease(holder.life, holder.promise, self.log.leases[name].until) for name, holder in there.items()}
 
@@ -142,7 +142,7 @@ class MemoryStore(LogStore):
     def orders(self) -> Orders:
         return self.log.orders
 
-    def wished(self) -> Optional[Settings]:
+    def wished(self) -> Settings | None:
         return None if self.log.wish is None else self.log.wish.settings
 
 
@@ -199,7 +199,7 @@ class LogMember(Member):
         assert isinstance(self.found, FoundInLog)
         return self.opening.next(self.found.told.wish, self.last_table())
 
-    def last_table(self) -> Tuple[int, ...]:
+    def last_table(self) -> tuple[int, ...]:
         """The last table that it has learned of."""
         rows = self.simulation.store.epochs[self.epoch - FIRST].rows[: self.place]
         plans = [row for row in reversed(rows) if row.startswith('plan,')]
@@ -245,7 +245,7 @@ class LogMember(Member):
         if self.is_drained:
             self.simulation.after(self.simulation.ttl // 4, partial(self.simulation.come_back, self.name))
 
-    def follow(self, opening: Optional[object]) -> None:
+    def follow(self, opening: object | None) -> None:
         assert isinstance(opening, Opening)
         terms = terms_of(opening, self.name)
         if terms is not None and opening.epoch != self.epoch:
@@ -256,11 +256,11 @@ class LogMember(Member):
 class OverMemory(Simulation):
     """A group over a log in memory, or another one of the package."""
 
-    member: Type[Member] = LogMember
+    member: type[Member] = LogMember
 
-    def __init__(self, seed: int, make: Maker, store: StoreMaker = MemoryStore, trouble: Type[Trouble] = Trouble) -> None:
-        self.promised: Set[Tuple[Life, Promise]] = set()  # what lives have asked to promise
-        self.asked: Set[Promise] = set()  # where somebody who couldn't know of a pause has asked to append
+    def __init__(self, seed: int, make: Maker, store: StoreMaker = MemoryStore, trouble: type[Trouble] = Trouble) -> None:
+        self.promised: set[tuple[Life, Promise]] = set()  # what lives have asked to promise
+        self.asked: set[Promise] = set()  # where somebody who couldn't know of a pause has asked to append
         self.halted_at = NEVER  # when the pause began
         super().__init__(seed, make, store, trouble)
         self.end = Promise(FIRST, 0)  # of the log, behind its last change
@@ -344,7 +344,7 @@ class OverMemory(Simulation):
             self.ordered = ordering.undrain(self.given.log, names[0])
         return there or names[:1]
 
-    def unrest(self) -> Optional[str]:
+    def unrest(self) -> str | None:
         orders = self.given.orders
         if orders != self.ordered or orders.drained & set(self.store.held()):
             return f'orders are {orders}, and were {self.ordered}; present are {sorted(self.store.held())}'

@@ -24,7 +24,7 @@ import select
 import socket
 import sys
 from contextlib import suppress
-from typing import BinaryIO, Dict, List, NamedTuple, Tuple
+from typing import BinaryIO, NamedTuple
 
 WORD_MAX = 200  # bytes of a message
 
@@ -43,7 +43,7 @@ class Message(NamedTuple):
 
     moment: int
     worker: int
-    words: List[bytes]
+    words: list[bytes]
     connection: socket.socket
 
 
@@ -63,11 +63,11 @@ class Record:
     """What was granted, and what came of it: a value that knows of no process."""
 
     def __init__(self) -> None:
-        self.open: Dict[int, Unit] = {}  # of each worker, by its number
-        self.highest: Dict[str, Tuple[int, str]] = {}  # of each partition: token and node
-        self.ended: Dict[str, Tuple[int, int]] = {}  # of each partition: when the last unit that was told to be over was so, and whose it was
+        self.open: dict[int, Unit] = {}  # of each worker, by its number
+        self.highest: dict[str, tuple[int, str]] = {}  # of each partition: token and node
+        self.ended: dict[str, tuple[int, int]] = {}  # of each partition: when the last unit that was told to be over was so, and whose it was
 
-    def begin(self, worker: int, unit: Unit) -> Tuple[bool, List[Faulty]]:
+    def begin(self, worker: int, unit: Unit) -> tuple[bool, list[Faulty]]:
         """Whether the worker gets the unit, and what is wrong with it."""
         highest, user = self.highest.get(unit.partition, (0, unit.node))
         if unit.token < highest:
@@ -79,7 +79,7 @@ class Record:
         self.highest[unit.partition], self.open[worker] = (unit.token, unit.node), unit
         return True, found
 
-    def _beside(self, worker: int, unit: Unit) -> List[Unit]:
+    def _beside(self, worker: int, unit: Unit) -> list[Unit]:
         """The units of other workers on its partition that aren't over."""
         return [other for number, other in self.open.items() if number != worker and other.partition == unit.partition]
 
@@ -102,10 +102,10 @@ class Recorder:
         self.doors = socket.socket(socket.AF_UNIX, socket.SOCK_SEQPACKET)
         self.doors.bind(path)
         self.doors.listen(100)
-        self.workers: Dict[int, socket.socket] = {}  # by the descriptors of their connections
-        self.numbers: Dict[int, int] = {}  # by the same
-        self.last: Dict[int, int] = {}  # of each worker: the moment that it told last
-        self.files: Dict[str, BinaryIO] = {}
+        self.workers: dict[int, socket.socket] = {}  # by the descriptors of their connections
+        self.numbers: dict[int, int] = {}  # by the same
+        self.last: dict[int, int] = {}  # of each worker: the moment that it told last
+        self.files: dict[str, BinaryIO] = {}
         self.is_over = False
         self.poll = select.poll()
         for descriptor in (0, self.doors.fileno()):
@@ -117,16 +117,16 @@ class Recorder:
             for message in sorted(self._come(), key=lambda message: message.moment):
                 self._judge(message)
 
-    def _come(self) -> List[Message]:
+    def _come(self) -> list[Message]:
         """All that has come, once something has."""
-        came: List[Message] = []
+        came: list[Message] = []
         ready = self.poll.poll()
         while ready:
             came += [message for descriptor, _ in ready for message in self._read(descriptor)]
             ready = self.poll.poll(0)
         return came
 
-    def _read(self, descriptor: int) -> List[Message]:
+    def _read(self, descriptor: int) -> list[Message]:
         """The next message of a worker, if it is one's."""
         if descriptor == 0:
             self.poll.unregister(0)

@@ -9,7 +9,7 @@ it holds within an epoch: the next one begins with no memory of who came, so epo
 from __future__ import annotations
 
 import random
-from typing import Counter, Optional, Tuple, Type
+from collections import Counter
 
 from settling import TTL, Maker, Member, Simulation, Trouble, Wrong
 from store import Store
@@ -30,12 +30,12 @@ class Restarts(Trouble):
 class Restarting(Simulation):
     """The group."""
 
-    def __init__(self, seed: int, make: Maker, store: Type[Store] = Store) -> None:
+    def __init__(self, seed: int, make: Maker, store: type[Store] = Store) -> None:
         super().__init__(seed, make, store, Restarts)
         assert isinstance(self.trouble, Restarts)
         self.restarts, self.is_calm = self.trouble, True
         self.name = ''  # of the node
-        self.stopped: Counter[Tuple[str, str]] = Counter()  # by member, and whether the node is present
+        self.stopped: Counter[tuple[str, str]] = Counter()  # by member, and whether the node is present
         self.lives = 0
 
     def stops(self, member: Member) -> None:
@@ -57,7 +57,7 @@ class Restarting(Simulation):
         self.name = ''
         self.rest()
 
-    def process(self) -> Optional[Member]:
+    def process(self) -> Member | None:
         """The node's."""
         return next((member for member in self.alive() if member.name == self.name), None)
 

@@ -18,15 +18,14 @@ from __future__ import annotations
 import heapq
 import random
 from collections import Counter
+from collections.abc import Callable, Sequence
 from dataclasses import dataclass
 from functools import partial
-from typing import Callable, Counter as Counts, Dict, List, Optional, Protocol, Sequence, Set, Tuple, Type
+from typing import Protocol
 
 from bully import Owned, Replica, Setup, check
 from bully.epochs import Token
-from bully.member import (
-    Ask, Begin, End, Ending, Life, Opening, Request, Rest, Seen, Step, StoreAnswer, Wait,
-)  # fmt: skip
+from bully.member import Ask, Begin, End, Ending, Life, Opening, Request, Rest, Seen, Step, StoreAnswer, Wait
 from bully.settings import Settings
 from plain import is_at_rest, world_of
 from settled import fewest, moves
@@ -58,13 +57,13 @@ class Rules(Protocol):
     @property
     def sure_until(self) -> int: ...
     def next(self, now: int) -> Step: ...
-    def settlement(self) -> List[str]: ...
-    def owned(self) -> Optional[Owned]: ...
+    def settlement(self) -> list[str]: ...
+    def owned(self) -> Owned | None: ...
     def answered(self, now: int, answer: StoreAnswer) -> None: ...
     def learn(self, rows: Sequence[str]) -> None: ...
     def looked(self, now: int, seen: Seen) -> None: ...
     def passed(self) -> None: ...
-    def followed(self, now: int, opening: Optional[Opening]) -> None: ...
+    def followed(self, now: int, opening: Opening | None) -> None: ...
     def woke(self) -> None: ...
     def leave(self) -> None: ...
     def lost(self, token: int) -> None: ...
@@ -98,7 +97,7 @@ class Trouble:
         self.nodes_least, self.nodes = 1, choice.choice([6, 6, 2])  # at most
         self.withdrawn = choice.choice([0.0, 0.7])  # the share of wishes that are taken back soon
         kinds = [None, None, Request.TAKE, Request.RENEW, Request.BE_IDLE, Request.APPEND]
-        self.slowest: Optional[Request] = choice.choice(kinds)  # half the requests of this kind are slow
+        self.slowest: Request | None = choice.choice(kinds)  # half the requests of this kind are slow
         self.renewal_pauses = some(0.1)  # how many renewals a pause comes with
         if choice.random() < 0.25:  # many come and go at once
             self.deaths, self.joins, self.leaves, self.slow, self.short = 0.3, 3.0, 0.0, 0.3, 0.7
@@ -132,7 +131,7 @@ class Unit:
     """What a worker does at a moment. It began surely, and its presence lasts until `lease`."""
 
     token: Token
-    partitions: Set[int]
+    partitions: set[int]
     life: Life
     lease: int
     was_paused: bool = False
@@ -143,12 +142,12 @@ class Worker:
 
     def __init__(self, member: Member) -> None:
         self.member, self.simulation = member, member.simulation
-        self.work: Optional[Tuple[int, Token, Set[int], Life]] = None  # with the token as the rules tell it
-        self.unit: Optional[Unit] = None
+        self.work: tuple[int, Token, set[int], Life] | None = None  # with the token as the rules tell it
+        self.unit: Unit | None = None
         self.until = self.paused_until = 0
         self.is_told = False
 
-    def begin(self, token: int, epoch: int, partitions: Set[int], life: Life) -> None:
+    def begin(self, token: int, epoch: int, partitions: set[int], life: Life) -> None:
         assert self.work is None and self.unit is None
         self.work, self.is_told = (token, Token.of(epoch, token), partitions, life), False
         self.soon(self.simulation.some(0.02), self.next_unit)
@@ -215,9 +214,9 @@ class Member:
         self.simulation, self.name, self.number = simulation, name, number
         self.rules = simulation.make(opening, number, simulation.ttl)
         self.epoch, self.node, self.place = opening.epoch, opening.node, 0
-        self.life: Optional[Life] = None
-        self.found: Optional[Found] = None  # as it looked last
-        self.awaited: Optional[Wait] = None
+        self.life: Life | None = None
+        self.found: Found | None = None  # as it looked last
+        self.awaited: Wait | None = None
         self.is_dead: bool = False
         self.is_leaving = self.is_asking = self.is_stopping = False
         self.paused_until = self.cut_until = self.turn = 0
@@ -407,7 +406,7 @@ class Member:
         self.rules.looked(self.simulation.now, found.seen)
         self.simulation.happened['strangers are seen'] += found.seen.has_strangers
 
-    def follow(self, opening: Optional[Opening]) -> None:
+    def follow(self, opening: Opening | None) -> None:
         self.rules.followed(self.simulation.now, opening)
         if opening is not None and opening.epoch != self.epoch:
             self.epoch, self.node, self.place = opening.epoch, opening.node, 0
@@ -419,18 +418,18 @@ GONE = 'gone'
 class Simulation:
     """One group. The rules of its members and its store are told, so that broken ones can be tried."""
 
-    member: Type[Member] = Member
+    member: type[Member] = Member
 
-    def __init__(self, seed: int, make: Maker, store: StoreMaker = Store, trouble: Type[Trouble] = Trouble) -> None:
+    def __init__(self, seed: int, make: Maker, store: StoreMaker = Store, trouble: type[Trouble] = Trouble) -> None:
         self.choice = random.Random(seed)
         self.trouble = trouble(self.choice)
         self.make, self.now, self.count, self.is_calm, self.ttl = make, 0, 0, False, TTL
-        self.events: List[Tuple[int, int, Action]] = []
+        self.events: list[tuple[int, int, Action]] = []
         self.store: Judged = store(self.settings(), lambda nodes: min(self.trouble.room * nodes, 1_000_000), lambda: self.now)
-        self.wanted: Optional[Settings] = None  # what was wished for last, unless that was taken back
-        self.members: List[Member] = []
-        self.happened: Counts[str] = Counter()
-        self.highest: Dict[int, Tuple[Token, Life]] = {}  # of each partition: the token used last, and whose
+        self.wanted: Settings | None = None  # what was wished for last, unless that was taken back
+        self.members: list[Member] = []
+        self.happened: Counter[str] = Counter()
+        self.highest: dict[int, tuple[Token, Life]] = {}  # of each partition: the token used last, and whose
 
     # Chance and time.
 
@@ -446,7 +445,7 @@ class Simulation:
         self.happened[what] += does
         return does
 
-    def trip(self, ask: Optional[Ask] = None) -> int:
+    def trip(self, ask: Ask | None = None) -> int:
         is_slowest = ask is not None and ask.request is self.trouble.slowest
         if self.happens('a request or an answer is slow', 0.5 if is_slowest else self.trouble.slow):
             return self.some(self.choice.choice([0.3, 1.0, 4.0]))
@@ -537,7 +536,7 @@ class Simulation:
         """A member stops work."""
         self.happened['a member stops work'] += 1
 
-    def begin(self, name: str) -> Optional[Member]:
+    def begin(self, name: str) -> Member | None:
         """A process for the node of that name, if the group has it."""
         opening = self.store.epoch.opening(name)
         if opening is None:
@@ -548,7 +547,7 @@ class Simulation:
         self.after(0, member.go)
         return member
 
-    def alive(self) -> List[Member]:
+    def alive(self) -> list[Member]:
         return [member for member in self.members if not member.is_dead]
 
     def often(self, what: str, rate: float, action: Action) -> None:
@@ -592,7 +591,7 @@ class Simulation:
         if member is not None and is_short:
             self.after(self.some(0.3), partial(self.end_soon, member, [member.leave]))
 
-    def begin_another(self, name: str) -> Optional[Member]:
+    def begin_another(self, name: str) -> Member | None:
         """One more process for the node, if there are not two by now."""
         return self.begin(name) if sum(member.name == name for member in self.alive()) < 2 else None
 
@@ -609,7 +608,7 @@ class Simulation:
             self.after(self.some(length), partial(self.end_soon, member, [member.die, member.leave]))
         self.after(self.some(2 * length), lambda: self.come(name, length, times - 1))
 
-    def end_soon(self, member: Member, ways: List[Action]) -> None:
+    def end_soon(self, member: Member, ways: list[Action]) -> None:
         """In one of these ways, if it isn't dead."""
         if not member.is_dead:
             self.choice.choice(ways)()
@@ -619,7 +618,7 @@ class Simulation:
         if self.happens('a wish is taken back', self.trouble.withdrawn):
             self.after(self.some(0.3), lambda: self.wish(None))
 
-    def wish(self, settings: Optional[Settings]) -> None:
+    def wish(self, settings: Settings | None) -> None:
         self.store.wish = self.wanted = settings
         self.tell_all()
 
@@ -650,7 +649,7 @@ class Simulation:
         for member in self.alive():
             member.die()
 
-    def tried(self) -> Optional[str]:
+    def tried(self) -> str | None:
         """Runs it, and closes it. What is wrong with it, if something is."""
         try:
             self.run()
@@ -680,7 +679,7 @@ class Simulation:
         """The nodes that may take part."""
         return self.store.epoch.settings.names
 
-    def unrest(self) -> Optional[str]:
+    def unrest(self) -> str | None:
         epoch, held = self.store.epoch, self.store.held()
         if self.store.wished() is not None or not self.is_as_wanted(epoch) or not set(held) <= set(epoch.settings.names):
             return f'another wish, or strangers: {held}'

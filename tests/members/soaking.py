@@ -7,10 +7,11 @@ import subprocess
 import sys
 import time
 from collections import Counter
+from collections.abc import Callable, Iterator, Sequence
 from contextlib import suppress
 from functools import partial
 from pathlib import Path
-from typing import Callable, Counter as Counts, Dict, Iterator, List, NamedTuple, Optional, Sequence, Tuple, TypeVar
+from typing import NamedTuple, TypeVar
 
 from etcd_servers import Server, Servers
 from faults import SETTLED
@@ -25,7 +26,7 @@ SLICE = 0.25  # seconds for which it is waited at once
 PART_MAX = 30.0  # seconds in which a fault has to find whom it can happen to, and is seen
 
 # Whom a fault happens to, at one moment.
-WHOM: Dict[str, Tuple[str, ...]] = {
+WHOM: dict[str, tuple[str, ...]] = {
     'a member': ('member',), 'a guard': ('guard',), 'a worker': ('worker',), 'a member and its worker': ('member', 'worker'),
     'a member and its guard': ('member', 'guard'),
 }  # fmt: skip
@@ -64,22 +65,22 @@ class Later(NamedTuple):
 class Soak:
     """A group, and what happens to it. Who ends is begun again."""
 
-    def __init__(self, group: Group, servers: Optional[Servers], choice: random.Random, share: float) -> None:
+    def __init__(self, group: Group, servers: Servers | None, choice: random.Random, share: float) -> None:
         """Behind this share of the faults the group gets time to come to rest."""
         self.group, self.choice, self.share = group, choice, share
         self.names = [node.name for node in group.shown.nodes]
-        self.happened: Counts[str] = Counter()
-        self.statuses: Counts[int] = Counter()  # of members that ended
-        self.later: List[Later] = []
-        self.rests: List[float] = []  # how long it took to come to rest, if the group did
+        self.happened: Counter[str] = Counter()
+        self.statuses: Counter[int] = Counter()  # of members that ended
+        self.later: list[Later] = []
+        self.rests: list[float] = []  # how long it took to come to rest, if the group did
         self.without_rest = 0
-        self.kinds: Dict[str, Strike] = {**self.of_processes(), **(self.of_servers(servers) if servers is not None else {})}
+        self.kinds: dict[str, Strike] = {**self.of_processes(), **(self.of_servers(servers) if servers is not None else {})}
 
     # What happens.
 
-    def of_processes(self) -> Dict[str, Strike]:
+    def of_processes(self) -> dict[str, Strike]:
         """If member and guard are both paused for long nobody is left who ends the worker, and then nothing is promised."""
-        kinds: Dict[str, Strike] = {}
+        kinds: dict[str, Strike] = {}
         for whom, names in WHOM.items():
             kinds[f'{whom} killed'] = partial(self.strike, names, (), SHORT)
             kinds[f'{whom} paused shortly'] = partial(self.strike, (), names, SHORT)
@@ -89,15 +90,15 @@ class Soak:
         kinds['a guard killed whose member is paused'] = partial(self.strike, ('guard',), ('member',), LONG)
         return kinds
 
-    def of_servers(self, servers: Servers) -> Dict[str, Strike]:
-        kinds: Dict[str, Strike] = {}
+    def of_servers(self, servers: Servers) -> dict[str, Strike]:
+        kinds: dict[str, Strike] = {}
         for what, leads in (('the leader of etcd', True), ('another server', False)):
             kinds[f'{what} killed'] = partial(self.strike_server, servers, leads, Server.kill, Server.start)
             kinds[f'{what} paused'] = partial(self.strike_server, servers, leads, Server.pause, Server.resume)
         kinds['all servers paused'] = partial(self.strike_servers, servers)
         return kinds
 
-    def strike(self, killed: Sequence[str], paused: Sequence[str], span: Tuple[float, float]) -> bool:
+    def strike(self, killed: Sequence[str], paused: Sequence[str], span: tuple[float, float]) -> bool:
         """These of some member are killed, and these paused for so long, at one moment. Whether that was seen."""
         there = self.tend_until(self.some_family, PART_MAX)
         if not there:
@@ -110,7 +111,7 @@ class Soak:
         self.do_later(self.choice.uniform(*span) * self.group.ttl if still else 0.0, partial(resume, still, there))
         return is_seen
 
-    def some_family(self) -> Dict[str, Process]:
+    def some_family(self) -> dict[str, Process]:
         """Those of some member that are all there, and not paused."""
         members = [member for member in self.group.members.values() if member.poll() is None]
         found = family(self.choice.choice(members).pid) if members else {}
@@ -243,16 +244,16 @@ def waited(is_so: Callable[[], bool]) -> bool:
     return False
 
 
-def resume(whom: Sequence[Process], there: Dict[str, Process]) -> None:
+def resume(whom: Sequence[Process], there: dict[str, Process]) -> None:
     """They go on, and those who are there aren't looked at any more."""
     send_all(whom, signal.SIGCONT)
     close_all(there.values())
 
 
-Told = Tuple[str, int, int, int]  # what a worker tells, at a moment: its number, and a token
+Told = tuple[str, int, int, int]  # what a worker tells, at a moment: its number, and a token
 
 # What workers tell of one partition, and which faults that is.
-CASES: Tuple[Tuple[str, Sequence[Told], Sequence[str]], ...] = (
+CASES: tuple[tuple[str, Sequence[Told], Sequence[str]], ...] = (
     ('one behind the other', [('begin', 1, 10, 5), ('end', 1, 20, 0), ('begin', 2, 30, 6)], []),
     ('again by one worker', [('begin', 1, 10, 5), ('end', 1, 20, 0), ('begin', 1, 20, 5)], []),
     ('two at once', [('begin', 1, 10, 5), ('begin', 2, 20, 6)], ['overlap']),
@@ -265,7 +266,7 @@ CASES: Tuple[Tuple[str, Sequence[Told], Sequence[str]], ...] = (
 )
 
 
-def faults_of(told: Sequence[Told]) -> List[str]:
+def faults_of(told: Sequence[Told]) -> list[str]:
     """The kinds of faults that a record finds."""
     record, found = Record(), []
     for word, worker, moment, token in told:

@@ -6,6 +6,8 @@ A unit that finds the lock taken writes `overlap` into FOLDER/faults, and one wh
 and writes `old`. A unit that is done adds `TOKEN NODE` to the file of its partition. With SOCKET it asks the recorder there for each unit, which
 writes the same (`recorder.py`). With BULLY_ANSWERS in its environment it stays over changes.
 """
+from __future__ import annotations
+
 import fcntl
 import json
 import os

@@ -15,7 +15,7 @@ import sysconfig
 import time
 import zipfile
 from pathlib import Path
-from typing import Dict, List, Optional
+from typing import Optional
 
 HERE = Path(__file__).resolve().parents[1]
 NAME = 'bully'
@@ -35,15 +35,15 @@ bully-member = bully.command:main
 """
 FIRST_TIME = 315532800  # the first that a zip can tell: 1980-01-01
 
-Settings = Optional[Dict[str, object]]
+Settings = Optional[dict[str, object]]
 
 
-def get_requires_for_build_wheel(config_settings: Settings = None) -> List[str]:
+def get_requires_for_build_wheel(config_settings: Settings = None) -> list[str]:
     """Nothing is needed."""
     return []
 
 
-def build_wheel(wheel_directory: str, config_settings: Settings = None, metadata_directory: Optional[str] = None) -> str:
+def build_wheel(wheel_directory: str, config_settings: Settings = None, metadata_directory: str | None = None) -> str:
     """Writes the wheel into this folder, with the file that the setting `proved` names, if any. Its name."""
     library = find_library()
     tag = f'py3-none-{platform()}' if library else 'py3-none-any'
@@ -71,7 +71,7 @@ def is_source(path: Path) -> bool:
     return path.suffix == '.py' or path.name == 'py.typed'
 
 
-def find_library() -> Optional[Path]:
+def find_library() -> Path | None:
     """The library to take along, if there is one. What BULLY_LIBRARY names has to be there."""
     named = os.environ.get('BULLY_LIBRARY')
     top = HERE.parents[1]
@@ -83,7 +83,7 @@ def find_library() -> Optional[Path]:
     return file
 
 
-def find_header(library: Optional[Path]) -> Path:
+def find_header(library: Path | None) -> Path:
     """The header: that of this tree; or else, if pip took the package out of it, the one with the library."""
     places = [HERE.parents[1] / 'include', *([library.parent, library.parents[1] / 'include'] if library else [])]
     file = next(filter(Path.is_file, (place / 'bully.h' for place in places)), None)
@@ -92,7 +92,7 @@ def find_header(library: Optional[Path]) -> Path:
     return file
 
 
-def record(files: Dict[str, bytes]) -> str:
+def record(files: dict[str, bytes]) -> str:
     """The list of the files, with their sums."""
     lines = []
     for name, content in files.items():
@@ -101,7 +101,7 @@ def record(files: Dict[str, bytes]) -> str:
     return ''.join(lines) + f'{SAID}/RECORD,,\n'
 
 
-def write(path: Path, files: Dict[str, bytes]) -> None:
+def write(path: Path, files: dict[str, bytes]) -> None:
     year, month, day, hour, minute, second = time.gmtime(max(FIRST_TIME, int(os.environ.get('SOURCE_DATE_EPOCH', '0'))))[:6]
     with zipfile.ZipFile(path, 'w', zipfile.ZIP_DEFLATED) as wheel:
         for name, content in files.items():

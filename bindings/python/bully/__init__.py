@@ -37,6 +37,8 @@ Each status of the library that isn't OK is an exception, a class of its own bel
 `Replica.learn` alone takes what comes before a row that it refuses, and raises NotLearned, whose `cause` is such a class.
 What isn't even a number of the kind that the library takes, as 70000 partitions, is a ValueError.
 """
+from __future__ import annotations
+
 from typing import TYPE_CHECKING, Any
 
 # What is imported by its own name, or by a star, is the package's for a type checker, too.

@@ -2,10 +2,12 @@
 from __future__ import annotations
 
 import ctypes
-from typing import List, Optional, Sequence, Tuple
+from collections.abc import Sequence
 
 from .group import Setup, setup_parts
-from .library import UINT32_MAX, Opened, RawState, call_of, line_of, list_of, node_of, number_of, numbers_of, owners_of, state_of
+from .library import (
+    UINT32_MAX, Opened, RawState, call_of, line_of, list_of, node_of, number_of, numbers_of, owners_of, state_of,
+)  # fmt: skip
 from .values import Answer, Call, Line, State, Status, Want
 
 
@@ -19,7 +21,7 @@ class Agent(Opened):
     _kind = 'bully_agent'
     _single = 'an agent is not copied: two of them would be two agents of one node'
 
-    def __init__(self, setup: Setup, node: int, events: int = 0, task: Optional[Sequence[int]] = None) -> None:
+    def __init__(self, setup: Setup, node: int, events: int = 0, task: Sequence[int] | None = None) -> None:
         """The agent of a node that is Down, whose log has so many events, and that has kept this task, if any.
 
         Raises BadNodes, BadPartitions, BadLimit, BadWeights, BadNode, TableLength, TableOwner, OutOfMemory."""
@@ -73,7 +75,7 @@ class Agent(Opened):
         Premise: its request won't run any more."""
         self._call('drop_orphan')
 
-    def prepare(self, old: Optional[Sequence[int]] = None) -> Tuple[int, ...]:
+    def prepare(self, old: Sequence[int] | None = None) -> tuple[int, ...]:
         """The table that the node should plan, from this old one, mostly its `task`. No event.
 
         Raises Closed, TableLength, TableOwner, OutOfMemory."""
@@ -84,7 +86,7 @@ class Agent(Opened):
 
     # What comes from other nodes, or goes to them. Lines have no line end.
 
-    def request(self) -> Optional[str]:
+    def request(self) -> str | None:
         """The line of the request of the node's call, while that is under way; to be sent to its callee, once. No event.
 
         Raises Closed, OutOfMemory."""
@@ -133,22 +135,22 @@ class Agent(Opened):
         return Status(self._show().status)
 
     @property
-    def coordinator(self) -> Optional[int]:
+    def coordinator(self) -> int | None:
         """The node's coordinator, if it has one."""
         return self._show().coordinator or None
 
     @property
-    def halter(self) -> Optional[int]:
+    def halter(self) -> int | None:
         """The node that halted it last, if any."""
         return self._show().halter or None
 
     @property
-    def up(self) -> Tuple[int, ...]:
+    def up(self) -> tuple[int, ...]:
         """The lower nodes that answered its halts, rising."""
         return list_of(self._setup.nodes, self._function('up'))
 
     @property
-    def task(self) -> Optional[Tuple[int, ...]]:
+    def task(self) -> tuple[int, ...] | None:
         """The owner of each partition in the node's task, if it has one."""
         return list_of(self._setup.partitions, self._function('task')) or None
 
@@ -158,7 +160,7 @@ class Agent(Opened):
         return Want(self._show().wants)
 
     @property
-    def call(self) -> Optional[Call]:
+    def call(self) -> Call | None:
         """The call that the node has under way, if any."""
         return call_of(self._show())
 
@@ -177,7 +179,7 @@ class Agent(Opened):
         """How often the node was stopped or crashed since it was opened."""
         return int(self._show().generation)
 
-    def rows(self) -> List[str]:
+    def rows(self) -> list[str]:
         """The rows of the node's last step, for the log, without their line ends, as `docs/FORMATS.md` has them of version 3.
 
         Raises Closed, OutOfMemory."""

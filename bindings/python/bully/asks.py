@@ -1,8 +1,9 @@
 """What a member asks of its log: which call each request of its rules is. Whoever drives a member asks by this, in a process or in a simulation."""
 from __future__ import annotations
 
+from collections.abc import Callable, Sequence
 from dataclasses import dataclass
-from typing import Callable, Sequence, Union
+from typing import Union
 
 from .epochs import Opening
 from .logs import Found, Log

@@ -30,7 +30,8 @@ import signal
 import sys
 import threading
 import time
-from typing import Callable, List, Optional, Tuple, Type, TypeVar
+from collections.abc import Callable
+from typing import TypeVar
 
 from .epochs import FIRST, LATEST, Opening
 from .faults import BullyError
@@ -45,7 +46,7 @@ from .service import Service
 from .settings import ConfigFault, Settings, read_settings, shown_name
 from .stores import BadWords, EtcdStore, FileStore, add_words, store_of
 from .view import GroupView, LogView
-from .worker import GuardLost, WorkerEnded, Workers, WorkerStuck
+from .worker import GuardLost, WorkerEnded, WorkerStuck, Workers
 
 OK, FAILED, BAD_WORDS, BAD_INPUT, NO_STORE, NO_NODE = range(6)
 TTL = 5.0  # seconds, if none is told
@@ -92,7 +93,7 @@ def parser() -> argparse.ArgumentParser:
     return words
 
 
-def add_orders(commands: 'argparse._SubParsersAction[argparse.ArgumentParser]') -> None:
+def add_orders(commands: argparse._SubParsersAction[argparse.ArgumentParser]) -> None:
     """The command takes the words of an operator's orders."""
     drain = commands.add_parser('drain', help='have a node take no part, up to undrain, also if its process begins again')
     undrain = commands.add_parser('undrain', help='have it take part again')
@@ -268,7 +269,7 @@ def text_of(group: GroupView) -> str:
     return '\n'.join([about + group.told_more, *table])
 
 
-def address_of(words: str) -> Tuple[str, int]:
+def address_of(words: str) -> tuple[str, int]:
     """Where to listen: on this machine alone, if there is a port alone."""
     host, colon, port = words.rpartition(':')
     if not port.isdecimal() or int(port) > 65_535:
@@ -286,7 +287,7 @@ def answered(ask: Callable[[], _Answer]) -> _Answer:
             time.sleep(AGAIN)
 
 
-def ttl_of(store: 'FileStore | EtcdStore', told: Optional[float]) -> float:
+def ttl_of(store: FileStore | EtcdStore, told: float | None) -> float:
     """The ttl of all members: that of the log, if it has one. Else each is told its own."""
     with contextlib.closing(store.open(reads=True)) as log:
         kept = log.opening().ttl
@@ -347,14 +348,14 @@ COMMANDS = {
 }  # fmt: skip
 
 # What ends a command, and its status.
-STATUSES: Tuple[Tuple[Type[Exception], int], ...] = (
+STATUSES: tuple[tuple[type[Exception], int], ...] = (
     (BadWords, BAD_WORDS), (ConfigFault, BAD_INPUT), (OtherGroup, BAD_INPUT), (NotInGroup, NO_NODE), (BullyError, BAD_INPUT),
     (DamagedLog, BAD_INPUT), (OtherLog, BAD_INPUT), (LogError, NO_STORE), (OSError, NO_STORE),
     (WorkerEnded, FAILED), (GuardLost, FAILED), (WorkerStuck, FAILED), (NotEnded, FAILED),
 )  # fmt: skip
 
 
-def main(words: Optional[List[str]] = None) -> int:
+def main(words: list[str] | None = None) -> int:
     """Runs the command by these words. Its status: 0; 1, if the worker ended by itself or its guard did, or it doesn't end, or the epoch didn't, or
     the group isn't well; 2 of bad words; 3 of a fault of the configuration, or a log of another group, or damaged; 4, if the log or a file can't be
     used; 5, if the group has no such node, or none any more."""

@@ -8,8 +8,8 @@ from __future__ import annotations
 import dataclasses
 import json
 import re
+from collections.abc import Sequence
 from dataclasses import dataclass
-from typing import Optional, Sequence, Tuple
 
 from .group import Setup
 from .settings import Settings
@@ -61,14 +61,14 @@ class Opening:
 
     epoch: int
     header: str
-    names: Tuple[str, ...]
+    names: tuple[str, ...]
     limit: int
-    table: Tuple[int, ...] = ()
-    ttl: Optional[float] = None
+    table: tuple[int, ...] = ()
+    ttl: float | None = None
 
     @staticmethod
     def first(
-        header: str, names: Sequence[str] = (), limit: int = EVENTS_MAX, epoch: int = FIRST, ttl: Optional[float] = None
+        header: str, names: Sequence[str] = (), limit: int = EVENTS_MAX, epoch: int = FIRST, ttl: float | None = None
     ) -> Opening:  # fmt: skip
         """That of the first epoch, which has this number. Nodes without names are called by their numbers."""
         nodes = setup_of(header).nodes
@@ -113,11 +113,11 @@ class Opening:
         """The opening of the next epoch with other settings, but for its table, which is known once this one ends."""
         return Opening(self.epoch + 1, settings.setup.header(), settings.names, room_of(settings.setup.nodes, self.limit), ttl=self.ttl)
 
-    def after(self, wish: Optional[Opening]) -> Opening:
+    def after(self, wish: Opening | None) -> Opening:
         """The opening of the next epoch but for its table: what is wished for, or else as this one."""
         return (wish or dataclasses.replace(self, epoch=self.epoch + 1)).bare
 
-    def next(self, wish: Optional[Opening], table: Sequence[int]) -> Opening:
+    def next(self, wish: Opening | None, table: Sequence[int]) -> Opening:
         """The opening of the next epoch: with what is wished for, or else as this one; and with this epoch's last table, if it has one."""
         after = self.after(wish)
         there = {name: number for number, name in enumerate(after.names, 1)}

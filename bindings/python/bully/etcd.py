@@ -20,17 +20,19 @@ transaction that keeps what was promised. No other write names a lease: one that
 from __future__ import annotations
 
 import ssl
+from collections.abc import Callable, Iterator, Mapping, Sequence, Set as AbstractSet
 from contextlib import closing
-from typing import AbstractSet, Callable, Dict, FrozenSet, Iterator, List, Mapping, NamedTuple, Optional, Sequence, Tuple
+from typing import NamedTuple
 
 from .epochs import FIRST, Opening
 from .gateway import (
-    KV_RANGE, LEASE_GRANT, LEASE_KEEPALIVE, Answer, Client, Compacted, Json, Pair, Silent, Watch, behind, below, coded, exists,
-    number_is, one, pair_of, pairs_of, put, ranges, read_address, value_is, value_of,
+    KV_RANGE, LEASE_GRANT, LEASE_KEEPALIVE, Answer, Client, Compacted, Json, Pair, Silent, Watch, behind, below, coded,
+    exists, number_is, one, pair_of, pairs_of, put, ranges, read_address, value_is, value_of,
 )  # fmt: skip
 from .logs import (
-    BY_HISTORY, SECOND, BadPresence, DamagedLog, ForeignLog, Found, Holder, LogError, LogExists, NoLog, OtherLog, Unanswered, are_idle,
-    log_name, no_epoch, opening_of, orders_of, rows_of, rows_text, see_end, seconds_of_boot, slept, wall_clock, wish_of,
+    BY_HISTORY, SECOND, BadPresence, DamagedLog, ForeignLog, Found, Holder, LogError, LogExists, NoLog, OtherLog,
+    Unanswered, are_idle, log_name, no_epoch, opening_of, orders_of, rows_of, rows_text, seconds_of_boot, see_end,
+    slept, wall_clock, wish_of,
 )  # fmt: skip
 from .member import Life, Promise, Until
 from .orders import Orders
@@ -93,7 +95,7 @@ class Keys:
         """The name of a key that begins so. Raises ValueError."""
         return key[len(prefix) :].decode()
 
-    def begin(self, opening: Opening) -> List[Json]:
+    def begin(self, opening: Opening) -> list[Json]:
         """The epoch of this opening begins."""
         here = put(self.place, place_text(Promise(opening.epoch, 0)))
         return [here, put(self.opening(opening.epoch), BEGIN + opening.text()[1:])]
@@ -102,7 +104,7 @@ class Keys:
         """The range of an epoch's appends from one key on that are read together."""
         return one(begin, range_end=coded(behind(self.rows(epoch))), limit=PAGE)
 
-    def standing(self, since: int) -> List[Json]:
+    def standing(self, since: int) -> list[Json]:
         """The ranges of all that isn't a row: the end of the log, the wish, the orders, and the lives and promises that were put behind a
         revision."""
         newer = {'min_mod_revision': str(since + 1)}
@@ -125,7 +127,7 @@ class Held(NamedTuple):
 class EtcdLog:
     """A log in etcd. One thread at a time uses it."""
 
-    def __init__(self, address: str, patience: float = 1.0, tls: Optional[ssl.SSLContext] = None, user: str = '', password: str = '') -> None:
+    def __init__(self, address: str, patience: float = 1.0, tls: ssl.SSLContext | None = None, user: str = '', password: str = '') -> None:
         """The log at this address, `etcd://HOST:PORT,HOST:PORT/PREFIX`, which `create` made; over TLS if it begins with `etcds`. Each call
         takes this many seconds at most, and a read for each of its parts.
 
@@ -134,14 +136,14 @@ class EtcdLog:
         self.address = address
         self._keys = Keys(read.prefix)
         self._client = Client(read, patience, tls, user, password)
-        self._held: Optional[Held] = None
-        self._told_wanted: Tuple[Optional[bytes], Optional[bytes]] = None, None
-        self._told_idle: Tuple[Promise, FrozenSet[str]] = (Promise(), frozenset())
+        self._held: Held | None = None
+        self._told_wanted: tuple[bytes | None, bytes | None] = None, None
+        self._told_idle: tuple[Promise, frozenset[str]] = (Promise(), frozenset())
         self._news = News(self._keys)
-        self._watch: Optional[Watch] = None
+        self._watch: Watch | None = None
         self._is_wide = False  # whether it tells of promises
         self._broken = float('-inf')  # when a watch broke
-        self._woken: Optional[int] = None  # that ends a wait
+        self._woken: int | None = None  # that ends a wait
         try:
             self._name = self._open()
         except BaseException:
@@ -150,8 +152,8 @@ class EtcdLog:
 
     @staticmethod
     def create(
-        address: str, opening: Opening, patience: float = 1.0, tls: Optional[ssl.SSLContext] = None, user: str = '', password: str = ''
-    ) -> 'EtcdLog':  # fmt: skip
+        address: str, opening: Opening, patience: float = 1.0, tls: ssl.SSLContext | None = None, user: str = '', password: str = ''
+    ) -> EtcdLog:  # fmt: skip
         """Makes a log at this address that begins so, if there is nothing below its prefix. The log.
 
         Raises LogExists, ForeignLog, Denied, LogError, Unanswered; ValueError of an address that is none."""
@@ -187,7 +189,7 @@ class EtcdLog:
         """The same, by an answer with the end of the log and the first epoch. (Rows of earlier ones may be left, in part.)"""
         return range(int(value_of(answer.ranges[1]) or FIRST), self._end_of(answer.ranges[0]).epoch + 1)
 
-    def opening(self, epoch: Optional[int] = None) -> Opening:
+    def opening(self, epoch: int | None = None) -> Opening:
         number = self.epochs()[-1] if epoch is None else epoch
         self._client.begin()
         found = pairs_of(self._look(one(self._keys.opening(number))).ranges[0])
@@ -220,7 +222,7 @@ class EtcdLog:
         self._client.begin()
         self._change(self._is_current(epoch), [removed(one(self._keys.next))])
 
-    def order(self, orders: Orders, before: Optional[Orders]) -> bool:
+    def order(self, orders: Orders, before: Orders | None) -> bool:
         """What is ordered is looked at first, and has to be the same then."""
         self._client.begin()
         key = self._keys.orders
@@ -246,7 +248,7 @@ class EtcdLog:
             ends = found[0].key, found[-1].key + b'\0'
             self._change([], [removed(one(begin, range_end=coded(end))) for begin, end in (ends, tuple(map(keys.time, ends)))])
 
-    def _is_current(self, epoch: int) -> List[Json]:
+    def _is_current(self, epoch: int) -> list[Json]:
         """That the epoch has begun, and none behind it."""
         keys = self._keys
         return [exists(keys.opening(epoch)), number_is(keys.opening(epoch + 1), 'version', 0)]
@@ -297,12 +299,12 @@ class EtcdLog:
         holder, promised = map(value_of, answer.ranges)
         return holder == life_text(life).encode() and (promised or b'') >= told
 
-    def _keep_alive(self, held: Held) -> Optional[int]:
+    def _keep_alive(self, held: Held) -> int | None:
         """Renews a lease. The term of etcd before that; nothing, if there is no such lease."""
         answer = self._client.ask(LEASE_KEEPALIVE, {'ID': str(held.lease)}, repeats=True)
         return int(answer['header']['raft_term']) if int(answer.get('TTL', 0)) > 0 else None
 
-    def _counts(self, held: Held, before: Optional[int], behind: int) -> bool:
+    def _counts(self, held: Held, before: int | None, behind: int) -> bool:
         """Whether a renewal counts, with etcd's terms before and behind it: no other leader than that of the grant has done it."""
         return held.term == before == behind
 
@@ -347,7 +349,7 @@ class EtcdLog:
             see_end(self.address, self._end_of(answer.ranges[0]), Promise(epoch, place))
         return answer.is_done
 
-    def _are_idle(self, epoch: int, place: int) -> List[Json]:
+    def _are_idle(self, epoch: int, place: int) -> list[Json]:
         """That the log ends there, and all promises, of which there is one at least, are of that place."""
         keys, here = self._keys, place_text(Promise(epoch, place)).encode()
         return [value_is(keys.place, here), {**value_is(keys.promises, here), **below(keys.promises)}]
@@ -360,9 +362,9 @@ class EtcdLog:
         see_end(self.address, self._end_of(answer.ranges[0]), Promise(epoch, place))
         return rows
 
-    def times(self, epoch: int) -> Dict[int, Optional[int]]:
+    def times(self, epoch: int) -> dict[int, int | None]:
         begin = self._keys.time(self._keys.rows(epoch))
-        times: Dict[int, Optional[int]] = {}
+        times: dict[int, int | None] = {}
         after = begin
         while True:
             self._client.begin()
@@ -372,7 +374,7 @@ class EtcdLog:
                 return times
             after = found[-1].key + b'\0'
 
-    def _read_with(self, epoch: int, place: int, is_there: Callable[[Answer], bool], *more: Json) -> 'tuple[Answer, Optional[Rows]]':
+    def _read_with(self, epoch: int, place: int, is_there: Callable[[Answer], bool], *more: Json) -> tuple[Answer, Rows | None]:
         """The rows behind that place, if they are there by the answer, and the answer with what more was asked for at the same revision: the end
         of the log first."""
         page = self._keys.page(self._keys.row(epoch, place), epoch)
@@ -470,7 +472,7 @@ class EtcdLog:
         except (ValueError, KeyError) as fault:
             raise BadPresence(f'{self.address}: a presence is none: {fault}') from fault
 
-    def wait(self, epoch: int, place: int, lives: Mapping[str, Life], until: Until, seconds: float, woken: Optional[int] = None) -> None:
+    def wait(self, epoch: int, place: int, lives: Mapping[str, Life], until: Until, seconds: float, woken: int | None = None) -> None:
         """By a watch. While many are present it tells of promises only where they are waited for: else each of them would be told to all."""
         end = seconds_of_boot() + seconds
         known, idle = self._told_idle
@@ -561,11 +563,11 @@ class News:
     def __init__(self, keys: Keys) -> None:
         self.revision = 0  # of what was found
         self.is_fresh = False  # whether a watch told nothing since, and none broke
-        self.end: Optional[bytes] = None
-        self.wish: Optional[bytes] = None
-        self.orders: Optional[bytes] = None
-        self.lives: Dict[str, Life] = {}
-        self.promises: Dict[str, Promise] = {}
+        self.end: bytes | None = None
+        self.wish: bytes | None = None
+        self.orders: bytes | None = None
+        self.lives: dict[str, Life] = {}
+        self.promises: dict[str, Promise] = {}
         self._keys = keys
         self._is_odd = False  # whether something is for a look to find
 
@@ -575,7 +577,7 @@ class News:
         return 0 if self._is_odd else self.revision
 
     @property
-    def wanted(self) -> Tuple[Optional[bytes], Optional[bytes]]:
+    def wanted(self) -> tuple[bytes | None, bytes | None]:
         return self.wish, self.orders
 
     def see_all(self, answer: Answer, since: int) -> bool:
@@ -594,7 +596,7 @@ class News:
         self.revision, self.is_fresh = answer.revision, True
         return True
 
-    def presences(self) -> Dict[str, Holder]:
+    def presences(self) -> dict[str, Holder]:
         """Who is present."""
         return {name: Holder(life, self.promises[name]) for name, life in self.lives.items()}
 
@@ -625,7 +627,7 @@ class News:
             self._is_odd = True
 
     def awaited(
-        self, here: Promise, lives: Mapping[str, Life], until: Until, wanted: Tuple[Optional[bytes], Optional[bytes]], before: AbstractSet[str],
+        self, here: Promise, lives: Mapping[str, Life], until: Until, wanted: tuple[bytes | None, bytes | None], before: AbstractSet[str],
     ) -> Callable[[], bool]:  # fmt: skip
         """What tells whether there is what is waited for, by what was wanted and who was idle before."""
         end = place_text(here).encode()

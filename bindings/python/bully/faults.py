@@ -1,12 +1,12 @@
 """What the library refuses: an exception for each of its statuses."""
 from __future__ import annotations
 
-from typing import TYPE_CHECKING, Dict, Type
+from typing import TYPE_CHECKING
 
 from .header import statuses
 
 _STATUSES = statuses()
-FAULTS: Dict[int, Type[BullyError]] = {}  # by their statuses
+FAULTS: dict[int, type[BullyError]] = {}  # by their statuses
 
 
 class BullyError(Exception):
@@ -50,7 +50,7 @@ class NotLearned(BullyError):
 
     taken: int = 0
     row: int = 0
-    cause: Type[BullyError] = BullyError
+    cause: type[BullyError] = BullyError
 
 
 class Full(Refused, status='FULL'):

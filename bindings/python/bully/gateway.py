@@ -9,7 +9,8 @@ import socket
 import ssl
 import threading
 from base64 import b64decode, b64encode
-from typing import Any, Dict, List, NamedTuple, NoReturn, Optional, Sequence, Tuple, Union
+from collections.abc import Sequence
+from typing import Any, NamedTuple, NoReturn
 
 from .logs import DamagedLog, ForeignLog, LogError, Unanswered, seconds_of_boot, slept
 
@@ -26,7 +27,7 @@ MAY_PASS = frozenset({1, 2, 4, 5, 8, 10, 13, 14})  # whether it was done isn't k
 
 TARGETS = {'version': 'VERSION', 'create_revision': 'CREATE', 'mod_revision': 'MOD'}  # of a condition, by the number
 
-Json = Dict[str, Any]
+Json = dict[str, Any]
 
 
 class Denied(LogError):
@@ -49,7 +50,7 @@ class Endpoint(NamedTuple):
 class Address(NamedTuple):
     """Where a log is: the servers, what its keys begin with, and whether TLS is asked for."""
 
-    endpoints: Tuple[Endpoint, ...]
+    endpoints: tuple[Endpoint, ...]
     prefix: str
     is_secure: bool
 
@@ -96,12 +97,12 @@ def pair_of(told: Json) -> Pair:
     return Pair(b64decode(told['key']), b64decode(told.get('value', '')), created, modified, lease)
 
 
-def pairs_of(found: Json) -> List[Pair]:
+def pairs_of(found: Json) -> list[Pair]:
     """What a range found."""
     return [pair_of(told) for told in found.get('kvs', ())]
 
 
-def value_of(found: Json) -> Optional[bytes]:
+def value_of(found: Json) -> bytes | None:
     """The value of a key that was asked for, if it is there."""
     return next((pair.value for pair in pairs_of(found)), None)
 
@@ -136,7 +137,7 @@ def value_is(key: bytes, value: bytes) -> Json:
     return {'key': coded(key), 'target': 'VALUE', 'result': 'EQUAL', 'value': coded(value)}
 
 
-def ranges(*asked: Json) -> List[Json]:
+def ranges(*asked: Json) -> list[Json]:
     """Ranges, as a transaction takes them."""
     return [{'request_range': each} for each in asked]
 
@@ -214,7 +215,7 @@ def silent_of(endpoint: Endpoint, error: Exception, may_be_done: bool) -> Silent
     return Silent(endpoint, f'TLS: {why}' if is_of_tls else why, may_be_done, is_final)
 
 
-def alert_of(connection: http.client.HTTPConnection) -> Optional[ssl.SSLError]:
+def alert_of(connection: http.client.HTTPConnection) -> ssl.SSLError | None:
     """What the other side said by TLS before it ended the connection, if it did."""
     try:
         if isinstance(connection.sock, ssl.SSLSocket):
@@ -244,9 +245,9 @@ class Names:
     """Looks up where servers are, in threads, since no time-out bounds that."""
 
     def __init__(self) -> None:
-        self._asked: Dict[Endpoint, 'queue.SimpleQueue[Union[List[Any], OSError]]'] = {}
+        self._asked: dict[Endpoint, queue.SimpleQueue[list[Any] | OSError]] = {}
 
-    def places(self, endpoint: Endpoint, seconds: float) -> List[Any]:
+    def places(self, endpoint: Endpoint, seconds: float) -> list[Any]:
         """What `getaddrinfo` tells of it. What isn't told in time is waited for by the next call. Raises Silent."""
         if endpoint not in self._asked:
             self._asked[endpoint] = queue.SimpleQueue()
@@ -261,7 +262,7 @@ class Names:
         return found
 
 
-def look_up(endpoint: Endpoint, told: 'queue.SimpleQueue[Union[List[Any], OSError]]') -> None:
+def look_up(endpoint: Endpoint, told: queue.SimpleQueue[list[Any] | OSError]) -> None:
     try:
         told.put(socket.getaddrinfo(endpoint.host, endpoint.port, type=socket.SOCK_STREAM))
     except OSError as error:
@@ -289,7 +290,7 @@ def reached(places: Sequence[Any], end: float) -> socket.socket:
 class Client:
     """Asks the servers of an etcd, one request at a time, and the next server if one doesn't answer."""
 
-    def __init__(self, address: Address, patience: float, tls: Optional[ssl.SSLContext], user: str, password: str) -> None:
+    def __init__(self, address: Address, patience: float, tls: ssl.SSLContext | None, user: str, password: str) -> None:
         if tls is not None and not address.is_secure:
             raise ValueError('TLS is for an address that begins with etcds://')
         self._endpoints = address.endpoints
@@ -299,8 +300,8 @@ class Client:
         self._token = ''
         self._turn = 0
         self._end = 0.0
-        self._connection: Optional[http.client.HTTPConnection] = None
-        self._cluster: Optional[str] = None
+        self._connection: http.client.HTTPConnection | None = None
+        self._cluster: str | None = None
         self._names = Names()
         self.seen = 0, 0  # the highest revision and term of a transaction
 
@@ -334,7 +335,7 @@ class Client:
         """What etcd answers. If a server doesn't answer, the next one is asked: also of what may have been done, if that `repeats`.
 
         Raises Unanswered, Denied and other LogErrors, Compacted."""
-        causes: List[Silent] = []
+        causes: list[Silent] = []
         for count in range(len(self._endpoints), 0, -1):
             now = self._now()
             reached = now + (self._end - now) / count
@@ -456,7 +457,7 @@ class Watch:
         self._text = b''
         self._has_begun = False
 
-    def events(self, seconds: float, woken: Optional[int] = None) -> List[Json]:
+    def events(self, seconds: float, woken: int | None = None) -> list[Json]:
         """The next events, for which it waits so long at most, and until the descriptor has something to read. Raises Silent, Denied."""
         try:
             there = self._connection.sock
@@ -477,7 +478,7 @@ class Watch:
     def close(self) -> None:
         self._connection.close()
 
-    def _lines(self) -> List[bytes]:
+    def _lines(self) -> list[bytes]:
         """The whole lines that came, behind the head of the answer."""
         if not self._has_begun:
             head, end, text = self._text.partition(b'\r\n\r\n')
@@ -489,7 +490,7 @@ class Watch:
         *lines, self._text = self._text.split(b'\n')
         return lines
 
-    def _events_of(self, line: bytes) -> List[Json]:
+    def _events_of(self, line: bytes) -> list[Json]:
         try:
             told = json.loads(line)
         except ValueError as error:
@@ -499,7 +500,7 @@ class Watch:
             why = refusal_of(told['error']) if 'error' in told else Refusal(0, result.get('cancel_reason', 'compacted'))
             said = f'the watch was ended: {why}'
             raise Denied(f'{self.endpoint}: {said}') if 'permission' in said else Silent(self.endpoint, said, may_be_done=False)
-        events: List[Json] = result.get('events', [])
+        events: list[Json] = result.get('events', [])
         return events
 
 

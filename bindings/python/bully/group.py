@@ -2,11 +2,14 @@
 from __future__ import annotations
 
 import ctypes
+from collections.abc import Iterable, Sequence
 from dataclasses import dataclass
-from typing import Any, Iterable, Optional, Sequence, Tuple, Union
+from typing import Any
 
 from .faults import FAULTS, expect_ok
-from .library import UINT16_MAX, UINT32_MAX, RawSetup, RawVerdict, Room, line_bytes, loaded, number_of, numbers_of, owners_of
+from .library import (
+    UINT16_MAX, UINT32_MAX, RawSetup, RawVerdict, Room, line_bytes, loaded, number_of, numbers_of, owners_of,
+)  # fmt: skip
 from .values import EVENTS_MAX, PARTITIONS_MAX, TablePlan, Verdict, VerdictKind
 
 
@@ -18,7 +21,7 @@ class Setup:
     nodes: int
     partitions: int
     events_max: int = EVENTS_MAX
-    weights: Tuple[int, ...] = ()
+    weights: tuple[int, ...] = ()
     keeps: bool = False
 
     def header(self) -> str:
@@ -29,7 +32,7 @@ class Setup:
         return Room().row(loaded().bully_header, *setup_parts(self))
 
 
-def setup_parts(setup: Setup) -> Tuple[Any, ...]:
+def setup_parts(setup: Setup) -> tuple[Any, ...]:
     """A setup, as the three arguments that it is to the library."""
     weights = numbers_of('a weight', setup.weights)
     nodes, partitions = number_of('nodes', setup.nodes, UINT16_MAX), number_of('partitions', setup.partitions, UINT16_MAX)
@@ -47,7 +50,7 @@ def status_name(status: int) -> str:
     return str(loaded().bully_status_name(number_of('status', status, UINT32_MAX)), 'ascii')
 
 
-def check(trace: Union[str, bytes, bytearray, memoryview]) -> Verdict:
+def check(trace: str | bytes | bytearray | memoryview) -> Verdict:
     """Judges a trace, its text or the bytes of that, as `bully check` does. Other threads may run meanwhile.
 
     Raises BadHeader, BadRow or TooManyRows, with the row of the first fault; OutOfMemory."""
@@ -60,7 +63,7 @@ def check(trace: Union[str, bytes, bytearray, memoryview]) -> Verdict:
     return Verdict(VerdictKind(told.kind), told.number, FAULTS[told.cause] if told.cause else None)
 
 
-def plan_table(setup: Setup, members: Iterable[int], old: Optional[Sequence[int]] = None) -> TablePlan:
+def plan_table(setup: Setup, members: Iterable[int], old: Sequence[int] | None = None) -> TablePlan:
     """Plans the table over these members, balanced by weight, with the fewest moves from the old table; without one all move.
 
     Raises BadNodes, BadPartitions, BadLimit, BadWeights; BadNode of a member; TableLength or TableOwner of the old table;

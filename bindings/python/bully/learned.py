@@ -2,7 +2,8 @@
 from __future__ import annotations
 
 import ctypes
-from typing import Any, Iterable, Optional, Tuple
+from collections.abc import Iterable
+from typing import Any
 
 from .faults import BadArgument, BullyError, NotLearned, expect_ok, fault_of
 from .library import Opened, RawGroup, RawState, list_of, node_of, rows_bytes, state_of
@@ -62,19 +63,19 @@ class Learned(Opened):
         return int(self._group().events)
 
     @property
-    def token(self) -> Optional[int]:
+    def token(self) -> int | None:
         """The token of the last plan, if there is one: how many events there are up to it and with it, which is at least 1. So a
         later plan has a higher token. Each node that is Normal goes by the last plan: it has its planner as coordinator, and its
         table as task."""
         return self._group().token or None
 
     @property
-    def planner(self) -> Optional[int]:
+    def planner(self) -> int | None:
         """Whose the last plan is, if there is one."""
         return self._group().planner or None
 
     @property
-    def last_table(self) -> Optional[Tuple[int, ...]]:
+    def last_table(self) -> tuple[int, ...] | None:
         """The owner of each partition in the last plan's table, if there is a plan."""
         return list_of(self._partitions, self._function('planned')) or None
 

@@ -5,7 +5,8 @@ import ctypes
 import functools
 import operator
 import os
-from typing import Any, Callable, Iterable, Iterator, List, NoReturn, Optional, Sequence, Tuple, TypeVar, Union
+from collections.abc import Callable, Iterable, Iterator, Sequence
+from typing import Any, NoReturn, TypeVar, Union
 
 from .faults import Short, TableLength, expect_ok
 from .header import HERE, fields, functions, top_of_tree, type_of
@@ -60,15 +61,15 @@ _STRUCTURES = {
 }  # fmt: skip
 
 # The library twice. Calls of a handle keep Python's lock, so that no two threads are in one; a check of a long trace gives it away.
-_loaded: List[ctypes.CDLL] = []
+_loaded: list[ctypes.CDLL] = []
 
 
-def _prototypes() -> List[Tuple[str, Any, List[Any]]]:
+def _prototypes() -> list[tuple[str, Any, list[Any]]]:
     """The functions of the library, with the types of what they give and take."""
     return [(name, type_of(gives, _STRUCTURES), [type_of(kind, _STRUCTURES) for kind in takes]) for name, gives, takes in functions()]
 
 
-def _declared(library: ctypes.CDLL, prototypes: List[Tuple[str, Any, List[Any]]]) -> ctypes.CDLL:
+def _declared(library: ctypes.CDLL, prototypes: list[tuple[str, Any, list[Any]]]) -> ctypes.CDLL:
     """The library, with the types of its functions told to ctypes."""
     for name, gives, takes in prototypes:
         function = getattr(library, name)
@@ -84,7 +85,7 @@ def _own_places() -> Iterator[str]:
         yield os.path.join(top, 'out', 'library')
 
 
-def _place_of(path: Union[str, 'os.PathLike[str]', None]) -> str:
+def _place_of(path: str | os.PathLike[str] | None) -> str:
     """The file to load."""
     place = os.fspath(path) if path is not None else os.environ.get('BULLY_LIBRARY') or ''
     if not place:
@@ -93,7 +94,7 @@ def _place_of(path: Union[str, 'os.PathLike[str]', None]) -> str:
     return os.path.join(place, FILE) if os.path.isdir(place) else place
 
 
-def load(path: Union[str, 'os.PathLike[str]', None] = None) -> None:
+def load(path: str | os.PathLike[str] | None = None) -> None:
     """Loads the library from this path: its file, or the folder that has it. Without a path that is BULLY_LIBRARY of the
     environment, or else libbully.so in the folder of this package, in `lib` of an archive or in `out/library` of the repository, or else
     what the system finds by that name. An OSError tells that it isn't there."""
@@ -125,13 +126,13 @@ def node_of(value: int) -> int:
     return number_of('node', value, UINT16_MAX)
 
 
-def numbers_of(what: str, values: Iterable[int]) -> 'Tuple[ctypes.Array[ctypes.c_uint16], int]':
+def numbers_of(what: str, values: Iterable[int]) -> tuple[ctypes.Array[ctypes.c_uint16], int]:
     """Numbers, as the two arguments that they are to the library."""
     numbers = [number_of(what, value, UINT16_MAX) for value in values]
     return (ctypes.c_uint16 * len(numbers))(*numbers), len(numbers)
 
 
-def owners_of(values: Optional[Iterable[int]]) -> 'Tuple[ctypes.Array[ctypes.c_uint16], int]':
+def owners_of(values: Iterable[int] | None) -> tuple[ctypes.Array[ctypes.c_uint16], int]:
     """The same of the owners of a table, or none. To the library no owners are no table, but an empty table is one that is too short."""
     numbers, count = numbers_of('an owner', () if values is None else values)
     if values is not None and not count:
@@ -147,7 +148,7 @@ def line_bytes(line: Line) -> bytes:
     raise TypeError(f'a line is str or bytes, and not {type(line).__name__}')
 
 
-def line_of(line: Line) -> Tuple[bytes, int]:
+def line_of(line: Line) -> tuple[bytes, int]:
     """The line, as the two arguments that it is to the library."""
     text = line_bytes(line)
     return text, len(text)
@@ -196,21 +197,21 @@ class Room:
         return self.text(function, *arguments).rstrip('\n')
 
 
-def list_of(room: int, function: Callable[..., int], *arguments: Any) -> Tuple[int, ...]:
+def list_of(room: int, function: Callable[..., int], *arguments: Any) -> tuple[int, ...]:
     """The numbers that the function writes, called with these arguments and so much room behind them, which holds them all."""
     numbers, count = (ctypes.c_uint16 * room)(), ctypes.c_size_t()
     expect_ok(function(*arguments, numbers, room, ctypes.byref(count)))
     return tuple(numbers[: count.value])
 
 
-def owned_of(room: int, function: Callable[..., int], *arguments: Any) -> Optional[Owned]:
+def owned_of(room: int, function: Callable[..., int], *arguments: Any) -> Owned | None:
     """What a node owns, as the function writes it, called with these arguments and room for so many partitions."""
     token = ctypes.c_uint32()
     partitions = list_of(room, function, *arguments, ctypes.byref(token))
     return Owned(token.value, partitions) if partitions else None
 
 
-def call_of(told: RawState) -> Optional[Call]:
+def call_of(told: RawState) -> Call | None:
     """The call that the library tells of a node, if any."""
     return Call(CallKind(told.call), told.callee, bool(told.orphan)) if told.callee else None
 
@@ -221,7 +222,7 @@ def state_of(told: RawState) -> State:
     return State(told.node, status, told.coordinator or None, told.halter or None, wants, call_of(told), told.generation)
 
 
-def texts_of(text: str) -> List[str]:
+def texts_of(text: str) -> list[str]:
     """The rows of a text, without their line ends."""
     return text.split('\n')[:-1]
 

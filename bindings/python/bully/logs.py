@@ -16,8 +16,9 @@ import secrets
 import select
 import threading
 import time
+from collections.abc import Callable, Iterator, Mapping, Sequence, Set as AbstractSet
 from contextlib import suppress
-from typing import AbstractSet, Callable, Dict, FrozenSet, Iterator, List, Mapping, NamedTuple, Optional, Protocol, Sequence, Tuple, TypeVar, Union
+from typing import NamedTuple, Optional, Protocol, TypeVar
 
 from .epochs import Opening
 from .faults import BullyError
@@ -30,7 +31,7 @@ PART = 0.02  # seconds that a wait in memory takes at most, if something else ma
 BY_HISTORY = '; history writes it as a trace, and init makes another log'  # is told of a log by an older version
 
 Name = TypeVar('Name', str, bytes)
-Wanted = Tuple[Optional[Opening], Orders]  # what is wished for, and what is ordered
+Wanted = tuple[Optional[Opening], Orders]  # what is wished for, and what is ordered
 
 
 class LogError(Exception):
@@ -95,7 +96,7 @@ class Found(NamedTuple):
     epoch: int
     rows: Sequence[str]
     presences: Mapping[str, Holder]
-    wish: Optional[Opening]
+    wish: Opening | None
     orders: Orders = Orders()
 
     @property
@@ -103,11 +104,11 @@ class Found(NamedTuple):
         return self.wish, self.orders
 
     @property
-    def lives(self) -> Dict[str, Life]:
+    def lives(self) -> dict[str, Life]:
         """The lives of those present, by name."""
         return {name: holder.life for name, holder in self.presences.items()}
 
-    def idle(self, here: Promise) -> FrozenSet[str]:
+    def idle(self, here: Promise) -> frozenset[str]:
         """Who had promised that place."""
         return idle_of({name: holder.promise for name, holder in self.presences.items()}, here)
 
@@ -125,7 +126,7 @@ class Log(Protocol):
     def epochs(self) -> range:
         """The epochs whose rows are there. The last one is the current one."""
 
-    def opening(self, epoch: Optional[int] = None) -> Opening:
+    def opening(self, epoch: int | None = None) -> Opening:
         """What an epoch began with, also if its rows were taken away since; without a number that of the current one. Raises NoEpoch."""
 
     def take(self, name: str, life: Life, promise: Promise, ttl: int) -> bool:
@@ -153,7 +154,7 @@ class Log(Protocol):
         """The rows of that epoch behind that place, if it is the current one, and what else is found at the same moment. Who asks has read up
         to there, so a log that ends before is damaged; likewise of a read, an append and a finish."""
 
-    def wait(self, epoch: int, place: int, lives: Mapping[str, Life], until: Until, seconds: float, woken: Optional[int] = None) -> None:
+    def wait(self, epoch: int, place: int, lives: Mapping[str, Life], until: Until, seconds: float, woken: int | None = None) -> None:
         """Returns once another epoch is the current one, or rows stand behind that place, or others than these lives are present, or another
         wish or other orders stand than the last look found; or also, by `until`, once one of those present has promised that place of that epoch that
         hadn't when the last look found the log to end there, or once all have; or once the descriptor `woken` has something to read; or
@@ -165,11 +166,11 @@ class Log(Protocol):
     def cancel(self, epoch: int) -> None:
         """Nothing is wished for any more, if the epoch is the current one."""
 
-    def order(self, orders: Orders, before: Optional[Orders]) -> bool:
+    def order(self, orders: Orders, before: Orders | None) -> bool:
         """These are the orders from now on, over all epochs, if those were the ones before; if none are told, whatever they were, also if they
         can't be read. Whether they are."""
 
-    def times(self, epoch: int) -> Mapping[int, Optional[int]]:
+    def times(self, epoch: int) -> Mapping[int, int | None]:
         """When the appends of an epoch were done, by the places that they stand behind: milliseconds since 1970 by the wall clock of who
         appended; none of one of which that isn't kept."""
 
@@ -215,7 +216,7 @@ def openings_of(log: Log) -> Iterator[Opening]:
             yield log.opening(epoch)
 
 
-def idle_of(promises: Mapping[Name, object], here: object) -> FrozenSet[Name]:
+def idle_of(promises: Mapping[Name, object], here: object) -> frozenset[Name]:
     """Whose promise is this one."""
     return frozenset(name for name, promise in promises.items() if promise == here)
 
@@ -233,7 +234,7 @@ def no_epoch(where: str, epoch: int, there: range) -> NoEpoch:
     return NoEpoch(f'{where}: epoch {epoch} is not there, but ' + (f'{there[0]} to {there[-1]}' if len(there) > 1 else f'{there[0]}'))
 
 
-def opening_of(where: str, epoch: int, text: Union[str, bytes]) -> Opening:
+def opening_of(where: str, epoch: int, text: str | bytes) -> Opening:
     """The opening of an epoch, as a store has it. Raises DamagedLog."""
     try:
         opening = Opening.parse(text if isinstance(text, str) else text.decode())
@@ -244,7 +245,7 @@ def opening_of(where: str, epoch: int, text: Union[str, bytes]) -> Opening:
     return opening
 
 
-def rows_of(where: str, epoch: int, place: int, text: Union[str, bytes]) -> Rows:
+def rows_of(where: str, epoch: int, place: int, text: str | bytes) -> Rows:
     """The rows of an epoch behind that place, each with its line end, as a store has them. Raises DamagedLog."""
     try:
         rows = Rows(text if isinstance(text, str) else text.decode())
@@ -256,7 +257,7 @@ def rows_of(where: str, epoch: int, place: int, text: Union[str, bytes]) -> Rows
     return rows
 
 
-def orders_of(where: str, text: Union[None, str, bytes]) -> Orders:
+def orders_of(where: str, text: str | bytes | None) -> Orders:
     """What is ordered, as a store has it. Raises DamagedLog."""
     try:
         return Orders.parse(text.decode() if isinstance(text, bytes) else text or '')
@@ -264,7 +265,7 @@ def orders_of(where: str, text: Union[None, str, bytes]) -> Orders:
         raise DamagedLog(f'{where}: what is ordered can not be read: {fault}') from fault
 
 
-def wish_of(where: str, epoch: int, text: Union[None, str, bytes]) -> Optional[Opening]:
+def wish_of(where: str, epoch: int, text: str | bytes | None) -> Opening | None:
     """What is wished for in an epoch, as a store has it. Raises DamagedLog."""
     return None if text is None else opening_of(where, epoch + 1, text)
 
@@ -284,7 +285,7 @@ def wall_clock() -> int:
     return time.time_ns() // 1_000_000
 
 
-def slept(seconds: float, *descriptors: Optional[int]) -> List[int]:
+def slept(seconds: float, *descriptors: int | None) -> list[int]:
     """Sleeps so long, or until one of these descriptors, as far as there are any, has something to read. Which have."""
     poll = select.poll()
     for descriptor in descriptors:
@@ -306,12 +307,12 @@ class MemoryLog:
     def __init__(self, opening: Opening, clock: Callable[[], int] = nanoseconds_of_boot) -> None:
         """A log that begins so. Presences last by the clock, in whole nanoseconds."""
         self.clock = clock
-        self.leases: Dict[str, Lease] = {}
-        self.wish: Optional[Opening] = None
+        self.leases: dict[str, Lease] = {}
+        self.wish: Opening | None = None
         self.orders = Orders()
         self._openings = {opening.epoch: opening}
-        self._rows: Dict[int, List[str]] = {opening.epoch: []}
-        self._times: Dict[int, Dict[int, Optional[int]]] = {opening.epoch: {}}
+        self._rows: dict[int, list[str]] = {opening.epoch: []}
+        self._times: dict[int, dict[int, int | None]] = {opening.epoch: {}}
         self._changed = threading.Condition(threading.RLock())
         self._told = threading.local()
 
@@ -321,12 +322,12 @@ class MemoryLog:
         return max(self._rows)
 
     @property
-    def rows(self) -> List[str]:
+    def rows(self) -> list[str]:
         """Those of the current epoch."""
         return self._rows[self.epoch]
 
     @property
-    def presences(self) -> Dict[str, Holder]:
+    def presences(self) -> dict[str, Holder]:
         """Who is present now."""
         now = self.clock()
         return {name: lease.holder for name, lease in self.leases.items() if now < lease.until}
@@ -335,7 +336,7 @@ class MemoryLog:
         with self._changed:
             return range(min(self._rows), self.epoch + 1)
 
-    def opening(self, epoch: Optional[int] = None) -> Opening:
+    def opening(self, epoch: int | None = None) -> Opening:
         with self._changed:
             found = self._openings.get(self.epoch if epoch is None else epoch)
             if found is None:
@@ -409,17 +410,17 @@ class MemoryLog:
         see_end('the log', self._end(), here)
         return here == self._end() and are_idle(Until.ALL_IDLE, self._promises(), here)
 
-    def _promises(self) -> Dict[str, Promise]:
+    def _promises(self) -> dict[str, Promise]:
         return {name: holder.promise for name, holder in self.presences.items()}
 
-    def read(self, epoch: int, place: int) -> List[str]:
+    def read(self, epoch: int, place: int) -> list[str]:
         with self._changed:
             if epoch not in self._rows:
                 raise no_epoch('the log', epoch, self.epochs())
             see_end('the log', self._end(), Promise(epoch, place))
             return self._rows[epoch][place:]
 
-    def times(self, epoch: int) -> Dict[int, Optional[int]]:
+    def times(self, epoch: int) -> dict[int, int | None]:
         with self._changed:
             return dict(self._times.get(epoch, {}))
 
@@ -437,11 +438,11 @@ class MemoryLog:
             self._told.wanted, self._told.idle = found.wanted, (self._end(), found.idle(self._end()))
             return found
 
-    def wait(self, epoch: int, place: int, lives: Mapping[str, Life], until: Until, seconds: float, woken: Optional[int] = None) -> None:
+    def wait(self, epoch: int, place: int, lives: Mapping[str, Life], until: Until, seconds: float, woken: int | None = None) -> None:
         if woken is not None:  # it is looked at now and then
             seconds = 0.0 if slept(0.0, woken) else min(seconds, PART)
         end, told = self.clock() + int(seconds * SECOND), getattr(self._told, 'wanted', (None, Orders()))
-        known: Tuple[Promise, FrozenSet[str]] = getattr(self._told, 'idle', (Promise(), frozenset()))
+        known: tuple[Promise, frozenset[str]] = getattr(self._told, 'idle', (Promise(), frozenset()))
         before = known[1] if known[0] == Promise(epoch, place) else frozenset()
         with self._changed:
             while not self.has_news(epoch, place, lives, told, until, before) and self.clock() < end:
@@ -470,7 +471,7 @@ class MemoryLog:
                 self.wish = None
                 self._changed.notify_all()
 
-    def order(self, orders: Orders, before: Optional[Orders]) -> bool:
+    def order(self, orders: Orders, before: Orders | None) -> bool:
         with self._changed:
             done = before is None or before == self.orders
             if done:

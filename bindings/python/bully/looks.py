@@ -1,7 +1,7 @@
 """What a member is told of a look. While its group is paused it is told that all is as the log has it, so that it goes on, and settles nothing."""
 from __future__ import annotations
 
-from typing import Callable, Dict, Iterable, Mapping
+from collections.abc import Callable, Iterable, Mapping
 
 from .logs import Found, Holder
 from .member import Life, Presence, Promise, Seen, Until
@@ -16,7 +16,7 @@ def seen_of(found: Found, end: Promise, name: str, numbers: Mapping[str, int], i
     return Seen(found.epoch, tuple(there), is_frozen or len(there) < len(presences), found.wish is not None and not is_frozen)
 
 
-def frozen(found: Found, name: str, up: Iterable[str]) -> Dict[str, Holder]:
+def frozen(found: Found, name: str, up: Iterable[str]) -> dict[str, Holder]:
     """Who is present as the node of this name is told in a pause: those that are up in the log, who work. Its own presence is told as it is: if
     that was lost, or came in the pause, its work waits for the end of it."""
     lives = found.orders.lives or {}

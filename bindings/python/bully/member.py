@@ -7,12 +7,16 @@ nanoseconds of one clock that never goes back. A *place* in an epoch's log is ho
 from __future__ import annotations
 
 import enum
+from collections.abc import Callable, Sequence
 from dataclasses import dataclass
-from typing import Callable, Dict, List, Optional, Sequence, Tuple, Union
+from typing import Union
 
 from .faults import BullyError, NotLearned, OutOfMemory
 from .learned import Learned
-from .library import UINT16_MAX, UINT32_MAX, UINT64_MAX, RawMember, RawPresence, RawStep, line_of, number_of, owned_of, owners_of, texts_of
+from .library import (
+    UINT16_MAX, UINT32_MAX, UINT64_MAX, RawMember, RawPresence, RawStep, line_of, number_of, owned_of, owners_of,
+    texts_of,
+)  # fmt: skip
 from .values import Line, Owned
 
 TTL_MIN, TTL_MAX = 1_000_000, 86_400_000_000_000
@@ -55,7 +59,7 @@ class Opening:
     epoch: int
     node: int
     rows_max: int
-    old: Optional[Tuple[int, ...]] = None
+    old: tuple[int, ...] | None = None
 
 
 @dataclass(frozen=True)
@@ -65,7 +69,7 @@ class Seen:
     but its number counts."""
 
     epoch: int
-    presences: Tuple[Presence, ...] = ()
+    presences: tuple[Presence, ...] = ()
     has_strangers: bool = False
     is_wished: bool = False
 
@@ -191,7 +195,7 @@ class Work:
 
 _ENDINGS, _UNTILS, _WAYS, _ANSWERS = list(Ending), list(Until), list(Way), list(StoreAnswer)
 
-_STEPS: Dict[int, Callable[[RawStep], Step]] = {
+_STEPS: dict[int, Callable[[RawStep], Step]] = {
     1: lambda raw: Ask(Request(raw.request), Life(raw.process, raw.number), raw.place),
     2: lambda raw: Begin(raw.token),
     3: lambda raw: Stop(),
@@ -227,7 +231,7 @@ class Core(Learned):
         Raises BadHeader, BadNode, TableLength, TableOwner; BadRowsMax: `rows_max` is below 22 for each node, or above EVENTS_MAX; BadTtl:
         the ttl is below TTL_MIN or above TTL_MAX; OutOfMemory."""
         super().__init__()
-        self.fault: Optional[BullyError] = None  # why its log is broken, if a row wasn't learned
+        self.fault: BullyError | None = None  # why its log is broken, if a row wasn't learned
         number, length = number_of('a process', process, UINT64_MAX), number_of('a ttl', ttl, UINT64_MAX)
         self._begin('open', *self._epoch_of(opening), number, length)
 
@@ -236,7 +240,7 @@ class Core(Learned):
         return f'of node {shown.node} in epoch {shown.epoch}, {shown.place} rows'
 
     @staticmethod
-    def _epoch_of(opening: Opening) -> Tuple[object, ...]:
+    def _epoch_of(opening: Opening) -> tuple[object, ...]:
         """The arguments of the library."""
         header, owners, node = line_of(opening.header), owners_of(opening.old), number_of('a node', opening.node, UINT16_MAX)
         epoch, most = number_of('an epoch', opening.epoch, UINT32_MAX), number_of('rows_max', opening.rows_max, UINT32_MAX)
@@ -249,13 +253,13 @@ class Core(Learned):
         raw = self._filled(RawStep(), 'next', _moment(now))
         return _STEPS[raw.kind](raw)
 
-    def settlement(self) -> List[str]:
+    def settlement(self) -> list[str]:
         """The rows of an Append, without line ends: they bring the group to rest among those present, or, if the member ends, among nobody.
 
         Raises Full, if the log has no room for them; OutOfMemory."""
         return texts_of(self._room.text(self._function('settlement')))
 
-    def owned(self) -> Optional[Owned]:
+    def owned(self) -> Owned | None:
         """By which token the node may work, by a plan behind all that the life has promised, and on which partitions, if on any.
 
         Raises OutOfMemory."""
@@ -293,7 +297,7 @@ class Core(Learned):
         epoch then: none of this package does, so `Member` never calls it."""
         self._call('passed')
 
-    def followed(self, now: int, opening: Optional[Opening]) -> None:
+    def followed(self, now: int, opening: Opening | None) -> None:
         """With what the current epoch begins; none, if the member's name isn't in it. Nothing changes if no follow is awaited.
 
         Raises as `Core` does, but for BadTtl; then nothing changes."""
@@ -321,7 +325,7 @@ class Core(Learned):
     # How it stands.
 
     @property
-    def life(self) -> Union[None, Unknown, Present]:
+    def life(self) -> Unknown | Present | None:
         """Whether its process has the presence of its node."""
         shown = self._shown()
         if not shown.life:
@@ -341,13 +345,13 @@ class Core(Learned):
         return int(self._shown().promised)
 
     @property
-    def work(self) -> Optional[Work]:
+    def work(self) -> Work | None:
         """How far its work is, if there is any."""
         shown = self._shown()
         return Work(_WAYS[shown.work - 1], shown.token) if shown.work else None
 
     @property
-    def ending(self) -> Optional[Ending]:
+    def ending(self) -> Ending | None:
         """Why it ends, if it does."""
         shown = self._shown()
         return _ENDINGS[shown.ending - 1] if shown.ending else None

@@ -8,7 +8,6 @@ import queue
 import select
 import threading
 from contextlib import suppress
-from typing import Optional
 
 WAITING_MAX = 1000  # messages that wait to be written; of more the newest are left out
 LAST_SECONDS = 1.0  # for which it is waited at the end, until all are written
@@ -46,7 +45,7 @@ class Messages(logging.Handler):
     def __init__(self, formatter: logging.Formatter) -> None:
         super().__init__()
         self.setFormatter(formatter)
-        self._lines: 'queue.Queue[Optional[str]]' = queue.Queue(WAITING_MAX)
+        self._lines: queue.Queue[str | None] = queue.Queue(WAITING_MAX)
         self._left_out = 0
         self._writer = threading.Thread(target=self._write_all, name='bully messages', daemon=True)
         self._writer.start()

@@ -6,7 +6,7 @@ from __future__ import annotations
 
 import contextlib
 import ssl
-from typing import List, Optional, Sequence
+from collections.abc import Sequence
 
 from .gateway import KV_RANGE, Client, below, coded, one, pairs_of, read_address
 from .logs import DamagedLog, NoEpoch
@@ -18,7 +18,7 @@ END = 'end,'  # with which the end of an epoch begins
 PAGE = 1000  # rows that are read in one request
 
 
-def file_trace(path: str, epoch: Optional[int]) -> Optional[Sequence[str]]:
+def file_trace(path: str, epoch: int | None) -> Sequence[str] | None:
     """The trace of an epoch, or of the current one, in a file of the older form; none, if it has another one.
 
     Raises NoLog, ForeignLog, DamagedLog, NoEpoch, Unanswered."""
@@ -34,7 +34,7 @@ def file_trace(path: str, epoch: Optional[int]) -> Optional[Sequence[str]]:
     return checked(path, number, found, rows[-1][0] + 1 if rows else 0)
 
 
-def etcd_trace(address: str, epoch: Optional[int], tls: Optional[ssl.SSLContext], user: str, password: str) -> Optional[Sequence[str]]:
+def etcd_trace(address: str, epoch: int | None, tls: ssl.SSLContext | None, user: str, password: str) -> Sequence[str] | None:
     """The trace of an epoch, or of the current one, in an etcd, if the log there is of the older form; else none.
 
     Raises LogError; ValueError of an address that is none."""
@@ -52,7 +52,7 @@ def etcd_trace(address: str, epoch: Optional[int], tls: Optional[ssl.SSLContext]
 
 def read_etcd(address: str, client: Client, prefix: bytes, epoch: int) -> Sequence[str]:
     """The same, of a log of the older form."""
-    rows: List[str] = []
+    rows: list[str] = []
     while True:
         client.begin()
         begin, end = prefix + b'%010d' % len(rows), prefix + b'%010d' % (len(rows) + PAGE)
@@ -62,7 +62,7 @@ def read_etcd(address: str, client: Client, prefix: bytes, epoch: int) -> Sequen
             return checked(address, epoch, rows, int(found[-1].key[-10:]) + 1 if found else len(rows))
 
 
-def checked(where: str, epoch: int, rows: List[str], count: int) -> Sequence[str]:
+def checked(where: str, epoch: int, rows: list[str], count: int) -> Sequence[str]:
     """The rows of a trace, if they are there, and so many."""
     if not rows:
         raise NoEpoch(f'{where}: epoch {epoch} is not there')

@@ -2,8 +2,8 @@
 from __future__ import annotations
 
 import time
+from collections.abc import Callable
 from dataclasses import replace
-from typing import Callable
 
 from .epochs import Opening
 from .logs import Found, Log, Unanswered, found_in, seconds_of_boot

@@ -5,8 +5,9 @@ A drained node takes no part. While a group is paused who works goes on, and nob
 from __future__ import annotations
 
 import json
+from collections.abc import Mapping, Set as AbstractSet
 from dataclasses import dataclass, replace
-from typing import AbstractSet, Any, Dict, FrozenSet, Mapping, Optional
+from typing import Any
 
 from .member import Life
 
@@ -15,8 +16,8 @@ from .member import Life
 class Orders:
     """The names of nodes that are drained; and who was present when the group was paused, if it is."""
 
-    drained: FrozenSet[str] = frozenset()
-    lives: Optional[Mapping[str, Life]] = None
+    drained: frozenset[str] = frozenset()
+    lives: Mapping[str, Life] | None = None
 
     @staticmethod
     def parse(text: str) -> Orders:
@@ -27,7 +28,7 @@ class Orders:
 
     def text(self) -> str:
         """The same as JSON, for a store; nothing, if there are none."""
-        told: Dict[str, Any] = {'drained': sorted(self.drained)}
+        told: dict[str, Any] = {'drained': sorted(self.drained)}
         if self.lives is not None:
             told['paused'] = {name: [life.process, life.number] for name, life in sorted(self.lives.items())}
         return '' if self == Orders() else json.dumps(told, ensure_ascii=False)

@@ -11,9 +11,10 @@ import socket
 import sys
 import threading
 import time
-from http.server import BaseHTTPRequestHandler, ThreadingHTTPServer
+from collections.abc import Callable
 from contextlib import suppress
-from typing import Any, Callable, Dict, List, Optional, Tuple, Union
+from http.server import BaseHTTPRequestHandler, ThreadingHTTPServer
+from typing import Any
 from urllib.parse import parse_qs, urlsplit
 
 from .faults import BullyError
@@ -67,7 +68,7 @@ follow();
 SCRIPT_SUM = base64.b64encode(hashlib.sha256(SCRIPT.encode()).digest()).decode()
 POLICY = f"default-src 'none'; style-src 'unsafe-inline'; script-src 'sha256-{SCRIPT_SUM}'; connect-src 'self'; frame-ancestors 'none'"
 
-Answer = Tuple[int, str, str]  # the status, the kind and the text
+Answer = tuple[int, str, str]  # the status, the kind and the text
 
 
 def page_of(name: str, group: GroupView, told_worker: str) -> str:
@@ -124,9 +125,9 @@ def label(text: str) -> str:
 
 def metrics_of(group: GroupView, name: str, sure_seconds: float, workers: Workers) -> str:
     """The group and the member, for Prometheus."""
-    lines: List[str] = []
+    lines: list[str] = []
 
-    def tell(metric: str, kind: str, told: str, values: List[Tuple[str, float]]) -> None:
+    def tell(metric: str, kind: str, told: str, values: list[tuple[str, float]]) -> None:
         lines.extend([f'# HELP {metric} {told}', f'# TYPE {metric} {kind}'])
         lines.extend(f'{metric}{labels} {value:{"d" if isinstance(value, int) else ".3f"}}' for labels, value in values)
 
@@ -152,7 +153,7 @@ def metrics_of(group: GroupView, name: str, sure_seconds: float, workers: Worker
     return '\n'.join(lines) + '\n'
 
 
-def number_of(asked: Dict[str, List[str]], name: str) -> Optional[int]:
+def number_of(asked: dict[str, list[str]], name: str) -> int | None:
     """The number that a query has by this name, if it has one of less than 10 digits."""
     word = asked.get(name, [''])[0]
     return int(word) if word.isdecimal() and len(word) < 10 else None
@@ -163,8 +164,8 @@ class Reader:
 
     def __init__(self, view: LogView) -> None:
         self._view, self._lock = view, threading.Lock()
-        self._known: Optional[GroupView] = None
-        self._last: Union[GroupView, LogError, BullyError] = LogError('nobody has looked yet')
+        self._known: GroupView | None = None
+        self._last: GroupView | LogError | BullyError = LogError('nobody has looked yet')
         self._next = 0.0  # when it looks again
 
     def show(self) -> GroupView:
@@ -198,9 +199,9 @@ class Server(ThreadingHTTPServer):
     block_on_close = False
     request_queue_size = CONNECTIONS_MAX
 
-    def __init__(self, address: Tuple[str, int], handler: Callable[..., BaseHTTPRequestHandler]) -> None:
+    def __init__(self, address: tuple[str, int], handler: Callable[..., BaseHTTPRequestHandler]) -> None:
         self.address_family = socket.AF_INET6 if ':' in address[0] else socket.AF_INET
-        self._open: Dict[Any, bool] = {}  # connections, the oldest first, and whether they have asked
+        self._open: dict[Any, bool] = {}  # connections, the oldest first, and whether they have asked
         self._lock = threading.Lock()
         super().__init__(address, handler)
 
@@ -238,7 +239,7 @@ class Server(ThreadingHTTPServer):
 class Page:
     """The server of a member."""
 
-    def __init__(self, address: Tuple[str, int], view: LogView, member: Member, workers: Workers) -> None:
+    def __init__(self, address: tuple[str, int], view: LogView, member: Member, workers: Workers) -> None:
         """It listens at this address from now on. An OSError tells that it can't."""
         self._reader = Reader(view)
         self._member, self._workers = member, workers
@@ -296,7 +297,7 @@ class Page:
             return 200, 'text/plain', 'drained\n'
         return (200, 'text/plain', 'present\n') if self._sure_seconds() > 0 else (503, 'text/plain', 'not present\n')
 
-    def _waited(self, events: int, epoch: Optional[int]) -> bool:
+    def _waited(self, events: int, epoch: int | None) -> bool:
         """Waits for more events than these of this epoch, or else of the one that is current now. Those of another one are more. Or too many wait."""
         if not self._polls.acquire(blocking=False):
             return False
@@ -313,10 +314,10 @@ class Page:
     def _sure_seconds(self) -> float:
         return max(0.0, self._member.sure_until - seconds_of_boot())
 
-    def _assignment(self, group: GroupView) -> Dict[str, Any]:
+    def _assignment(self, group: GroupView) -> dict[str, Any]:
         """What the member owns now."""
         owned = self._member.assignment()
-        told: Dict[str, Any] = {
+        told: dict[str, Any] = {
             'node': self._member.name, 'epoch': group.epoch, 'events': group.events, 'token': None, 'coordinator': None, 'partitions': [],
         }  # fmt: skip
         if owned is not None:
@@ -347,7 +348,7 @@ class PageHandler(BaseHTTPRequestHandler):
 
     do_POST = do_PUT = do_DELETE = do_PATCH = do_OPTIONS = do_HEAD = do_TRACE = do_CONNECT = refuse
 
-    def send(self, status: int, kind: str, text: str, *headers: Tuple[str, str]) -> None:
+    def send(self, status: int, kind: str, text: str, *headers: tuple[str, str]) -> None:
         content = text.encode('utf-8', 'replace')
         told = [
             ('Content-Type', kind if 'version' in kind else f'{kind}; charset=utf-8'), ('Content-Length', str(len(content))),

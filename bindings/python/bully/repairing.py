@@ -4,7 +4,8 @@ What is lawful stays, and what stands behind that is cut. The epoch ends there, 
 """
 from __future__ import annotations
 
-from typing import List, NamedTuple, Optional, Protocol, Sequence, Tuple
+from collections.abc import Sequence
+from typing import NamedTuple, Protocol
 
 from .epochs import Opening
 from .faults import NotLearned
@@ -21,7 +22,7 @@ class Kept(NamedTuple):
     """What a store has of the current epoch, whatever it is: where its log ends, and the appends, by the places that they stand behind."""
 
     end: Promise
-    appends: Sequence[Tuple[int, bytes]]
+    appends: Sequence[tuple[int, bytes]]
 
 
 class Repairable(Log, Protocol):
@@ -52,7 +53,7 @@ class Damage(NamedTuple):
         return f'epoch {self.end.epoch}, place {self.place}: {self.why}; {cut}'
 
 
-def damage_of(log: Repairable) -> Optional[Damage]:
+def damage_of(log: Repairable) -> Damage | None:
     """What is wrong with the rows of the log, if anything is. Raises DamagedLog, if not even its opening can be read."""
     opening, kept = log.opening(), log.kept()
     count = whole(kept.appends)
@@ -73,12 +74,12 @@ def damage_of(log: Repairable) -> Optional[Damage]:
     return Damage(why, kept.end, place, cut, append, ''.join(f'{row}\n' for row in rows[append:]), after)
 
 
-def lines_of(text: bytes) -> List[str]:
+def lines_of(text: bytes) -> list[str]:
     """What stands in an append, also if that is no text."""
     return text.decode(errors='replace').split('\n')[:-1]
 
 
-def whole(appends: Sequence[Tuple[int, bytes]]) -> int:
+def whole(appends: Sequence[tuple[int, bytes]]) -> int:
     """How many of these stand one behind the other, from the begin of the log on."""
     end = 0
     for count, (begin, text) in enumerate(appends):
@@ -88,7 +89,7 @@ def whole(appends: Sequence[Tuple[int, bytes]]) -> int:
     return len(appends)
 
 
-def rows_there(rows: List[str]) -> Tuple[List[str], str]:
+def rows_there(rows: list[str]) -> tuple[list[str], str]:
     """The rows up to the first one that is none, and why that is none."""
     bad = next((place for place, row in enumerate(rows) if not row or '\r' in row), None)
     return (rows, '') if bad is None else (rows[:bad], f'{rows[bad]!r} is no row')

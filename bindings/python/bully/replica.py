@@ -2,10 +2,12 @@
 from __future__ import annotations
 
 import ctypes
-from typing import Iterable, List, Optional, Tuple
+from collections.abc import Iterable
 
 from .learned import Learned
-from .library import UINT32_MAX, call_of, line_of, list_of, node_of, number_of, numbers_of, owned_of, owners_of, texts_of
+from .library import (
+    UINT32_MAX, call_of, line_of, list_of, node_of, number_of, numbers_of, owned_of, owners_of, texts_of,
+)  # fmt: skip
 from .values import Call, Event, Line, Owned, Status, Want
 
 
@@ -48,7 +50,7 @@ class Replica(Learned):
 
     # Rows to append. Nothing changes by these.
 
-    def next(self, node: int) -> Optional[str]:
+    def next(self, node: int) -> str | None:
         """The row that the node appends next by itself, without its line end; none if it rests. If it isn't Down, it first runs
         the call of the lowest caller that waits for it. Else its procedure takes a step, and a table is planned with the fewest
         moves from that of the last plan.
@@ -85,7 +87,7 @@ class Replica(Learned):
 
     # Who works, and how a group comes to rest. Nothing changes by these.
 
-    def settle(self, present: Iterable[int], old: Optional[Iterable[int]] = None) -> List[str]:
+    def settle(self, present: Iterable[int], old: Iterable[int] | None = None) -> list[str]:
         """The rows that bring the group to rest among the nodes that are present, in any order, without line ends. They are to be
         appended behind exactly the rows that were learned, with nothing between, and by one process alone. With nobody present all
         crash; else the highest is elected, and plans, from the last plan's table. If the log has no plan, it plans from the old table, the
@@ -102,7 +104,7 @@ class Replica(Learned):
         nodes, at = numbers_of('a node', present), number_of('a place', place, UINT32_MAX)
         return bool(self._filled(ctypes.c_uint32(), 'is_at_rest', *nodes, at).value)
 
-    def owned(self, node: int, place: int = 0) -> Optional[Owned]:
+    def owned(self, node: int, place: int = 0) -> Owned | None:
         """By which token the node's process may work behind so many events, and on which partitions, if on any: the node is Normal, and
         the last plan's token is above this place.
 
@@ -115,19 +117,19 @@ class Replica(Learned):
         """The node's status."""
         return Status(self._show(node).status)
 
-    def coordinator(self, node: int) -> Optional[int]:
+    def coordinator(self, node: int) -> int | None:
         """The node's coordinator, if it has one."""
         return self._show(node).coordinator or None
 
-    def halter(self, node: int) -> Optional[int]:
+    def halter(self, node: int) -> int | None:
         """The node that halted it last, if any."""
         return self._show(node).halter or None
 
-    def up(self, node: int) -> Tuple[int, ...]:
+    def up(self, node: int) -> tuple[int, ...]:
         """The lower nodes that answered the node's halts, rising."""
         return list_of(self._nodes, self._function('up'), node_of(node))
 
-    def task(self, node: int) -> Optional[Tuple[int, ...]]:
+    def task(self, node: int) -> tuple[int, ...] | None:
         """The owner of each partition in the node's task, if it has one."""
         return list_of(self._partitions, self._function('task'), node_of(node)) or None
 
@@ -135,7 +137,7 @@ class Replica(Learned):
         """What the node's procedure wants to do next."""
         return Want(self._show(node).wants)
 
-    def call(self, node: int) -> Optional[Call]:
+    def call(self, node: int) -> Call | None:
         """The call that the node has under way, if any."""
         return call_of(self._show(node))
 

@@ -9,7 +9,6 @@ import dataclasses
 import logging
 import secrets
 import threading
-from typing import Optional
 
 from .epochs import Opening
 from .logs import SECOND, Log, LogError, Unanswered, found_in, seconds_of_boot, slept
@@ -47,7 +46,7 @@ def resize(log: Log, settings: Settings, seconds: float) -> Opening:
                 return opening
 
 
-def resized(log: Log, settings: Settings, end: float) -> Optional[Opening]:
+def resized(log: Log, settings: Settings, end: float) -> Opening | None:
     """The opening of the epoch that has these settings; nothing, if that is to be looked for again."""
     opening, found = log.opening(), found_in(log)
     if opening.is_of(settings):

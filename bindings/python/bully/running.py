@@ -7,16 +7,21 @@ import queue
 import secrets
 import socket
 import threading
+from collections.abc import Callable
 from contextlib import ExitStack, suppress
 from dataclasses import dataclass, field
-from typing import Callable, List, Optional, Tuple, TypeVar, Union
+from typing import TypeVar
 
 from .asks import Asker
 from .epochs import Opening, Token
-from .logs import SECOND, DamagedLog, Found, Log, Unanswered, found_in, nanoseconds_of_boot, openings_of, seconds_of_boot, slept
+from .logs import (
+    SECOND, DamagedLog, Found, Log, Unanswered, found_in, nanoseconds_of_boot, openings_of, seconds_of_boot, slept,
+)  # fmt: skip
 from .looks import awaited, seen_of
-from .member import Ask, Begin, Core, End, Ending, Life, Promise, Request, Rest, Seen, Step, Stop, StoreAnswer, Until, Wait
-from .member import Opening as Terms
+from .member import (
+    Ask, Begin, Core, End, Ending, Life, Opening as Terms, Promise, Request, Rest, Seen, Step, Stop, StoreAnswer, Until,
+    Wait,
+)  # fmt: skip
 from .settings import Settings, shown_name
 from .values import Status
 from .view import Behind
@@ -34,13 +39,13 @@ class Assignment:
 
     token: Token
     coordinator: int
-    partitions: Tuple[int, ...]
+    partitions: tuple[int, ...]
     settings: Settings
     until: float = field(default=float('-inf'), compare=False)
 
 
 Callback = Callable[[Assignment], None]
-Call = Tuple[bool, Assignment]  # whether to stop
+Call = tuple[bool, Assignment]  # whether to stop
 _Told = TypeVar('_Told')
 _told = logging.getLogger('bully')
 
@@ -60,7 +65,7 @@ def is_known(log: Log, settings: Settings) -> bool:
     return is_wished or any(opening.is_of(settings) for opening in openings_of(log))
 
 
-def number_of(opening: Opening, node: Union[int, str]) -> int:
+def number_of(opening: Opening, node: int | str) -> int:
     """The number of this node, by its name or its number. Raises NotInGroup, if none has that name."""
     if isinstance(node, int):
         return node
@@ -87,8 +92,8 @@ class Member:
     """
 
     def __init__(
-        self, log: Log, node: Union[int, str], start: Callback, stop: Callback, ttl: float = 5.0, settings: Optional[Settings] = None,
-        sure: Optional[Callable[[float], None]] = None,
+        self, log: Log, node: int | str, start: Callback, stop: Callback, ttl: float = 5.0, settings: Settings | None = None,
+        sure: Callable[[float], None] | None = None,
     ) -> None:  # fmt: skip
         """A member of the log's group, for the node of this name, or of this number in the current epoch. If the group's settings
         change, it goes on by the name; `run` returns, if the group has no such node any more. With `settings`, which may be those of an
@@ -101,8 +106,8 @@ class Member:
         if settings is not None and not is_known(log, settings):
             raise OtherGroup(f'the log is of another group: {opening.header} of {", ".join(opening.names)}')
         self.ttl, self.margin = ttl, ttl / 5
-        self._other: Optional[Life] = None  # which life of another process was found last for its node
-        self.failure: Optional[BaseException] = None
+        self._other: Life | None = None  # which life of another process was found last for its node
+        self.failure: BaseException | None = None
         self.behind = Behind()
         self._take_part(opening, number_of(opening, node))
         self.name = opening.names[self.core.node - 1]
@@ -110,15 +115,15 @@ class Member:
         self._start_work, self._stop_work, self._sure = start, stop, sure
         self._is_leaving = False
         self._is_stuck = False  # whether work may go on for good
-        self._work: Optional[Assignment] = None
+        self._work: Assignment | None = None
         self._is_stopping = False
-        self._to_call: 'queue.SimpleQueue[Optional[Call]]' = queue.SimpleQueue()
-        self._stopped: List[Assignment] = []
-        self._lost: List[Assignment] = []
-        self._wakes: Optional[socket.socket] = None  # while it runs
+        self._to_call: queue.SimpleQueue[Call | None] = queue.SimpleQueue()
+        self._stopped: list[Assignment] = []
+        self._lost: list[Assignment] = []
+        self._wakes: socket.socket | None = None  # while it runs
         self._ended = threading.Event()
         self._ended.set()
-        self._shown: Tuple[Optional[Assignment], float] = (None, 0.0)
+        self._shown: tuple[Assignment | None, float] = (None, 0.0)
         self.stepped = 0.0  # when it took its last step, by `logs.seconds_of_boot`
 
     def _take_part(self, opening: Opening, number: int) -> None:
@@ -135,7 +140,7 @@ class Member:
 
     # What others may call, from any thread.
 
-    def assignment(self) -> Optional[Assignment]:
+    def assignment(self) -> Assignment | None:
         """What the node owns, and until when that is sure; nothing, if that isn't sure now, or has to be stopped."""
         work, until = self._shown
         return dataclasses.replace(work, until=until) if work is not None and seconds_of_boot() < until else None
@@ -204,7 +209,7 @@ class Member:
         if self.failure is not None:
             raise self.failure
 
-    def __enter__(self) -> 'Member':
+    def __enter__(self) -> Member:
         return self
 
     def __exit__(self, *error: object) -> None:
@@ -247,7 +252,7 @@ class Member:
             self.stepped = seconds_of_boot()
         return False
 
-    def _undrained(self) -> Optional[Opening]:
+    def _undrained(self) -> Opening | None:
         """With what the current epoch began, if its node isn't drained. Raises NotInGroup."""
         opening = self.log.opening()
         number_of(opening, self.name)
@@ -339,7 +344,7 @@ class Member:
     def _is_up(self, number: int) -> bool:
         return self.core.state(number).status is not Status.DOWN
 
-    def _see_other(self, life: Optional[Life]) -> None:
+    def _see_other(self, life: Life | None) -> None:
         """Which life has the presence of its node: that it is one of another process is said once."""
         if life is not None and life.process != self._process and life != self._other:
             self._other = life
@@ -354,7 +359,7 @@ class Member:
             self._enter(opening)
             _told.info('node %s: goes on in epoch %d as number %d', shown_name(self.name), opening.epoch, self.node)
 
-    def _answer(self, call: Callable[[], _Told]) -> Optional[_Told]:
+    def _answer(self, call: Callable[[], _Told]) -> _Told | None:
         """What the log answers; None, if it doesn't."""
         try:
             return call()

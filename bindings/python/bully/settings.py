@@ -2,8 +2,9 @@
 from __future__ import annotations
 
 import json
+from collections.abc import Iterator
 from dataclasses import dataclass
-from typing import Any, Dict, Iterator, List, Optional, Tuple
+from typing import Any
 
 from .group import Setup
 
@@ -14,7 +15,7 @@ class ConfigFault(Exception):
     """A configuration's first fault."""
 
 
-def shown_name(name: Optional[str]) -> str:
+def shown_name(name: str | None) -> str:
     """A name for a terminal: what can't be printed, and marks of direction, are shown as `?`."""
     return ''.join(each if each.isprintable() else '?' for each in name or '-')
 
@@ -24,7 +25,7 @@ class Settings:
     """A group, with the names of its nodes."""
 
     setup: Setup
-    names: Tuple[str, ...]
+    names: tuple[str, ...]
 
     def number(self, name: str) -> int:
         """The node of this name. Raises a KeyError."""
@@ -72,7 +73,7 @@ def read_settings(text: bytes) -> Settings:
     return Settings(setup, tuple(told['names']))
 
 
-def parsed(text: bytes) -> Dict[str, Any]:
+def parsed(text: bytes) -> dict[str, Any]:
     """The document. The standard library reads TOML from Python 3.11 on."""
     try:
         import tomllib
@@ -87,7 +88,7 @@ def parsed(text: bytes) -> Dict[str, Any]:
     return told
 
 
-def integers(value: object) -> List[int]:
+def integers(value: object) -> list[int]:
     """All integers that the value has in it."""
     if isinstance(value, dict):
         return [number for each in value.values() for number in integers(each)]
@@ -103,7 +104,7 @@ def is_kind(value: object, key: Key) -> bool:
     return are_kind and type(value) is key.kind
 
 
-def faults_in(told: Dict[str, Any]) -> Iterator[str]:
+def faults_in(told: dict[str, Any]) -> Iterator[str]:
     """The faults, in the order of docs/FORMATS.md. None is looked for before the ones before it were handed out."""
     faults = told.get('fault', [])
     tables = [(told, TOP), *((fault, FAULT) for fault in faults)] if is_kind(faults, TOP[-1]) else [(told, TOP)]
@@ -119,7 +120,7 @@ def faults_in(told: Dict[str, Any]) -> Iterator[str]:
         yield 'UnknownKey'
 
 
-def is_in_range(told: Dict[str, Any], key: Key) -> bool:
+def is_in_range(told: dict[str, Any], key: Key) -> bool:
     """Whether the value of the key at the top is in its range."""
     value = told[key.name]
     if key.name in ('names', 'weights'):

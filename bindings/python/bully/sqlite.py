@@ -10,16 +10,18 @@ import re
 import sqlite3
 import stat
 import time
+from collections.abc import Iterator, Mapping, Sequence
 from contextlib import closing, contextmanager, suppress
 from pathlib import Path
-from typing import Dict, FrozenSet, Iterator, List, Mapping, NamedTuple, Optional, Sequence, Tuple, Union
+from typing import NamedTuple
 from urllib.parse import quote
 
 from .epochs import Opening
 from .guard import is_stopped, writer_of
 from .logs import (
-    BY_HISTORY, SECOND, BadPresence, DamagedLog, DiskFull, ForeignLog, Found, Holder, LogBusy, LogExists, NoLog, OtherLog, ReadOnlyLog, Unanswered,
-    are_idle, log_name, nanoseconds_of_boot, no_epoch, opening_of, orders_of, rows_of, rows_text, see_end, slept, wall_clock, wish_of,
+    BY_HISTORY, SECOND, BadPresence, DamagedLog, DiskFull, ForeignLog, Found, Holder, LogBusy, LogExists, NoLog,
+    OtherLog, ReadOnlyLog, Unanswered, are_idle, log_name, nanoseconds_of_boot, no_epoch, opening_of, orders_of,
+    rows_of, rows_text, see_end, slept, wall_clock, wish_of,
 )  # fmt: skip
 from .member import Life, Promise, Until
 from .orders import Orders
@@ -78,7 +80,7 @@ def remove(path: str) -> None:
             os.remove(path + end)
 
 
-def identity(path: str) -> Tuple[int, int]:
+def identity(path: str) -> tuple[int, int]:
     """Which file this is, whatever its name. Raises NoLog, ForeignLog."""
     try:
         found = os.stat(path)
@@ -89,7 +91,7 @@ def identity(path: str) -> Tuple[int, int]:
     return found.st_dev, found.st_ino
 
 
-def beside(path: str) -> List[Tuple[int, int]]:
+def beside(path: str) -> list[tuple[int, int]]:
     """Which files are beside this one while it is used, as far as they are there."""
     found = []
     for end in ('-wal', '-shm'):
@@ -170,36 +172,36 @@ class Standing(NamedTuple):
     """How a log stands: its end, and what is wished for and ordered; its name, and which boot has used it last; and the counts of changes."""
 
     end: Promise
-    wish: Optional[str]
+    wish: str | None
     orders: str
     name: str
-    boot: Optional[str]
+    boot: str | None
     lives: int
     promises: int
 
     @property
-    def wanted(self) -> Tuple[Optional[str], str]:
+    def wanted(self) -> tuple[str | None, str]:
         return self.wish, self.orders
 
 
 class SqliteLog:
     """A log in a file of SQLite: no file of a network. One thread at a time uses it, and no process that this one forks."""
 
-    def __init__(self, path: 'os.PathLike[str] | str', patience: float = 1.0, reads: bool = False) -> None:
+    def __init__(self, path: os.PathLike[str] | str, patience: float = 1.0, reads: bool = False) -> None:
         """The log of this file, which `create` made. Each call waits this many seconds for others at most. Who only reads waits for nobody.
 
         Raises NoLog, ForeignLog, DamagedLog, ReadOnlyLog, Unanswered."""
         self.path = os.fspath(path)
         self._identity = identity(self.path)
         self._real = os.path.realpath(self.path)  # beside which the others are, also if the path is a symbolic link
-        self._beside: Optional[List[Tuple[int, int]]] = None  # once it is used
+        self._beside: list[tuple[int, int]] | None = None  # once it is used
         see_alone(self.path)
         self._boot = boot_name()
         self._sight = 0  # when it is to be looked again which files are there
         self._name = ''  # of the log, once it is known
-        self._told: Dict[str, Life] = {}  # who was present when that was looked at last
-        self._told_wanted: Tuple[Optional[str], str] = None, ''
-        self._told_idle: Tuple[Promise, FrozenSet[str]] = (Promise(), frozenset())
+        self._told: dict[str, Life] = {}  # who was present when that was looked at last
+        self._told_wanted: tuple[str | None, str] = None, ''
+        self._told_idle: tuple[Promise, frozenset[str]] = (Promise(), frozenset())
         self._lives = -1  # the count of changes then
         self._earliest = 0  # before then none of these presences ends
         self._version = self._promises = -1  # of what a wait saw last
@@ -213,7 +215,7 @@ class SqliteLog:
             raise
 
     @staticmethod
-    def create(path: 'os.PathLike[str] | str', opening: Opening) -> 'SqliteLog':
+    def create(path: os.PathLike[str] | str, opening: Opening) -> SqliteLog:
         """Makes the file, with a log that begins so. The log. Raises LogExists, ReadOnlyLog, DiskFull, Unanswered."""
         name = os.fspath(path)
         room = f'{name}.{log_name()}.new'  # processes of two containers may have one number
@@ -250,7 +252,7 @@ class SqliteLog:
             first = self._one('select coalesce(min(epoch), 0) from epochs where count is not null')
             return range(first, self._standing().end.epoch + 1)
 
-    def opening(self, epoch: Optional[int] = None) -> Opening:
+    def opening(self, epoch: int | None = None) -> Opening:
         with calls(self.path):
             number = self._standing().end.epoch if epoch is None else epoch
             found = self._file.execute('select opening from epochs where epoch = ?', (number,)).fetchone()
@@ -279,7 +281,7 @@ class SqliteLog:
         with self._syncing():
             self._file.execute('update epochs set wish = null where epoch = ?', (epoch,))
 
-    def order(self, orders: Orders, before: Optional[Orders]) -> bool:
+    def order(self, orders: Orders, before: Orders | None) -> bool:
         with self._syncing() as standing:
             if before is not None and before != orders_of(self.path, standing.orders):
                 return False
@@ -344,7 +346,7 @@ class SqliteLog:
             self._file.execute('update changes set promises = promises + 1')
         return True
 
-    def _promised(self, name: str, life: Life, now: int) -> Optional[Promise]:
+    def _promised(self, name: str, life: Life, now: int) -> Promise | None:
         """What the life has promised that holds the presence of this name, if that is this one."""
         asked = 'select epoch, place from presence where name = ? and life = ? and boot = ? and until > ?'
         found = self._file.execute(asked, (name, life_text(life), self._boot, now)).fetchone()
@@ -387,7 +389,7 @@ class SqliteLog:
             see_end(self.path, standing.end, Promise(epoch, place))
             return self._rows(epoch, place, found[0])
 
-    def times(self, epoch: int) -> Dict[int, Optional[int]]:
+    def times(self, epoch: int) -> dict[int, int | None]:
         with calls(self.path):
             return dict(self._file.execute('select place, time from log where epoch = ?', (epoch,)).fetchall())
 
@@ -431,7 +433,7 @@ class SqliteLog:
         self._told_wanted, self._told_idle = standing.wanted, (end, found.idle(end))
         return found
 
-    def _look_around(self, standing: Standing) -> Dict[str, Holder]:
+    def _look_around(self, standing: Standing) -> dict[str, Holder]:
         """Who is present. It is noted."""
         asked = 'select name, life, epoch, place, until from presence where boot = ? and until > ?'
         found = self._file.execute(asked, (self._boot, nanoseconds_of_boot())).fetchall()
@@ -440,7 +442,7 @@ class SqliteLog:
         self._lives, self._earliest = standing.lives, min((until for *_, until in found), default=NEVER)
         return presences
 
-    def wait(self, epoch: int, place: int, lives: Mapping[str, Life], until: Until, seconds: float, woken: Optional[int] = None) -> None:
+    def wait(self, epoch: int, place: int, lives: Mapping[str, Life], until: Until, seconds: float, woken: int | None = None) -> None:
         """If the time is over without news, the next wait goes on at the pace of this one: else what comes is often soon followed by more."""
         end = nanoseconds_of_boot() + int(seconds * SECOND)
         self._version = self._promises = -1
@@ -489,7 +491,7 @@ class SqliteLog:
             raise ForeignLog(f'{self.path}: {OTHER_BOOT}')
         return standing
 
-    def _one(self, asked: str, *arguments: Union[int, str]) -> int:
+    def _one(self, asked: str, *arguments: int | str) -> int:
         return int(self._file.execute(asked, arguments).fetchone()[0])
 
     @contextmanager

@@ -2,8 +2,9 @@
 from __future__ import annotations
 
 import enum
+from collections.abc import Sequence
 from dataclasses import dataclass
-from typing import List, NamedTuple, Optional, Sequence, Tuple, Type, Union, overload
+from typing import NamedTuple, Union, overload
 
 from .faults import BullyError
 
@@ -21,8 +22,8 @@ class Rows(Sequence[str]):
     def __init__(self, text: str) -> None:
         """The rows of this text, each with its line end."""
         self.text = text
-        self._count: Optional[int] = None
-        self._cut: Optional[List[str]] = None
+        self._count: int | None = None
+        self._cut: list[str] | None = None
 
     def __len__(self) -> int:
         if self._count is None:
@@ -33,14 +34,14 @@ class Rows(Sequence[str]):
     def __getitem__(self, index: int) -> str: ...
 
     @overload
-    def __getitem__(self, index: slice) -> List[str]: ...
+    def __getitem__(self, index: slice) -> list[str]: ...
 
-    def __getitem__(self, index: Union[int, slice]) -> Union[str, List[str]]:
+    def __getitem__(self, index: int | slice) -> str | list[str]:
         if self._cut is None:
             self._cut = self.text.split('\n')[:-1]
         return self._cut[index]
 
-    def behind(self, count: int) -> 'Rows':
+    def behind(self, count: int) -> Rows:
         """The rows behind the first ones, so many."""
         behind = Rows(self.text.split('\n', count)[-1] if count else self.text)
         behind._count = max(len(self) - count, 0)
@@ -97,7 +98,7 @@ class Verdict:
 
     kind: VerdictKind
     number: int
-    cause: Optional[Type[BullyError]] = None
+    cause: type[BullyError] | None = None
 
     @property
     def is_lawful(self) -> bool:
@@ -112,7 +113,7 @@ class Verdict:
 class TablePlan(NamedTuple):
     """A planned table: the owner of each partition, and how many partitions change theirs."""
 
-    owners: Tuple[int, ...]
+    owners: tuple[int, ...]
     moves: int
 
 
@@ -131,10 +132,10 @@ class State(NamedTuple):
 
     node: int
     status: Status
-    coordinator: Optional[int]
-    halter: Optional[int]
+    coordinator: int | None
+    halter: int | None
     wants: Want
-    call: Optional[Call]
+    call: Call | None
     generation: int
 
 
@@ -149,4 +150,4 @@ class Owned(NamedTuple):
     being 0. There is one at least."""
 
     token: int
-    partitions: Tuple[int, ...]
+    partitions: tuple[int, ...]

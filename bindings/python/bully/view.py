@@ -3,8 +3,9 @@ from __future__ import annotations
 
 import collections
 import threading
+from collections.abc import Mapping
 from dataclasses import dataclass
-from typing import Any, Deque, Dict, List, Mapping, Optional, Tuple
+from typing import Any, Deque
 
 from .epochs import SETTLEMENT, Token
 from .logs import Found, Holder, Log, seconds_of_boot
@@ -21,9 +22,9 @@ class Behind:
 
     def __init__(self) -> None:
         self._end = Promise()
-        self._since: Dict[Tuple[str, Life], float] = {}
+        self._since: dict[tuple[str, Life], float] = {}
 
-    def see(self, end: Promise, presences: Mapping[str, Holder], rests: bool) -> Dict[str, float]:
+    def see(self, end: Promise, presences: Mapping[str, Holder], rests: bool) -> dict[str, float]:
         """What a look found, and whether the group is at rest. For how many seconds each of these has kept the others waiting."""
         before, now = self._since if end == self._end else {}, seconds_of_boot()
         late = [(name, holder.life) for name, holder in presences.items() if holder.promise != end and not rests]
@@ -39,17 +40,17 @@ class NodeView:
     node: int
     name: str
     status: Status
-    coordinator: Optional[str]
+    coordinator: str | None
     is_present: bool
     is_drained: bool
-    partitions: Tuple[int, ...]
+    partitions: tuple[int, ...]
 
     @property
     def told_present(self) -> str:
         """Whether it is present, and drained, for people."""
         return ('yes' if self.is_present else 'no') + (', drained' if self.is_drained else '')
 
-    def told(self) -> Dict[str, Any]:
+    def told(self) -> dict[str, Any]:
         """The same for JSON."""
         return {
             'node': self.node, 'name': self.name, 'status': str(self.status), 'coordinator': self.coordinator,
@@ -64,14 +65,14 @@ class GroupView:
     epoch: int
     rows: int
     events: int
-    token: Optional[Token]
-    coordinator: Optional[str]  # of the nodes that are Normal
-    owners: Tuple[Optional[str], ...]  # of the partitions; none, while nobody may work on one
-    nodes: Tuple[NodeView, ...]
+    token: Token | None
+    coordinator: str | None  # of the nodes that are Normal
+    owners: tuple[str | None, ...]  # of the partitions; none, while nobody may work on one
+    nodes: tuple[NodeView, ...]
     is_at_rest: bool  # whether nothing is to be done but to work
     is_paused: bool
-    behind: Dict[str, float]  # who isn't idle up to the end of the log, though the group isn't at rest, and for how many seconds
-    last: Tuple[Tuple[int, str], ...]  # the last rows, with their numbers in the trace
+    behind: dict[str, float]  # who isn't idle up to the end of the log, though the group isn't at rest, and for how many seconds
+    last: tuple[tuple[int, str], ...]  # the last rows, with their numbers in the trace
 
     @property
     def is_well(self) -> bool:
@@ -84,7 +85,7 @@ class GroupView:
         told = ', '.join(f'{shown_name(name)} for {seconds:.1f} s' for name, seconds in self.behind.items())
         return ('; paused: who works goes on, and nobody settles' if self.is_paused else '') + (f'; not idle yet: {told}' if told else '')
 
-    def told(self) -> Dict[str, Any]:
+    def told(self) -> dict[str, Any]:
         """The same for JSON."""
         return {
             'epoch': self.epoch, 'rows': self.rows, 'events': self.events, 'token': self.token, 'coordinator': self.coordinator,
@@ -98,13 +99,13 @@ class GroupView:
 class LogView:
     """Reads a log, and shows what it comes to, in the current epoch. Threads may share it."""
 
-    def __init__(self, log: Log, behind: Optional[Behind] = None) -> None:
+    def __init__(self, log: Log, behind: Behind | None = None) -> None:
         """A member in this process may tell who is behind, since it looks whenever something changes.
 
         Raises NotLearned, BadHeader, and what the log raises."""
         self._log = log
         self._behind = behind or Behind()
-        self._last: Deque[Tuple[int, str]] = collections.deque(maxlen=LAST_ROWS)
+        self._last: Deque[tuple[int, str]] = collections.deque(maxlen=LAST_ROWS)
         self._lock = threading.Lock()
         self._enter()
         self._read()
@@ -142,7 +143,7 @@ class LogView:
     def _shown(self, found: Found) -> GroupView:
         replica, opening = self._replica, self._opening
         nodes = tuple(self._node(node, found) for node in range(1, replica.nodes + 1))
-        owners: List[Optional[str]] = [None] * replica.partitions
+        owners: list[str | None] = [None] * replica.partitions
         for node in nodes:
             for partition in node.partitions:
                 owners[partition] = node.name
@@ -154,7 +155,7 @@ class LogView:
             opening.epoch, replica.rows, replica.events, token, coordinator, tuple(owners), nodes, rests, is_paused, behind, tuple(self._last)
         )  # fmt: skip
 
-    def _is_at_rest(self, found: Found, nodes: Tuple[NodeView, ...]) -> bool:
+    def _is_at_rest(self, found: Found, nodes: tuple[NodeView, ...]) -> bool:
         """Whether nothing is to be done in the group but to work. In a pause who came, and what is wished for, waits for its end."""
         is_paused = found.orders.is_paused
         counted = {node.name: node.node for node in nodes if node.is_present and not (is_paused and node.status is Status.DOWN)}

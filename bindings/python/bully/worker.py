@@ -9,9 +9,9 @@ import socket
 import subprocess
 import sys
 import threading
+from collections.abc import Sequence
 from contextlib import suppress
 from pathlib import Path
-from typing import List, Optional, Sequence
 
 from .guard import BEATS, adopt, children, end_children, may_kill
 from .logs import SECOND, seconds_of_boot, slept
@@ -50,14 +50,14 @@ class Workers:
         """The words of its command, the name of its node, how long it may take to stop, and whether it stays over changes and is told of
         them by lines."""
         self._words, self._node, self._patience, self._talks = words, node, patience, talks
-        self._assignment: Optional[Assignment] = None
-        self._stopped: 'queue.SimpleQueue[None]' = queue.SimpleQueue()
+        self._assignment: Assignment | None = None
+        self._stopped: queue.SimpleQueue[None] = queue.SimpleQueue()
         self._until = 0  # in nanoseconds of CLOCK_BOOTTIME
         self._begun = self._rest = self._rest_end = 0.0  # when the worker was told to begin, and how long and until when it rests since it failed
         self._may_work = False  # whether the worker was told to begin, and may be at work
         self._is_unheard = False  # whether the guard hasn't answered that yet
-        self._stop_begun: Optional[float] = None  # when the worker was told to stop, if it hasn't yet
-        self._left: List[int] = []  # what is still there of the worker, though it was killed
+        self._stop_begun: float | None = None  # when the worker was told to stop, if it hasn't yet
+        self._left: list[int] = []  # what is still there of the worker, though it was killed
         self._is_closed = False
         self._ending = threading.Lock()  # who has it waits for children
 
@@ -150,7 +150,7 @@ class Workers:
 
     def _tell_begin(self, words: bytes) -> None:
         """In parts, for each of which a message has room."""
-        *parts, last = [words[first : first + MESSAGE_MAX] for first in range(0, len(words), MESSAGE_MAX)]
+        *parts, last = (words[first : first + MESSAGE_MAX] for first in range(0, len(words), MESSAGE_MAX))
         for part in parts:
             self._send(b'part ' + part)
         self._send(b'begin ' + last)
@@ -237,6 +237,6 @@ class Workers:
             self._guard.wait()
             self._left = []
 
-    def _tell_left(self, processes: List[int]) -> None:
+    def _tell_left(self, processes: list[int]) -> None:
         self._left = processes
         _told.error('these processes may work on, since SIGKILL has not ended them; until they are gone nothing is begun here: %s', processes)

@@ -1,4 +1,6 @@
 """Tests of the command `bully-member`. `try` runs them."""
+from __future__ import annotations
+
 import contextlib
 import io
 import json
@@ -14,8 +16,9 @@ import threading
 import time
 import unittest
 import urllib.request
+from collections.abc import Callable, Sequence
 from pathlib import Path
-from typing import Any, BinaryIO, Callable, Dict, List, Optional, Sequence, Set, Tuple
+from typing import Any, BinaryIO
 from unittest import mock
 
 from bully import command, logs, messages, service, stores
@@ -42,7 +45,7 @@ def end(process: int) -> None:
         os.kill(process, signal.SIGKILL)
 
 
-def call(*words: str) -> Tuple[int, str, str]:
+def call(*words: str) -> tuple[int, str, str]:
     """The status of a command, and what it said. What signals do to this process stays."""
     with contextlib.redirect_stdout(io.StringIO()) as said, contextlib.redirect_stderr(io.StringIO()) as told, mock.patch('signal.signal'):
         try:
@@ -64,7 +67,7 @@ TALKS = """
 """
 
 
-def started(folder: Path, words: Sequence[str], said: Optional[BinaryIO] = None, /, **more: str) -> 'subprocess.Popen[bytes]':
+def started(folder: Path, words: Sequence[str], said: BinaryIO | None = None, /, **more: str) -> subprocess.Popen[bytes]:
     """The process of these words, whose place is this folder, with more in its environment. What it says is for that file, or one of the folder."""
     environment = {**os.environ, 'PYTHONPATH': str(ROOT / 'bindings' / 'python'), 'PLACE': str(folder), **more}
     with said or open(folder / 'said', 'wb') as file:
@@ -74,7 +77,7 @@ def started(folder: Path, words: Sequence[str], said: Optional[BinaryIO] = None,
 class MemberProcess:
     """`bully-member run` in a process of its own, and what its worker tells by files of a folder."""
 
-    def __init__(self, folder: Path, words: Sequence[str], worker: Sequence[str], said: Optional[BinaryIO] = None, /, **more: str) -> None:
+    def __init__(self, folder: Path, words: Sequence[str], worker: Sequence[str], said: BinaryIO | None = None, /, **more: str) -> None:
         """By these words and those of the worker."""
         self.folder = folder
         self.words = [sys.executable, '-W', 'error', '-m', 'bully.command', 'run', *words, '--', *worker]
@@ -94,12 +97,12 @@ class MemberProcess:
         wait_until((self.folder / 'begun').exists)
         return int((self.folder / 'begun').read_text())
 
-    def environment(self) -> Dict[str, str]:
+    def environment(self) -> dict[str, str]:
         """That of the worker."""
         lines = (self.folder / 'env').read_text().splitlines()
         return dict(line.split('=', 1) for line in lines if '=' in line)
 
-    def told(self, count: int) -> List[Dict[str, Any]]:
+    def told(self, count: int) -> list[dict[str, Any]]:
         """What a worker that talks was told, once that are so many lines."""
         file = self.folder / 'told'
         wait_until(lambda: file.exists() and file.read_text().count('\n') >= count)
@@ -131,7 +134,7 @@ class Commands(InFolder):
         self.config = self.folder / 'group.toml'
         self.config.write_bytes(toml(TOP))
 
-    def of_log(self, *words: str) -> Tuple[int, str, str]:
+    def of_log(self, *words: str) -> tuple[int, str, str]:
         return call(*words, '--log', f'sqlite:{self.path}')
 
     def test_life_of_a_log(self) -> None:
@@ -205,7 +208,7 @@ class Commands(InFolder):
                     file.execute('update epochs set count = 2')
             run = ['run', '--quiet', '--log', f'sqlite:{self.path}', '--node', 'a', '--', 'true']
             with self.subTest(asked=asked):
-                asks: List[Callable[[], Tuple[int, str, str]]] = [lambda: self.of_log('status'), lambda: call(*run)]
+                asks: list[Callable[[], tuple[int, str, str]]] = [lambda: self.of_log('status'), lambda: call(*run)]
                 for ask in asks:  # a member would go on, where `status` is well
                     status, said, why = ask()
                     self.assertEqual((status, said), (3, ''))
@@ -314,7 +317,7 @@ class Commands(InFolder):
             self.assertEqual(self.of_log('resume'), (0, 'the group is not paused\n', ''))
         self.assertEqual((log.look(1, 0).orders.lives, log.look(1, 0).wish), (None, None))
 
-    def take(self, log: Log, *names: str) -> Dict[str, Life]:
+    def take(self, log: Log, *names: str) -> dict[str, Life]:
         """These are present, for long, and work."""
         epoch, lives = log.epochs()[-1], {name: Life(7, number) for number, name in enumerate(names, 1)}
         place = len(log.read(epoch, 0))
@@ -363,7 +366,7 @@ class Commands(InFolder):
         self.assertEqual((log.opening().names, log.opening().settings.setup.weights), (('b', 'c', 'a'), (2, 3, 1)))
         self.assertEqual(self.of_log('switchover', '--node', 'a'), (0, 'epoch 2: a leads\n', ''), 'it does already')
 
-    def leaders(self, members: List[Member]) -> Set[Optional[str]]:
+    def leaders(self, members: list[Member]) -> set[str | None]:
         """Whom they work under; none, if one doesn't work."""
         works = [member.assignment() for member in members]
         return {None if work is None else work.settings.name(work.coordinator) for work in works}
@@ -422,7 +425,7 @@ class Commands(InFolder):
         run = ['run', '--config', config, '--log', log]
         self.assertEqual(call('status', '--log', log)[0], 4)
         self.of_log('init', '--config', config)
-        calls: List[Tuple[List[str], int]] = [
+        calls: list[tuple[list[str], int]] = [
             (['init', '--config', config, '--log', log], 4), (['init', '--config', str(self.folder / 'none'), '--log', log], 4),
             (['status', '--log', 'etcd:x'], 2), ([], 2), (['start'], 2), ([*run, '--node', 'd', '--', 'true'], 2), ([*run, '--node', 'a'], 2),
             ([*run, '--node', 'a', '--ttl', '0', '--', 'true'], 2), ([*run, '--node', 'a', '--listen', 'x', '--', 'true'], 2),
@@ -448,7 +451,7 @@ class Commands(InFolder):
         self.assertEqual((status, told), (3, 'bully-member: config: a name has a zero character, which no environment holds\n'))
 
 
-def full_pipe() -> Tuple[int, int]:
+def full_pipe() -> tuple[int, int]:
     """A pipe that has no room, and how it is read."""
     reads, writes = os.pipe()
     os.set_blocking(writes, False)
@@ -483,7 +486,7 @@ class Said(unittest.TestCase):
             speaker.start()
             speaker.join(PATIENCE)
             self.assertFalse(speaker.is_alive())
-            texts: List[str] = []
+            texts: list[str] = []
             reader = threading.Thread(target=lambda: texts.append(pipe.read().lstrip('\0')))
             reader.start()
             wait_until(said._lines.empty)
@@ -541,7 +544,7 @@ class Processes(InFolder):
     """`bully-member run`."""
 
     def begin(
-        self, worker: str, writer: Optional[Callable[[], None]] = None, *more: str, said: Optional[BinaryIO] = None
+        self, worker: str, writer: Callable[[], None] | None = None, *more: str, said: BinaryIO | None = None
     ) -> MemberProcess:  # fmt: skip
         """A member for the only node of a group, with a worker in shell; once the writer, if any, has the file's lock."""
         config = self.folder / 'group.toml'
@@ -554,7 +557,7 @@ class Processes(InFolder):
         self.addCleanup(member.kill)
         return member
 
-    def left(self) -> Tuple[str, Dict[str, Holder]]:
+    def left(self) -> tuple[str, dict[str, Holder]]:
         """The last row of the current log, and who is present."""
         log = self.opened()
         found = log.look(log.epochs()[-1], 0)

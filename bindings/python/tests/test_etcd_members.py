@@ -1,18 +1,23 @@
 """Tests of the command `bully-member` and of members over etcd. `try` runs them; without the program `etcd` on the path they are skipped."""
+from __future__ import annotations
+
 import json
 import os
 import signal
 import sys
 import time
 import unittest
-from typing import Any, Dict, List, Sequence, Set, Tuple
+from collections.abc import Sequence
+from typing import Any
 from unittest import mock
 
 from bully import check, command, stores
 from bully.epochs import Opening, Token
 from bully.etcd import EtcdLog
 from bully.logs import Log
-from etcd_servers import NUMBERS, OLDER, Server, WithCertificates, WithEtcd, add_users, alone, begin_alone, prune_in_part, put_older
+from etcd_servers import (
+    NUMBERS, OLDER, Server, WithCertificates, WithEtcd, add_users, alone, begin_alone, prune_in_part, put_older,
+)  # fmt: skip
 from laws import HEADER, wait_until
 from test_commands import BEGINS, TALKS, MemberProcess, call
 from test_pages import ROOT, TOP, toml
@@ -21,7 +26,7 @@ from test_workers import children, is_running
 
 TTL = 2  # seconds
 SLOW = 20.0  # seconds that a log of the test's own waits for answers
-NAMES: List[str] = TOP['names']
+NAMES: list[str] = TOP['names']
 PASSWORD = 'BULLY_ETCD_PASSWORD'
 # Tells when two work on one partition, or one by a token below the last one's; else each unit of work is a line in the file of its partition.
 WORKER = [sys.executable, '-I', '-S', str(ROOT / 'tests' / 'members' / 'worker.py')]
@@ -48,9 +53,9 @@ class OverEtcd(WithEtcd, WithFolder):
         path.write_bytes(toml({**TOP, **more}))
         return str(path)
 
-    def of_log(self, *words: str) -> Tuple[int, str, str]:
+    def of_log(self, *words: str) -> tuple[int, str, str]:
         """What a command that may be tried again comes to over the log, once that answers in time."""
-        ended: List[Tuple[int, str, str]] = []
+        ended: list[tuple[int, str, str]] = []
 
         def is_answered() -> bool:
             ended[:] = [call(words[0], '--log', self.address, *words[1:])]
@@ -75,14 +80,14 @@ class OverEtcd(WithEtcd, WithFolder):
         """A member of this node, whose worker tells what it works on."""
         return self.begin(node, [*WORKER, str(self.work)], *more)
 
-    def worked(self) -> Dict[int, Tuple[int, str]]:
+    def worked(self) -> dict[int, tuple[int, str]]:
         """By which token, and for which node, each partition was worked on last."""
         found = {int(file.name): file.read_text().splitlines() for file in self.work.iterdir() if file.name != 'faults'}
         return {partition: (int(lines[-1].split()[0]), lines[-1].split()[1]) for partition, lines in found.items() if lines}
 
     def share(self, behind: int, partitions: int, *names: str) -> int:
         """These nodes, and no others, work on so many partitions by one token behind that one, once they do. The token."""
-        tokens: Set[int] = set()
+        tokens: set[int] = set()
 
         def do_share() -> bool:
             worked = self.worked()
@@ -230,7 +235,7 @@ class Runs(OverEtcd):
             file.write_text(password)
         user = ['--user', 'member', '--ttl', '10']  # since to log in takes long
         self.make(user='member', password='member password')
-        cases: List[Tuple[List[str], Dict[str, str]]] = [([], {PASSWORD: 'member password'}), (['--password-file', str(right)], {})]
+        cases: list[tuple[list[str], dict[str, str]]] = [([], {PASSWORD: 'member password'}), (['--password-file', str(right)], {})]
         for words, environment in cases:
             with self.subTest(words=words):
                 member = self.begin('b', ['sh', '-c', BEGINS], *user, *words, **environment)
@@ -312,7 +317,7 @@ class Certificates(OverEtcd, WithCertificates):
         self.assertEqual((status, said.splitlines()[-1]), (0, 'crash,2'))
         self.assertTrue(check(said.encode()).is_lawful)
         other = ['--cacert', str(self.certificates / 'other.pem'), *words[2:]]
-        cases: List[List[str]] = [[], words[:2], words[2:], other]
+        cases: list[list[str]] = [[], words[:2], words[2:], other]
         for fewer in cases:
             with self.subTest(words=fewer):
                 member = self.begin('b', ['sh', '-c', BEGINS], *fewer)

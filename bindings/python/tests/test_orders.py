@@ -1,7 +1,9 @@
 """Tests of what an operator orders: nodes that are drained, and groups that are paused. `try` runs them."""
+from __future__ import annotations
+
 import threading
 import unittest
-from typing import Callable, Dict, FrozenSet, List, Optional, Tuple
+from collections.abc import Callable
 from unittest import mock
 
 from bully import looks, ordering, resizing, running, settings, view
@@ -39,7 +41,7 @@ class Values(unittest.TestCase):
         self.assertEqual(told, [False, False, True, True, False, False, True, False])
         self.assertEqual(paused.among({'a', 'c'}), Orders(lives={}))
 
-    def seen(self, presences: Dict[str, Holder], orders: Orders, up: FrozenSet[int] = frozenset({1, 2, 3}), is_wished: bool = False) -> Seen:
+    def seen(self, presences: dict[str, Holder], orders: Orders, up: frozenset[int] = frozenset({1, 2, 3}), is_wished: bool = False) -> Seen:
         """What node a is told, in a group of a, b and c."""
         wish = OPENING.after(None) if is_wished else None
         return looks.seen_of(Found(1, (), presences, wish, orders), END, 'a', {'a': 1, 'b': 2, 'c': 3}, up.__contains__)
@@ -97,7 +99,7 @@ class Giving(unittest.TestCase):
             self.assertEqual(ordering.drain(self.log, name, False), self.log.orders)
         with self.assertRaisesRegex(BadWords, '3 is the last one that is there and not drained'):
             ordering.drain(self.log, '3', False)
-        calls: List[Callable[[], object]] = [lambda: ordering.drain(self.log, '4', True), lambda: ordering.undrain(self.log, '4')]
+        calls: list[Callable[[], object]] = [lambda: ordering.drain(self.log, '4', True), lambda: ordering.undrain(self.log, '4')]
         for call in calls:
             with self.assertRaises(NotInGroup):
                 call()
@@ -132,7 +134,7 @@ class Giving(unittest.TestCase):
         """Others give orders between the look and the change."""
         order, others = self.log.order, ['1', '2']
 
-        def slow(orders: Orders, before: Optional[Orders]) -> bool:
+        def slow(orders: Orders, before: Orders | None) -> bool:
             if others:
                 self.log.orders = Orders(self.log.orders.drained | {others.pop()})
             return order(orders, before)
@@ -155,8 +157,8 @@ class Silent(MemoryLog):
 
     def __init__(self, opening: Opening) -> None:
         super().__init__(opening)
-        self.cut: List[str] = []
-        self.renewals: Dict[str, int] = {}
+        self.cut: list[str] = []
+        self.renewals: dict[str, int] = {}
 
     def renew(self, name: str, life: Life, ttl: int) -> bool:
         if name in self.cut:
@@ -178,13 +180,13 @@ class Ordered(Threads):
         patch.start()
         self.addCleanup(patch.stop)
         self.log = Silent(OPENING)
-        self.members: Dict[int, Tuple[Member, List[str], threading.Thread]] = {}
+        self.members: dict[int, tuple[Member, list[str], threading.Thread]] = {}
 
     def begin_members(self, *nodes: int, ttl: float = 2.0) -> None:
         for node in nodes:
             self.members[node] = self.begin(self.log, node, ttl)
 
-    def owners(self) -> Dict[int, int]:
+    def owners(self) -> dict[int, int]:
         """How many partitions each owns that may work, if all of them are owned by one token."""
         owned = {node: member.assignment() for node, (member, _, _) in self.members.items()}
         there = {node: work for node, work in owned.items() if work is not None}
@@ -196,7 +198,7 @@ class Ordered(Threads):
         wait_until(lambda: list(self.owners()) == list(nodes))
         wait_until(lambda: all(self.members[node][1][-1:] == [f'start {self.token(node)}'] for node in nodes))
 
-    def token(self, node: int) -> Optional[Token]:
+    def token(self, node: int) -> Token | None:
         return getattr(self.members[node][0].assignment(), 'token', None)
 
     def plans(self) -> int:

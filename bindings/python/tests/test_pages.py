@@ -1,4 +1,6 @@
 """Tests of configurations, and of what a member tells over HTTP. `try` runs them."""
+from __future__ import annotations
+
 import contextlib
 import http.client
 import io
@@ -12,7 +14,7 @@ import threading
 import time
 import unittest
 from pathlib import Path
-from typing import Any, Dict, List, Tuple
+from typing import Any
 from unittest import mock
 
 from bully import page, settings, view
@@ -26,11 +28,11 @@ from laws import HEADER, PATIENCE, wait_until
 from test_running import LONG, Troubled, put
 
 ROOT = Path(__file__).resolve().parents[3]
-TOP: Dict[str, Any] = {'nodes': 3, 'partitions': 6, 'events': 10, 'turns': 5, 'names': ['a', 'b', 'c']}
-FAULT: Dict[str, Any] = {'at': 1, 'node': 'b', 'kind': 'crash'}
+TOP: dict[str, Any] = {'nodes': 3, 'partitions': 6, 'events': 10, 'turns': 5, 'names': ['a', 'b', 'c']}
+FAULT: dict[str, Any] = {'at': 1, 'node': 'b', 'kind': 'crash'}
 
 
-def toml(told: Dict[str, Any]) -> bytes:
+def toml(told: dict[str, Any]) -> bytes:
     """The document of this table, whose values are spelled as in JSON."""
     lines = [f'{key} = {json.dumps(value)}' for key, value in told.items() if key != 'fault']
     for fault in told.get('fault', []):
@@ -38,7 +40,7 @@ def toml(told: Dict[str, Any]) -> bytes:
     return '\n'.join(lines).encode()
 
 
-def without(table: Dict[str, Any], key: str) -> Dict[str, Any]:
+def without(table: dict[str, Any], key: str) -> dict[str, Any]:
     return {name: value for name, value in table.items() if name != key}
 
 
@@ -108,7 +110,7 @@ class Pages(unittest.TestCase):
         self.page.start()
         self.addCleanup(self.page.close)
 
-    def get(self, target: str, method: str = 'GET', **headers: str) -> Tuple[int, str, str]:
+    def get(self, target: str, method: str = 'GET', **headers: str) -> tuple[int, str, str]:
         """The status, the kind and the text of an answer."""
         connection = http.client.HTTPConnection('127.0.0.1', self.page.port, timeout=PATIENCE)
         connection.request(method, target, headers=headers)
@@ -159,7 +161,7 @@ class Pages(unittest.TestCase):
         self.assertEqual(self.get('/healthz')[2], 'present\n')
 
     def test_long_poll(self) -> None:
-        answers: List[int] = []
+        answers: list[int] = []
         thread = threading.Thread(target=lambda: answers.append(json.loads(self.get('/group?after=0')[2])['events']))
         thread.start()
         self.assertEqual(self.get('/group')[0], 200)
@@ -169,7 +171,7 @@ class Pages(unittest.TestCase):
 
     def test_long_poll_over_epochs(self) -> None:
         """Events of another epoch are more, also if they are fewer."""
-        answers: List[Tuple[int, int]] = []
+        answers: list[tuple[int, int]] = []
 
         def poll() -> None:
             told = json.loads(self.get('/group?after=2')[2])
@@ -232,14 +234,14 @@ class Pages(unittest.TestCase):
 
     def test_many_polls(self) -> None:
         """There is a bound of them, and all others are answered. They look no more often than one does."""
-        looked: List[int] = []
+        looked: list[int] = []
 
         def look(epoch: int, place: int) -> Found:
             looked.append(place)
             return Troubled.look(self.log, epoch, place)
 
         setattr(self.log, 'look', look)
-        statuses: List[int] = []
+        statuses: list[int] = []
         threads = [threading.Thread(target=lambda: statuses.append(self.get('/group?after=0')[0])) for _ in range(page.POLLS_MAX)]
         for thread in threads:
             thread.start()

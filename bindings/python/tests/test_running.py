@@ -1,4 +1,6 @@
 """Tests of members in threads, in memory and over a file. `try` runs them."""
+from __future__ import annotations
+
 import contextlib
 import random
 import socket
@@ -6,8 +8,9 @@ import tempfile
 import threading
 import time
 import unittest
+from collections.abc import Callable, Sequence
 from pathlib import Path
-from typing import Any, Callable, Dict, List, Optional, Sequence, Tuple, cast
+from typing import Any, cast
 from unittest import mock
 
 from bully import NotLearned, Setup, check, resizing, running, settings, view
@@ -71,7 +74,7 @@ class Noting(MemoryLog):
 
     def __init__(self, opening: Opening) -> None:
         super().__init__(opening)
-        self.appends: List[int] = []
+        self.appends: list[int] = []
 
     def append(self, epoch: int, place: int, rows: Sequence[str]) -> bool:
         self.appends.append(place)
@@ -81,8 +84,8 @@ class Noting(MemoryLog):
 class Threads(unittest.TestCase):
     """Tests with members in threads over one log in memory."""
 
-    def begin(self, log: MemoryLog, node: int, ttl: float = 2.0, **more: Any) -> Tuple[Member, List[str], threading.Thread]:
-        told: List[str] = []
+    def begin(self, log: MemoryLog, node: int, ttl: float = 2.0, **more: Any) -> tuple[Member, list[str], threading.Thread]:
+        told: list[str] = []
         start = more.pop('start', lambda assignment: told.append(f'start {assignment.token}'))
         stop = more.pop('stop', lambda assignment: told.append(f'stop {assignment.token}'))
         member = Member(log, node, start, stop, ttl=ttl, settings=log.opening().settings, **more)
@@ -110,7 +113,7 @@ class Running(Threads):
         log = MemoryLog(OPENING)
         members = {node: self.begin(log, node) for node in (1, 2, 3)}
 
-        def owners() -> List[int]:
+        def owners() -> list[int]:
             owned = {node: member[0].assignment() for node, member in members.items()}
             tokens = {each.token for each in owned.values() if each}
             return [node for node, each in owned.items() if each and len(each.partitions) == 2 and len(tokens) == 1]
@@ -128,8 +131,8 @@ class Running(Threads):
     def test_until(self) -> None:
         """It is told until when its work is sure, before that begins."""
         log, began = MemoryLog(OPENING), seconds_of_boot()
-        told: List[str] = []
-        sure: List[Tuple[float, List[str]]] = []
+        told: list[str] = []
+        sure: list[tuple[float, list[str]]] = []
         member, _, _ = self.begin(log, 1, start=lambda work: told.append('start'), sure=lambda until: sure.append((until, told[:])))
         wait_until(lambda: len(sure) > 2)
         self.assertEqual(sure[0][1], [])
@@ -141,7 +144,8 @@ class Running(Threads):
 
     def test_until_by_slow_answers(self) -> None:
         """It is sure from when a renewal was asked for, and not from its answer."""
-        log, sure = Slow(OPENING), []  # type: Tuple[Slow, List[Tuple[float, float]]]
+        log = Slow(OPENING)
+        sure: list[tuple[float, float]] = []
         member, _, _ = self.begin(log, 1, sure=lambda until: sure.append((until, log.begun)))
         wait_until(lambda: len(sure) > 3 and member.assignment())
         assigned = member.assignment()
@@ -179,8 +183,8 @@ class Running(Threads):
     def test_lost_work(self) -> None:
         """Work that has ended outside is stopped, and begun again. What ended of an earlier Begin isn't it."""
         log = MemoryLog(OPENING)
-        begun: List[Assignment] = []
-        sure: List[float] = []
+        begun: list[Assignment] = []
+        sure: list[float] = []
         member, _, _ = self.begin(log, 1, start=begun.append, sure=sure.append)
         for count in range(1, 4):
             wait_until(lambda: len(begun) == count and member.assignment())
@@ -283,7 +287,7 @@ class Running(Threads):
 
     def test_a_stranger(self) -> None:
         """While somebody is present who isn't of the group, and may work, nobody asks to append anything."""
-        log, sure = Noting(OPENING), cast(List[float], [])
+        log, sure = Noting(OPENING), cast(list[float], [])
         self.assertTrue(log.take('stranger', Life(9, 1), Promise(1, 0), LONG))
         with log._changed:
             log.leases['stranger'] = log.leases['stranger']._replace(holder=Holder(Life(9, 1), Promise()))
@@ -377,7 +381,7 @@ class Running(Threads):
 
     def test_no_descriptors(self) -> None:
         """A member that can't begin for want of descriptors is over all the same."""
-        ended: List[BaseException] = []
+        ended: list[BaseException] = []
 
         def run() -> None:
             try:
@@ -396,9 +400,9 @@ class Places:
     """What members work on: it tells if two work on one partition, or if a token falls."""
 
     def __init__(self) -> None:
-        self.workers: Dict[int, str] = {}
-        self.tokens: Dict[int, int] = {}
-        self.faults: List[str] = []
+        self.workers: dict[int, str] = {}
+        self.tokens: dict[int, int] = {}
+        self.faults: list[str] = []
         self.lock = threading.Lock()
 
     def start(self, name: str, assignment: Assignment) -> None:
@@ -450,7 +454,7 @@ class Seldom(MemoryLog):
         if self.silent >= 0 or self.choice.random() < 0.5:
             raise Unanswered('silent')
 
-    def opening(self, epoch: Optional[int] = None) -> Opening:
+    def opening(self, epoch: int | None = None) -> Opening:
         self.answer()
         return super().opening(epoch)
 
@@ -494,7 +498,7 @@ class Resizes(InFolder):
         names = tuple('abcdefg'[:nodes])
         self.closing(SqliteLog.create(self.path, Opening.first(Setup(nodes, partitions).header(), names, limit)))
         self.places = Places()
-        self.members: Dict[str, Tuple[Member, threading.Thread]] = {}
+        self.members: dict[str, tuple[Member, threading.Thread]] = {}
 
     def begin(self, name: str, ttl: float = 10.0) -> None:
         log = SqliteLog(self.path)
@@ -514,7 +518,7 @@ class Resizes(InFolder):
         member.leave()
         thread.join()
 
-    def owned(self) -> Dict[str, Tuple[int, ...]]:
+    def owned(self) -> dict[str, tuple[int, ...]]:
         """Who owns what, if all that are there own some by one token, and all that there is."""
         found = {name: member.assignment() for name, (member, _) in self.members.items()}
         tokens = {each.token for each in found.values() if each}
@@ -522,7 +526,7 @@ class Resizes(InFolder):
         all_of_them = sorted(partition for each in owned.values() for partition in each)
         return owned if len(tokens) == 1 and len(owned) == len(self.members) and all_of_them == list(range(len(all_of_them))) else {}
 
-    def rest(self, partitions: int) -> Dict[str, Tuple[int, ...]]:
+    def rest(self, partitions: int) -> dict[str, tuple[int, ...]]:
         """The same, once they do."""
         wait_until(lambda: sum(map(len, self.owned().values())) == partitions)
         return self.owned()
@@ -531,7 +535,7 @@ class Resizes(InFolder):
         with contextlib.closing(SqliteLog(self.path)) as log:
             return resizing.resize(log, settings.Settings(Setup(len(names), partitions), names), PATIENCE)
 
-    def plans(self, epoch: int) -> List[List[str]]:
+    def plans(self, epoch: int) -> list[list[str]]:
         """The plans of an epoch, each with the names of the owners."""
         log = self.opened()
         names = log.opening(epoch).names
@@ -562,7 +566,7 @@ class Resizes(InFolder):
         self.assertEqual(kept, 12, 'the three own 4 each, and get more')
         self.judge()
 
-    def places_of(self, table: List[str], name: str) -> List[int]:
+    def places_of(self, table: list[str], name: str) -> list[int]:
         return [partition for partition, owner in enumerate(table) if owner == name]
 
     def test_leaves_at_once(self) -> None:
@@ -750,7 +754,7 @@ class Away(Tests):
 
     def begin(self) -> None:
         """The member runs, in a thread."""
-        self.failures: List[BaseException] = []
+        self.failures: list[BaseException] = []
         self.thread = threading.Thread(target=self.run_member, args=[self.member, self.failures])
         self.thread.start()
         self.addCleanup(self.thread.join)
@@ -758,7 +762,7 @@ class Away(Tests):
         self.addCleanup(self.member.leave)
 
     @staticmethod
-    def run_member(member: Member, failures: List[BaseException]) -> None:
+    def run_member(member: Member, failures: list[BaseException]) -> None:
         try:
             with member:
                 member.run()

@@ -1,4 +1,6 @@
 """Tests of workers and of the guard above them. `try` runs them."""
+from __future__ import annotations
+
 import ctypes
 import json
 import os
@@ -13,14 +15,14 @@ import threading
 import unittest
 from pathlib import Path
 from types import SimpleNamespace
-from typing import Any, Dict, List, Set, cast
+from typing import Any, cast
 from unittest import mock
 
 from bully import Setup, guard, logs
 from bully.epochs import Opening, Token
 from bully.running import Assignment, Member
 from bully.settings import Settings
-from bully.worker import GUARD, GuardLost, WorkerEnded, Workers, WorkerStuck
+from bully.worker import GUARD, GuardLost, WorkerEnded, WorkerStuck, Workers
 from laws import PATIENCE, wait_until
 from test_stores import environment
 
@@ -140,7 +142,7 @@ input()
 
 
 PTRACE_SEIZE, WAIT_ALL = 0x4206, 0x40000000
-frozen: Set[int] = set()
+frozen: set[int] = set()
 
 
 def freeze(test: unittest.TestCase, process: int) -> None:
@@ -167,7 +169,7 @@ def is_running(process: int) -> bool:
         return False
 
 
-def children(process: int) -> List[int]:
+def children(process: int) -> list[int]:
     """The processes that this one has to wait for."""
     return [int(word) for word in Path(f'/proc/{process}/task/{process}/children').read_text().split()]
 
@@ -190,7 +192,7 @@ class Timely(Workers):
     """Workers whose `stop` fails, and doesn't hang, if it doesn't return."""
 
     def stop(self, assignment: Assignment) -> None:
-        raised: List[BaseException] = []
+        raised: list[BaseException] = []
 
         def stop() -> None:
             try:
@@ -216,11 +218,11 @@ class Below(unittest.TestCase):
         folder = tempfile.TemporaryDirectory()
         self.addCleanup(folder.cleanup)
         self.folder = Path(folder.name)
-        self.failures: List[BaseException] = []
-        self.lost: List[Assignment] = []
+        self.failures: list[BaseException] = []
+        self.lost: list[Assignment] = []
         self.member = SimpleNamespace(end_with=self.failures.append, lose=self.lost.append, is_leaving=False)
 
-    def made(self, words: List[str], patience: float = PATIENCE, seconds: float = 1000.0, ttl: float = 4.0) -> Workers:
+    def made(self, words: list[str], patience: float = PATIENCE, seconds: float = 1000.0, ttl: float = 4.0) -> Workers:
         workers = Timely(words, 'x', patience, self.talks)
         self.member.ttl, self.member.margin = ttl, ttl / 5
         workers.begin(cast(Member, self.member))
@@ -357,7 +359,7 @@ class Guards(Below):
         workers = self.made([sys.executable, '-c', WORKER, str(self.folder), 'stubborn'], 0.1, ttl=1.0)
         self.begin_again(workers)
         freeze(self, self.worker)
-        raised: List[WorkerStuck] = []
+        raised: list[WorkerStuck] = []
 
         def stop() -> None:
             try:
@@ -459,7 +461,7 @@ class Guards(Below):
 
     def outlives(self, rooted: Path, kills: bool) -> None:
         """A worker by sudo, or the like, outlives its moment, and its guard, if that is killed."""
-        pipes: Dict[str, Any] = {name: subprocess.PIPE for name in ('stdin', 'stdout')}
+        pipes: dict[str, Any] = {name: subprocess.PIPE for name in ('stdin', 'stdout')}
         reads = ['--inh-caps', '+dac_override', '--ambient-caps', '+dac_override']  # whatever Python's folder is
         user = ['setpriv', '--reuid', '65534', '--regid', '65534', '--clear-groups', *reads]
         words = [*user, sys.executable, '-c', OTHER_USER, str(rooted), 'kills' if kills else '']
@@ -487,7 +489,7 @@ class Guards(Below):
             self.skipTest('only root can have clocks of its own')
         words = ['unshare', '--time', '--boottime', '1000000', '--fork', '--kill-child', sys.executable, '-c', CLOCKS, str(self.folder / 'group.db')]
         environment = {**os.environ, 'PYTHONPATH': str(ROOT / 'bindings' / 'python')}
-        ran = subprocess.run(words, env=environment, stdout=subprocess.PIPE, universal_newlines=True, check=True, timeout=PATIENCE)
+        ran = subprocess.run(words, env=environment, stdout=subprocess.PIPE, text=True, check=True, timeout=PATIENCE)
         self.assertEqual(ran.stdout, 'not yet\nlost\nTrue\n')
 
     def test_member_is_gone(self) -> None:
@@ -577,7 +579,7 @@ os.kill(os.getpid(), signal.SIGSTOP)
     def test_who_is_stopped(self) -> None:
         """Who is stopped is killed in the middle of a write alone, and only if that lasts."""
         words = [sys.executable, '-c', WRITER, str(self.folder / 'group.db')]
-        pipes: Dict[str, Any] = {name: subprocess.PIPE for name in ('stdin', 'stdout')}
+        pipes: dict[str, Any] = {name: subprocess.PIPE for name in ('stdin', 'stdout')}
         with subprocess.Popen(words, universal_newlines=True, **pipes) as writer:
             assert writer.stdin is not None and writer.stdout is not None
             with mock.patch.object(os, 'getppid', lambda: writer.pid):
@@ -611,7 +613,7 @@ class Talks(Below):
         self.heard(1)
         return workers
 
-    def heard(self, count: int) -> List[str]:
+    def heard(self, count: int) -> list[str]:
         """What workers were told, each behind its process, once there are so many lines."""
         file = self.folder / 'told'
         wait_until(lambda: file.exists() and file.read_text().count('\n') >= count)
@@ -787,8 +789,8 @@ class Talks(Below):
                 folder = self.folder / name
                 folder.mkdir()
                 workers = self.made([str(ROOT / 'examples' / 'members' / name), str(folder)])
-                processes: Set[int] = set()
-                sizes: Dict[Path, int] = {}
+                processes: set[int] = set()
+                sizes: dict[Path, int] = {}
                 for events, partitions in ((3, (0, 5)), (4, (5, 2)), (5, (1,))):
                     workers.start(assigned(events, *partitions))
                     wanted = f'{Token.of(4, events)} x'
