@@ -16,7 +16,7 @@ from bully.gateway import Address, Client, Json, Refusal, Silent, behind
 from bully.logs import Wanted, are_idle, orders_of
 from bully.member import Life, Promise, Until
 from bully.sqlite import life_text
-from cluster import SERVERS, Cluster, Outcome
+from .cluster import SERVERS, Cluster, Outcome
 
 ADDRESS = f'etcd://{",".join(map(str, SERVERS))}/group'
 

@@ -6,8 +6,6 @@ from collections.abc import Mapping, Sequence, Set as AbstractSet
 from dataclasses import replace
 from typing import NamedTuple
 
-import planted
-from asking import KeptLog
 from bully.epochs import Opening
 from bully.etcd import Held, place_text, same
 from bully.gateway import Json, Pair, number_is, one, pairs_of, put, value_is, value_of
@@ -15,9 +13,11 @@ from bully.logs import Found, Holder, MemoryLog, Unanswered, Wanted, rows_text
 from bully.member import Core, Life, Promise, Request, Seen, Until
 from bully.orders import Orders
 from bully.sqlite import life_text
-from over_etcd import OverEtcd
-from over_memory import MemoryStore, OverMemory
-from settling import Maker, Ordered, Simulation, Trouble
+from . import planted
+from .asking import KeptLog
+from .over_etcd import OverEtcd
+from .over_memory import MemoryStore, OverMemory
+from .settling import Maker, Ordered, Simulation, Trouble
 
 
 # ---- Logs in memory.

@@ -7,10 +7,10 @@ from collections.abc import Callable, Sequence
 from functools import partial
 
 from bully.gateway import Endpoint
-from etcd_servers import Place, Server, Servers
-from groups import NAMES, PATIENCE, Group
-from laws import wait_until
-from namespaces import CLIENTS, PEERS, Network
+from tests.etcd_servers import Place, Server, Servers
+from tests.waiting import wait_until
+from .groups import NAMES, PATIENCE, Group
+from .namespaces import CLIENTS, PEERS, Network
 
 SERVERS = ('s0', 's1', 's2')
 CLIENT_PORT, PEER_PORT = 2379, 2380

@@ -16,8 +16,8 @@ from bully.command import parser
 from bully.logs import Log, Unanswered
 from bully.stores import store_of
 from bully.view import GroupView, LogView
-from processes import children, close_all, own_memory, processor_seconds, send_all, workers_of
-from tables import kept, most_kept, owners_by_name
+from .processes import children, close_all, own_memory, processor_seconds, send_all, workers_of
+from .tables import kept, most_kept, owners_by_name
 
 ROOT = Path(__file__).resolve().parents[2]
 HERE = Path(__file__).resolve().parent

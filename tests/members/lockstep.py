@@ -6,13 +6,13 @@ from collections.abc import Callable, Iterator, Sequence
 from dataclasses import replace
 from typing import TypeVar
 
-import proved
 from bully import BullyError, Owned, Setup
 from bully.member import (
     Ask, Begin, End, Life, Opening, Presence, Present, Promise, Request, Rest, Seen, Step, StoreAnswer, Unknown, Wait,
 )  # fmt: skip
-from plain import SETTLEMENT, Plain, is_at_rest, settle
-from settling import TTL, Maker, Rules, Wrong
+from . import proved
+from .plain import SETTLEMENT, Plain, is_at_rest, settle
+from .settling import TTL, Maker, Rules, Wrong
 
 Told = TypeVar('Told')
 

@@ -8,8 +8,8 @@ from pathlib import Path
 
 from bully.learned import Learned
 from bully.member import Core
-from over_memory import OverMemory
-from settling import Trouble
+from .over_memory import OverMemory
+from .settling import Trouble
 
 NODES = 5
 ROWS = 600  # of an epoch, for each node

@@ -9,7 +9,6 @@ import random
 from collections.abc import Callable
 from functools import partial
 
-from asking import KeptLog, Pending, Request, made, opened
 from bully import logs
 from bully.epochs import FIRST, Opening
 from bully.etcd import AGAIN, FEW, place_of
@@ -19,10 +18,11 @@ from bully.member import Ask, Promise, Request as Asked, Until, Wait
 from bully.orders import Orders
 from bully.settings import Settings
 from bully.sqlite import life_of
-from cluster import SERVERS, Cluster, Outcome, Version, Weather, interval, pair_told, weather_of
-from over_memory import FoundInLog, LogMember, LogStore, OverMemory, epoch_of
-from settling import GONE, Maker, Member, Trouble, Wrong
-from store import Epoch, Lease
+from .asking import KeptLog, Pending, Request, made, opened
+from .cluster import SERVERS, Cluster, Outcome, Version, Weather, interval, pair_told, weather_of
+from .over_memory import FoundInLog, LogMember, LogStore, OverMemory, epoch_of
+from .settling import GONE, Maker, Member, Trouble, Wrong
+from .store import Epoch, Lease
 
 SHORTEST = 10_000_000  # nanoseconds until somebody asks again
 TROUBLES_OF_ETCD = ('a leader is lost', 'a presence ends with its lease', 'a watch tells nothing')

@@ -19,9 +19,9 @@ from bully.member import Ask, Core, Ending, Life, Opening as Terms, Promise, Req
 from bully.orders import Orders
 from bully.settings import Settings
 from bully.stores import BadWords
-from plain import Plain
-from settling import Maker, Member, Simulation, StoreMaker, Trouble, Wrong
-from store import Epoch, Found, Lease, Standing, table_of
+from .plain import Plain
+from .settling import Maker, Member, Simulation, StoreMaker, Trouble, Wrong
+from .store import Epoch, Found, Lease, Standing, table_of
 
 
 CHANGES = {Request.APPEND: 'an append', Request.FINISH: 'the end of an epoch'}

@@ -7,10 +7,10 @@ from typing import NamedTuple
 
 from bully.member import Ask, Life, Presence, Present, Promise, Request, Seen, Step, StoreAnswer, Until, Wait, Way
 from bully.settings import Settings
-from plain import Plain, is_at_rest
-from restarting import Restarting
-from settling import Simulation
-from store import Found, Store
+from .plain import Plain, is_at_rest
+from .restarting import Restarting
+from .settling import Simulation
+from .store import Found, Store
 
 
 class AppendsAnyway(Plain):

@@ -9,7 +9,7 @@ from contextlib import suppress
 from pathlib import Path
 from typing import NamedTuple
 
-from laws import has_stopped
+from tests.processes import has_stopped
 
 TICK = 1 / os.sysconf('SC_CLK_TCK')
 

@@ -11,8 +11,8 @@ from __future__ import annotations
 import random
 from collections import Counter
 
-from settling import TTL, Maker, Member, Simulation, Trouble, Wrong
-from store import Store
+from .settling import TTL, Maker, Member, Simulation, Trouble, Wrong
+from .store import Store
 
 FOR = 60  # ttl
 MOST = 6  # times a member stops work since the node has come; it counts five times, and one may see it later than others

@@ -6,11 +6,11 @@ from collections.abc import Callable, Iterator, Sequence
 from dataclasses import dataclass, replace
 from pathlib import Path
 
-import proved
 from bully import BullyError, Replica, Setup, check, plan_table
 from bully.epochs import setup_of
-from plain import SETTLEMENT, Settler, is_at_rest, rests_behind, settle_behind, world_of
-from store import table_of
+from . import proved
+from .plain import SETTLEMENT, Settler, is_at_rest, rests_behind, settle_behind, world_of
+from .store import table_of
 
 
 @dataclass(frozen=True)

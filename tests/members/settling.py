@@ -27,9 +27,9 @@ from bully import Owned, Replica, Setup, check
 from bully.epochs import Token
 from bully.member import Ask, Begin, End, Ending, Life, Opening, Request, Rest, Seen, Step, StoreAnswer, Wait
 from bully.settings import Settings
-from plain import is_at_rest, world_of
-from settled import fewest, moves
-from store import Epoch, Found, Judged, Store, table_of
+from .plain import is_at_rest, world_of
+from .settled import fewest, moves
+from .store import Epoch, Found, Judged, Store, table_of
 
 TTL = 1_000_000_000
 TROUBLE_FOR, REST_WITHIN = 16, 25  # ttl

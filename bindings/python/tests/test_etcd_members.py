@@ -15,14 +15,18 @@ from bully import check, command, stores
 from bully.epochs import Opening, Token
 from bully.etcd import EtcdLog
 from bully.logs import Log
-from etcd_servers import (
+from .away_laws import Away
+from .configurations import TOP, toml
+from .etcd_servers import (
     NUMBERS, OLDER, Server, WithCertificates, WithEtcd, add_users, alone, begin_alone, prune_in_part, put_older,
 )  # fmt: skip
-from laws import HEADER, wait_until
-from test_commands import BEGINS, TALKS, MemberProcess, call
-from test_pages import ROOT, TOP, toml
-from test_running import Away, WithFolder, put
-from test_workers import children, is_running
+from .folders import WithFolder
+from .member_processes import BEGINS, TALKS, MemberProcess, call
+from .places import ROOT
+from .processes import children, is_running
+from .steps import HEADER
+from .threads import put
+from .waiting import wait_until
 
 TTL = 2  # seconds
 SLOW = 20.0  # seconds that a log of the test's own waits for answers
@@ -31,9 +35,8 @@ PASSWORD = 'BULLY_ETCD_PASSWORD'
 # Tells when two work on one partition, or one by a token below the last one's; else each unit of work is a line in the file of its partition.
 WORKER = [sys.executable, '-I', '-S', str(ROOT / 'tests' / 'members' / 'worker.py')]
 
-
 def setUpModule() -> None:
-    begin_alone('test_etcd_members')
+    begin_alone(__name__)
 
 
 @unittest.skipIf(sys.version_info < (3, 11), 'the standard library reads TOML from Python 3.11 on')
@@ -415,7 +418,3 @@ class AwayOverEtcd(WithEtcd, Away):
         left = self.server.keys(f'{self.address.split("/", 3)[3]}/log/0000000001/')
         self.assertEqual([int(key[-10:]) for key in left], [place + 1, place + 2])
         self.see_it_work()
-
-
-if __name__ == '__main__':
-    unittest.main()

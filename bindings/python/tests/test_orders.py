@@ -14,8 +14,9 @@ from bully.member import Life, Presence, Promise, Seen, Until
 from bully.orders import Orders
 from bully.running import Member, NotInGroup
 from bully.stores import BadWords, timed
-from laws import OPENING, PATIENCE, wait_until
-from test_running import LONG, Threads
+from .steps import LONG, OPENING
+from .threads import Threads
+from .waiting import PATIENCE, wait_until
 
 A, B, C, D = (Life(number, 1) for number in (1, 2, 3, 4))
 END = Promise(1, 30)
@@ -424,7 +425,3 @@ class Ordered(Threads):
         self.assertFalse(thread.is_alive())
         self.log.pass_renewals('1', 5)
         self.assertEqual((self.log.rows, set(self.log.presences)), (rows, {'1'}))
-
-
-if __name__ == '__main__':
-    unittest.main()

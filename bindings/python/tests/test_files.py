@@ -1,5 +1,4 @@
-#!/usr/bin/env python3
-"""Tests of logs in memory and in files, and of what epochs begin with. `try` runs them."""
+"""Tests of logs in files of SQLite."""
 from __future__ import annotations
 
 import contextlib
@@ -7,123 +6,24 @@ import os
 import sqlite3
 import subprocess
 import sys
-import tempfile
-import time
 import unittest
-from collections.abc import Callable, Mapping, Sequence, Set as AbstractSet
+from collections.abc import Callable
 from pathlib import Path
-from typing import Any
 from unittest import mock
 
-from bully import Setup, settings, sqlite
-from bully.epochs import Opening, Token, setup_of
+from bully import sqlite
+from bully.epochs import Opening
 from bully.logs import (
-    SECOND, DamagedLog, DiskFull, ForeignLog, Holder, Log, LogBusy, LogError, LogExists, MemoryLog, NoEpoch, NoLog,
-    OtherLog, ReadOnlyLog, Wanted, nanoseconds_of_boot, rows_text,
+    SECOND, DamagedLog, DiskFull, ForeignLog, Holder, LogBusy, LogError, LogExists, NoEpoch, NoLog, OtherLog,
+    ReadOnlyLog, nanoseconds_of_boot,
 )  # fmt: skip
-from bully.member import Life, Promise, Until
+from bully.member import Promise, Until
 from bully.sqlite import SqliteLog
 from bully.stores import FileStore
-from epoch_laws import EpochLaws
-from laws import EMPTY, HEADER, OPENING, PATIENCE, A, B, Clock, Laws, Waits, add, present
-
-LONG = 1000 * SECOND
-
-
-class InFolder(unittest.TestCase):
-    """Tests with a folder of their own."""
-
-    def setUp(self) -> None:
-        folder = tempfile.TemporaryDirectory()
-        self.addCleanup(folder.cleanup)
-        self.folder = Path(folder.name)
-        self.paths: list[Path] = []
-
-    @property
-    def path(self) -> Path:
-        """The last one that was made, or is to be made."""
-        return self.paths[-1] if self.paths else self.folder / 'group.db'
-
-    def created(self) -> SqliteLog:
-        self.paths.append(self.folder / f'group{len(self.paths)}.db')
-        return self.closing(SqliteLog.create(self.path, OPENING))
-
-    def opened(self, patience: float = 1.0) -> SqliteLog:
-        return self.closing(SqliteLog(self.path, patience))
-
-    def handle(self, log: Log) -> Log:
-        assert isinstance(log, SqliteLog)
-        return self.closing(SqliteLog(log.path, 20.0))
-
-    def closing(self, log: SqliteLog) -> SqliteLog:
-        self.addCleanup(log.close)
-        return log
-
-
-class InMemory(Laws, unittest.TestCase):
-    """The laws of a log in memory."""
-
-    def setUp(self) -> None:
-        self.clock = Clock()
-
-    def created(self) -> Log:
-        return MemoryLog(OPENING, self.clock)
-
-    def handle(self, log: Log) -> Log:
-        return log
-
-    def now(self) -> int:
-        return self.clock.now
-
-    def pass_time(self, time: int) -> None:
-        self.clock.now += time
-
-    def pass_end(self, log: Log) -> None:
-        self.pass_time(self.TTL)
-
-
-class InFile(InFolder, InMemory):
-    """The laws of a log in a file."""
-
-    def setUp(self) -> None:
-        InFolder.setUp(self)
-        InMemory.setUp(self)
-        patch = mock.patch.object(sqlite, 'nanoseconds_of_boot', self.clock)
-        patch.start()
-        self.addCleanup(patch.stop)
-
-
-class WaitsInMemory(Waits, unittest.TestCase):
-    def created(self) -> Log:
-        return MemoryLog(OPENING)
-
-    def handle(self, log: Log) -> Log:
-        return log
-
-
-class WaitsInFile(InFolder, Waits):
-    pass
-
-
-class EpochsInMemory(EpochLaws, unittest.TestCase):
-    """The laws of epochs of a log in memory."""
-
-    def created(self) -> Log:
-        return MemoryLog(OPENING)
-
-    def handle(self, log: Log) -> Log:
-        return log
-
-
-class EpochsInFile(InFolder, EpochLaws):
-    """The laws of epochs of a log in a file."""
-
-    def setUp(self) -> None:
-        super().setUp()
-        patch = mock.patch.object(sqlite, 'PRUNED_AT_ONCE', 7)
-        patch.start()
-        self.addCleanup(patch.stop)
-
+from .folders import WithLogs
+from .places import environment
+from .steps import EMPTY, LONG, OPENING, A, B, Clock, add, present
+from .waiting import PATIENCE
 
 # Opens a log, and tells what came of it.
 OPENS = '''
@@ -158,7 +58,7 @@ def in_mounts(test: unittest.TestCase, mounted: str, *words: str) -> str:
     return subprocess.run(command, env=environment(), stdout=subprocess.PIPE, text=True, check=True).stdout
 
 
-class Files(InFolder):
+class Files(WithLogs):
     """What can be wrong with a file."""
 
     def refused(self, fault: type[LogError], why: str = '') -> None:
@@ -459,7 +359,7 @@ except LogError as fault:
         self.assertEqual(log._one('pragma synchronous'), 1)
 
 
-class OlderForm(InFolder):
+class OlderForm(WithLogs):
     """A log of the form before is read, and nothing more."""
 
     TABLES = """
@@ -515,304 +415,3 @@ class OlderForm(InFolder):
         self.assertTrue(log.promise('a', A, end))
         self.assertTrue(log.finish(1, 2, OPENING.after(None)))
         self.assertEqual((self.store.history(1), self.store.history()), (['bully,1,3,6', 'recover,1', 'start,1'], ['bully,1,3,6']))
-
-
-RACER = '''
-import sys
-from bully.logs import LogBusy
-from bully.member import Life, Promise, Until
-from bully.stores import FileStore, EtcdStore
-me, kind, where = sys.argv[1:]
-log = FileStore(where).open(60.0) if kind == 'file' else EtcdStore(where, None, '', '').open(60.0)
-done = refused = 0
-print('there', flush=True)
-sys.stdin.readline()
-while done < 20:
-    place = len(log.look(1, 0).rows)
-    log.promise('a', Life(2**64 - 1, 1), Promise(1, place))
-    if log.append(1, place, [f'{me},{done}'] * 7):
-        done += 1
-    else:
-        refused += 1
-log.close()
-print(refused)
-'''
-
-
-def environment() -> dict[str, str]:
-    """That of a process with this package."""
-    return {**os.environ, 'PYTHONPATH': str(Path(__file__).resolve().parent)}
-
-
-def race(test: unittest.TestCase, log: Log, kind: str, where: str) -> None:
-    """Processes append, each as soon as it can. Each append stands once and as a whole, and in the order of its process."""
-    words, refused = [sys.executable, '-W', 'error', '-c', RACER], 0
-    pipes: dict[str, Any] = {'stdin': subprocess.PIPE, 'stdout': subprocess.PIPE, 'universal_newlines': True}
-    with contextlib.ExitStack() as opened:
-        racers = [opened.enter_context(subprocess.Popen([*words, str(number), kind, where], env=environment(), **pipes)) for number in range(3)]
-        for racer in racers:
-            assert racer.stdout is not None
-            test.assertEqual(racer.stdout.readline(), 'there\n')
-        for racer in racers:
-            assert racer.stdin is not None
-            racer.stdin.write('\n')
-            racer.stdin.flush()
-        for racer in racers:
-            said, _ = racer.communicate()
-            test.assertEqual(racer.returncode, 0)
-            refused += int(said)
-    rows = list(log.read(1, 0))
-    appends = [rows[place] for place in range(0, len(rows), 7)]
-    test.assertEqual(rows, [row for row in appends for _ in range(7)])
-    for number in range(3):
-        test.assertEqual([row for row in appends if row.startswith(f'{number},')], [f'{number},{done}' for done in range(20)])
-    test.assertGreater(refused, 0, 'no two have met')
-
-
-class Races(InFolder):
-    def test_processes(self) -> None:
-        log = self.created()
-        self.assertTrue(log.take('a', A, EMPTY, LONG))
-        race(self, log, 'file', str(self.path))
-
-
-class Openings(unittest.TestCase):
-    """What an epoch begins with."""
-
-    def test_next(self) -> None:
-        """The last table is carried over by name, and the first partitions stay."""
-        first = Opening.first(Setup(3, 6).header(), ('a', 'b', 'c'), 700)
-        wish = first.wish(settings.Settings(Setup(4, 8, weights=(1, 2, 3, 4)), ('c', 'd', 'a', 'e')))
-        after = first.next(wish, (1, 2, 3, 3, 2, 1))
-        self.assertEqual(after, Opening(2, 'bully,2,4,8,1 2 3 4,clear', ('c', 'd', 'a', 'e'), 700, (3, 0, 1, 1, 0, 3, 0, 0)))
-        self.assertEqual((Opening.parse(after.text()), after.bare), (after, wish))
-        fewer = after.next(after.wish(settings.Settings(Setup(1, 3), ('a',))), after.table)
-        self.assertEqual(fewer, Opening(3, 'bully,1,1,3', ('a',), 700, (1, 0, 0)))
-        self.assertEqual(after.next(after.wish(settings.Settings(Setup(1, 3), ('z',))), after.table).table, ())
-        self.assertEqual(first.next(None, ()), Opening(2, first.header, first.names, 700))
-        for setup in (Setup(3, 6), Setup(2, 300, weights=(1, 5)), Setup(70, 5, weights=(1,) * 70), Setup(2, 2, weights=(1, 1), keeps=True)):
-            self.assertEqual(setup_of(setup.header()).header(), setup.header())
-
-    def test_limits(self) -> None:
-        """An epoch may have 22 rows for each node at least."""
-        first = Opening.first(HEADER, limit=10)
-        more = first.wish(settings.Settings(Setup(1024, 4096), tuple(map(str, range(1024)))))
-        self.assertEqual((first.limit, Opening.first(HEADER).limit, more.limit), (66, 1_000_000, 22 * 1024))
-        self.assertEqual(Opening.first(HEADER, limit=10**9).limit, 1_000_000)
-
-    def test_tokens(self) -> None:
-        tokens = [Token.of(1, 1), Token.of(1, 999_999), Token.of(2, 1), Token.of(12, 34)]
-        self.assertEqual(sorted(tokens, key=int), tokens)
-        self.assertEqual([str(token) for token in tokens], ['10000001', '10999999', '20000001', '120000034'])
-        self.assertEqual([(token.epoch, token.events) for token in tokens], [(1, 1), (1, 999_999), (2, 1), (12, 34)])
-
-
-# ---- Stores that are wrong, each of which some law has to find.
-
-
-class Held(MemoryLog):
-    """What is wrong is done as carefully as the rest."""
-
-    def hold(self, name: str, holder: Holder, until: int) -> bool:
-        with self._changed:
-            self._hold(name, holder, until)
-        return True
-
-
-class LateWins(Held):
-    """A promise that comes late takes a later one away."""
-
-    def promise(self, name: str, life: Life, promise: Promise) -> bool:
-        return self._holds(name, life) and self.hold(name, Holder(life, promise), self.leases[name].until)
-
-
-class OfAnyLife(MemoryLog):
-    """A promise of another life counts."""
-
-    def promise(self, name: str, life: Life, promise: Promise) -> bool:
-        there = self.presences.get(name)
-        return super().promise(name, there.life if there else life, promise)
-
-
-class Forgetful(Held):
-    """A renewal loses the promise."""
-
-    def renew(self, name: str, life: Life, ttl: int) -> bool:
-        return super().renew(name, life, ttl) and self.hold(name, Holder(life, EMPTY), self.leases[name].until)
-
-
-class OverGaps(Held):
-    """A presence that has ended is renewed."""
-
-    def renew(self, name: str, life: Life, ttl: int) -> bool:
-        there = self.leases.get(name)
-        return there is not None and there.holder.life == life and self.hold(name, there.holder, self.clock() + ttl)
-
-
-class TakesAnywhere(Held):
-    """A presence is taken with any promise."""
-
-    def take(self, name: str, life: Life, promise: Promise, ttl: int) -> bool:
-        return name not in self.presences and self.hold(name, Holder(life, promise), self.clock() + ttl)
-
-
-class Heirs(MemoryLog):
-    """A new life has what the last one promised."""
-
-    def take(self, name: str, life: Life, promise: Promise, ttl: int) -> bool:
-        before = self.leases.get(name)
-        done = super().take(name, life, promise, ttl)
-        if done and before:
-            self.promise(name, life, before.holder.promise)
-        return done
-
-
-class WhoeverReleases(MemoryLog):
-    """A release of another life counts."""
-
-    def release(self, name: str, life: Life) -> None:
-        self.leases.pop(name, None)
-
-
-class Anyhow(MemoryLog):
-    """Rows are appended whoever is idle."""
-
-    def _may_append(self, here: Promise) -> bool:
-        return here == self._end()
-
-
-class OneIsEnough(MemoryLog):
-    """Rows are appended while one is idle."""
-
-    def _may_append(self, here: Promise) -> bool:
-        return here == self._end() and here in self._promises().values()
-
-
-class NobodyIsIdle(MemoryLog):
-    """Rows are appended while nobody is present."""
-
-    def _may_append(self, here: Promise) -> bool:
-        return here == self._end() and set(self._promises().values()) <= {here}
-
-
-class MoreIsEnough(MemoryLog):
-    """Rows are appended while one has promised a later place."""
-
-    def _may_append(self, here: Promise) -> bool:
-        return here == self._end() and bool(self._promises()) and min(self._promises().values()) >= here
-
-
-class PlacesAlone(MemoryLog):
-    """A place counts in any epoch."""
-
-    def _may_append(self, here: Promise) -> bool:
-        return here == self._end() and {promise.place for promise in self._promises().values()} == {here.place}
-
-
-class AtAnyPlace(MemoryLog):
-    """Rows are appended behind others than were meant."""
-
-    def _may_append(self, here: Promise) -> bool:
-        return set(self._promises().values()) == {here}
-
-
-class AnyWish(MemoryLog):
-    """An epoch begins with what isn't wished for."""
-
-    def finish(self, epoch: int, place: int, opening: Opening) -> bool:
-        with self._changed:
-            self.wish = None if opening.bare == self.opening().after(None) else opening.bare
-            return super().finish(epoch, place, opening)
-
-
-class Alone(MemoryLog):
-    """An epoch ends with all presences."""
-
-    def finish(self, epoch: int, place: int, opening: Opening) -> bool:
-        done = super().finish(epoch, place, opening)
-        if done:
-            self.leases.clear()
-        return done
-
-
-class ForWhoWasIdle(MemoryLog):
-    """A wait ends for who was idle before."""
-
-    def has_news(
-        self, epoch: int, place: int, lives: Mapping[str, Life], wanted: Wanted, until: Until, before: AbstractSet[str],
-    ) -> bool:  # fmt: skip
-        return super().has_news(epoch, place, lives, wanted, until, frozenset())
-
-
-class SlowSql(SqliteLog):
-    """Two that append at once both do."""
-
-    def append(self, epoch: int, place: int, rows: Sequence[str]) -> bool:
-        if not self._may_append(self._standing(), Promise(epoch, place)):
-            return False
-        time.sleep(0.01)
-        with self._transaction():
-            end = self._standing().end.place
-            self._file.execute('insert into log values (?, ?, ?, null)', (epoch, end, rows_text(rows)))
-            self._file.execute('update epochs set count = ? where epoch = ?', (end + len(rows), epoch))
-        return True
-
-
-class EarlierBoots(SqliteLog):
-    """Whoever took a presence before the machine booted has it still."""
-
-    def _look_around(self, standing: sqlite.Standing) -> dict[str, Holder]:
-        self._boot = self._one_text("select coalesce(max(boot), '') from presence")
-        return super()._look_around(standing)
-
-    def _one_text(self, asked: str) -> str:
-        return str(self._file.execute(asked).fetchone()[0])
-
-
-PLANTED = (
-    (LateWins, 'test_promises_rise'), (LateWins, 'test_late_promises_at_an_end'), (OfAnyLife, 'test_late_requests'),
-    (OfAnyLife, 'test_a_new_life'), (Forgetful, 'test_a_renewal_keeps_the_promise'), (OverGaps, 'test_renewals'),
-    (OverGaps, 'test_late_requests'), (TakesAnywhere, 'test_take'), (TakesAnywhere, 'test_take_behind_rows'), (Heirs, 'test_a_new_life'), (WhoeverReleases, 'test_late_requests'), (Anyhow, 'test_append'),
-    (Anyhow, 'test_all_have_to_be_idle'), (OneIsEnough, 'test_all_have_to_be_idle'), (OneIsEnough, 'test_promises_of_two_epochs'),
-    (NobodyIsIdle, 'test_append'), (MoreIsEnough, 'test_all_have_to_be_idle'), (PlacesAlone, 'test_promises_of_two_epochs'),
-    (AtAnyPlace, 'test_append'), (AtAnyPlace, 'test_racers'), (AnyWish, 'test_wishes'), (Alone, 'test_epochs'), (Alone, 'test_over_epochs'),
-    (ForWhoWasIdle, 'test_who_was_idle_before'),
-)  # fmt: skip
-
-
-def has_failed(case: unittest.TestCase) -> bool:
-    """Whether the test tells that something is wrong: by an assertion, or since the log is damaged."""
-    result = unittest.TestResult()
-    case.run(result)
-    assert all('DamagedLog' in told or 'BadPresence' in told for _, told in result.errors), result.errors
-    return not result.wasSuccessful()
-
-
-class Planted(unittest.TestCase):
-    """A law that a wrong store doesn't break tells nothing."""
-
-    def test_in_memory(self) -> None:
-        for store, name in PLANTED:
-            laws: type[unittest.TestCase] = next(each for each in (InMemory, EpochsInMemory, WaitsInMemory) if hasattr(each, name))
-            right, wrong = laws(name), laws(name)
-            with self.subTest(store=store.__name__, law=name):
-                self.assertFalse(has_failed(right))
-                with mock.patch.object(sys.modules[__name__], 'MemoryLog', store):
-                    self.assertTrue(has_failed(wrong))
-
-    def test_as_in_memory(self) -> None:
-        """Calls by chance find each of them that needs no time."""
-        for store in {store for store, _ in PLANTED} - {Forgetful, OverGaps, Heirs, AtAnyPlace, ForWhoWasIdle}:
-            case = InMemory('test_as_in_memory')
-            with self.subTest(store=store.__name__), mock.patch.object(sys.modules[__name__], 'MemoryLog', store):
-                self.assertTrue(has_failed(case))
-
-    def test_in_files(self) -> None:
-        wrong = (SlowSql, InFile('test_racers')), (EarlierBoots, Files('test_earlier_boot'))
-        for store, case in wrong:
-            with self.subTest(store=store.__name__), mock.patch.object(sys.modules[__name__], 'SqliteLog', store):
-                self.assertTrue(has_failed(case))
-
-
-if __name__ == '__main__':
-    unittest.main()

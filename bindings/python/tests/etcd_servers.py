@@ -23,7 +23,9 @@ from bully import etcd
 from bully.epochs import Opening
 from bully.etcd import EtcdLog
 from bully.gateway import Answer, Endpoint
-from laws import OPENING, has_stopped, wait_until
+from .processes import has_stopped
+from .steps import OPENING
+from .waiting import wait_until
 
 PROGRAM = shutil.which('etcd')
 QUICK = ('--heartbeat-interval', '50', '--election-timeout', '500')  # milliseconds; so the shortest lease is of 1 s

@@ -1,7 +1,6 @@
-#!/usr/bin/env python3
 """Nodes on their own over a simulated network, which delays what they tell each other while nodes crash and recover.
 
-    BULLY_LIBRARY=FOLDER network.py NODES SEED STEPS [BREACH] > TRACE
+    BULLY_LIBRARY=FOLDER python3 -m tests.network NODES SEED STEPS [BREACH] > TRACE
 
 It does over the binding, step by step and with the same random numbers, what `crates/bully_simulator` does in Rattle: so both write
 the same trace. With a BREACH one premise is broken now and then:

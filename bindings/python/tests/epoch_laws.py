@@ -1,20 +1,14 @@
 """What each store of a shared log does with epochs: tests that a store's tests have for it."""
 from __future__ import annotations
 
-import unittest
 from collections.abc import Callable
-from typing import TYPE_CHECKING
 
 from bully.epochs import Opening
 from bully.logs import SECOND, Holder, Log, NoEpoch
 from bully.member import Promise, Until
 from bully.orders import Orders
-from laws import EMPTY, OPENING, A, B, C, add, be_idle, looked, present
-
-if TYPE_CHECKING:
-    Tests = unittest.TestCase
-else:
-    Tests = object
+from .laws import Tests
+from .steps import EMPTY, OPENING, A, B, C, add, be_idle, looked, present
 
 NEXT = OPENING.next(None, (1, 2, 3, 1, 2, 3))
 

@@ -1,4 +1,3 @@
-#!/usr/bin/env python3
 """Tests of settlements and of a member's rules. What is wanted comes from `docs/ALGORITHM.md` and `include/bully.h`, and
 never from what the library answered. `try` runs them."""
 from __future__ import annotations
@@ -11,7 +10,6 @@ import unittest
 from collections.abc import Callable
 from dataclasses import FrozenInstanceError, replace
 from enum import Enum
-from pathlib import Path
 
 import bully
 from bully import NotLearned, Owned, Replica, Status, check
@@ -19,8 +17,8 @@ from bully.member import (
     TTL_MAX, TTL_MIN, Ask, Begin, Core, End, Ending, Life, Opening, Presence, Present, Promise, Request, Rest, Seen,
     Step, Stop, StoreAnswer, Unknown, Until, Wait, Way, Work,
 )  # fmt: skip
+from .places import ROOT
 
-ROOT = Path(__file__).resolve().parents[2]
 TWO = 'bully,1,2,2'
 ONE = Opening('bully,1,1,1', 7, 1, 22)
 FIRST, SECOND = Life(5, 1), Life(5, 2)
@@ -396,7 +394,3 @@ class Groups(unittest.TestCase):
         self.assertTrue(check(''.join(f'{row}\n' for row in (store.header, *store.log)).encode()).is_lawful)
         for core in cores:
             core.close()
-
-
-if __name__ == '__main__':
-    unittest.main()
