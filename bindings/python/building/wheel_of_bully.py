@@ -18,24 +18,35 @@ from pathlib import Path
 from typing import Optional
 
 HERE = Path(__file__).resolve().parents[1]
-NAME = 'bully'
-VERSION = re.findall(r"^__version__ = '([0-9.]+)'", (HERE / NAME / '__init__.py').read_text(encoding='utf-8'), re.MULTILINE)[0]
+FIRST_TIME = 315532800  # the first that a zip can tell: 1980-01-01
+
+Tables = dict[str, dict[str, str]]
+Settings = Optional[dict[str, object]]
+
+
+
+
+def tables_of(text: str) -> Tables:
+    """The tables of a document in TOML that have strings of one line. (The standard library reads all of TOML from Python 3.11 on.)"""
+    tables: Tables = {}
+    for head, body in re.findall(r'^\[([^\[\]]+)\]\n((?:[^\[\n].*\n|\n)*)', text, re.MULTILINE):
+        tables[head] = dict(re.findall(r'^([\w-]+) = "(.*)"$', body, re.MULTILINE))
+    return tables
+
+
+TABLES = tables_of((HERE / 'pyproject.toml').read_text(encoding='utf-8'))
+PROJECT = TABLES['project']
+NAME, VERSION = PROJECT['name'], PROJECT['version']
 SAID = f'{NAME}-{VERSION}.dist-info'
 METADATA = f"""\
 Metadata-Version: 2.1
 Name: {NAME}
 Version: {VERSION}
-Summary: A group that elects a coordinator by the Bully algorithm, over a proved library
+Summary: {PROJECT['description']}
 License: none is chosen yet
-Requires-Python: >=3.9
+Requires-Python: {PROJECT['requires-python']}
 """
-ENTRY_POINTS = """\
-[console_scripts]
-bully-member = bully.command:main
-"""
-FIRST_TIME = 315532800  # the first that a zip can tell: 1980-01-01
-
-Settings = Optional[dict[str, object]]
+ENTRY_POINTS = ''.join(['[console_scripts]\n', *(f'{name} = {place}\n' for name, place in TABLES['project.scripts'].items())])
 
 
 def get_requires_for_build_wheel(config_settings: Settings = None) -> list[str]:
