@@ -13,9 +13,9 @@ from bully import etcd
 from bully.epochs import Opening
 from bully.etcd import EtcdLog, place_text
 from bully.gateway import Address, Client, Json, Refusal, Silent, behind
-from bully.logs import Wanted, are_idle, orders_of
+from bully.logs import Wanted, are_idle
 from bully.member import Life, Promise, Until
-from bully.sqlite import life_text
+from bully.stored import life_text, orders_of
 from .cluster import SERVERS, Cluster, Outcome
 
 ADDRESS = f'etcd://{",".join(map(str, SERVERS))}/group'

@@ -9,10 +9,11 @@ from typing import NamedTuple
 from bully.epochs import Opening
 from bully.etcd import Held, place_text, same
 from bully.gateway import Json, Pair, number_is, one, pairs_of, put, value_is, value_of
-from bully.logs import Found, Holder, MemoryLog, Unanswered, Wanted, rows_text
+from bully.logs import Found, Holder, Unanswered, Wanted
 from bully.member import Core, Life, Promise, Request, Seen, Until
+from bully.memory import MemoryLog
 from bully.orders import Orders
-from bully.sqlite import life_text
+from bully.stored import life_text, rows_text
 from . import planted
 from .asking import KeptLog
 from .over_etcd import OverEtcd

@@ -21,7 +21,8 @@ from bully.etcd import EtcdLog, same
 from bully.gateway import (
     KV_RANGE, KV_TXN, LEASE_GRANT, LEASE_KEEPALIVE, Json, below, coded, exists, number_is, one, put, ranges, value_is,
 )  # fmt: skip
-from bully.logs import Log, MemoryLog
+from bully.logs import Log
+from bully.memory import MemoryLog
 from tests.calls import Calls, answer_of
 from tests.etcd_servers import PROGRAM, Server, Servers
 from tests.steps import OPENING, Clock

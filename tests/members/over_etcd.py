@@ -10,14 +10,15 @@ from collections.abc import Callable
 from functools import partial
 
 from bully import logs
+from bully.clocks import SECOND
 from bully.epochs import FIRST, Opening
 from bully.etcd import AGAIN, FEW, place_of
 from bully.gateway import Json, Silent, behind
-from bully.logs import SECOND, LogError, NoEpoch, Unanswered, orders_of
+from bully.logs import LogError, NoEpoch, Unanswered
 from bully.member import Ask, Promise, Request as Asked, Until, Wait
 from bully.orders import Orders
 from bully.settings import Settings
-from bully.sqlite import life_of
+from bully.stored import life_of, orders_of
 from .asking import KeptLog, Pending, Request, made, opened
 from .cluster import SERVERS, Cluster, Outcome, Version, Weather, interval, pair_told, weather_of
 from .over_memory import FoundInLog, LogMember, LogStore, OverMemory, epoch_of

@@ -1,4 +1,4 @@
-"""The same groups over the log in memory of `bully.logs`, and what all logs of the package have in common here.
+"""The same groups over the log of `bully.memory`, and what all logs of the package have in common here.
 
 A member asks the log as `bully.running` does. What is judged is read from the log as it is, apart from what members ask.
 """
@@ -13,9 +13,9 @@ from typing import Protocol, cast
 from bully import Status, logs, ordering
 from bully.asks import Asker
 from bully.epochs import FIRST, Opening
-from bully.logs import MemoryLog
 from bully.looks import awaited, seen_of
 from bully.member import Ask, Core, Ending, Life, Opening as Terms, Promise, Request, Seen, Until, Wait
+from bully.memory import MemoryLog
 from bully.orders import Orders
 from bully.settings import Settings
 from bully.stores import BadWords

@@ -7,7 +7,7 @@
 
 LIBRARY_FOLDER is what `bin/library` wrote. Each group has to come to rest once there is no more trouble, its logs have to be lawful, and
 no two members may work on one partition at one moment, but for those that were paused beyond their presence; and then by tokens that
-the resource can tell apart. The log is that of `bully.logs` in memory; with `--over-etcd` that of `bully.etcd`, over an etcd whose leaders
+the resource can tell apart. The log is that of `bully.memory`; with `--over-etcd` that of `bully.etcd`, over an etcd whose leaders
 are lost; with `--told` members wait there by the package's own watch, and look by what it told. With `--epochs` logs are soon full, groups are
 resized often, and old epochs are taken away; with `--orders` nodes are drained, and groups are paused. With a bug planted, some seed has to show it: the first one ends the search. `--bugs`
 tries each bug by the seed that `bugs.py` has, and `--find` looks for it anew, for so many seconds each. `--long` is one group of five with

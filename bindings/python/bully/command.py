@@ -33,9 +33,10 @@ import time
 from collections.abc import Callable
 from typing import TypeVar
 
+from .clocks import seconds_of_boot
 from .epochs import FIRST, LATEST, Opening
 from .faults import BullyError
-from .logs import DamagedLog, Log, LogError, OtherLog, Unanswered, found_in, seconds_of_boot
+from .logs import DamagedLog, Log, LogError, OtherLog, Unanswered, found_in
 from .member import Ending
 from .messages import FORMATS, LAST_SECONDS, JsonLines, Messages
 from .ordering import drain, has_left, pause, resume, undrain

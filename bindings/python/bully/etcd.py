@@ -24,20 +24,21 @@ from collections.abc import Callable, Iterator, Mapping, Sequence, Set as Abstra
 from contextlib import closing
 from typing import NamedTuple
 
+from .clocks import SECOND, seconds_of_boot, slept, wall_clock
 from .epochs import FIRST, Opening
 from .gateway import (
     KV_RANGE, LEASE_GRANT, LEASE_KEEPALIVE, Answer, Client, Compacted, Json, Pair, Silent, Watch, behind, below, coded,
     exists, number_is, one, pair_of, pairs_of, put, ranges, read_address, value_is, value_of,
 )  # fmt: skip
 from .logs import (
-    BY_HISTORY, SECOND, BadPresence, DamagedLog, ForeignLog, Found, Holder, LogError, LogExists, NoLog, OtherLog,
-    Unanswered, are_idle, log_name, no_epoch, opening_of, orders_of, rows_of, rows_text, seconds_of_boot, see_end,
-    slept, wall_clock, wish_of,
+    BadPresence, DamagedLog, ForeignLog, Found, Holder, LogError, LogExists, NoLog, OtherLog, Unanswered, are_idle,
 )  # fmt: skip
 from .member import Life, Promise, Until
 from .orders import Orders
 from .repairing import NOWHERE, Kept
-from .sqlite import life_of, life_text
+from .stored import (
+    BY_HISTORY, life_of, life_text, log_name, no_epoch, opening_of, orders_of, rows_of, rows_text, see_end, wish_of,
+)  # fmt: skip
 from .values import Rows
 
 FORM = 3

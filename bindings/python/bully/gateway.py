@@ -12,7 +12,8 @@ from base64 import b64decode, b64encode
 from collections.abc import Sequence
 from typing import Any, NamedTuple, NoReturn
 
-from .logs import DamagedLog, ForeignLog, LogError, Unanswered, seconds_of_boot, slept
+from .clocks import seconds_of_boot, slept
+from .logs import DamagedLog, ForeignLog, LogError, Unanswered
 
 PORT = 2379
 LEAST_LIMIT = 0.01  # seconds that a request is given at least

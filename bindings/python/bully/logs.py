@@ -5,30 +5,20 @@ empty log has place 0. A *presence* is a lease: a process takes it, under the na
 it. Presences are by name, over all epochs. With a presence goes a promise: its life works by no plan before that place of that epoch.
 Rows are appended, and an epoch is ended, only while all that are present have promised the end of its log; so nobody works then.
 
-`Log` says what a store does; `MemoryLog` is the memory of one process, `bully.sqlite` has a file of one machine, and `bully.etcd` an etcd.
+`Log` says what a store does: `bully.memory` has one in the memory of a process, `bully.sqlite` in a file of one machine, and `bully.etcd` in etcd.
 `docs/MEMBERS.md` says what members do with it, and `bully.epochs` has epochs.
 
 A call that fails raises an exception below LogError: below Unanswered if it may be tried again, since what it found may pass.
 """
 from __future__ import annotations
 
-import secrets
-import select
-import threading
-import time
-from collections.abc import Callable, Iterator, Mapping, Sequence, Set as AbstractSet
+from collections.abc import Iterator, Mapping, Sequence, Set as AbstractSet
 from contextlib import suppress
 from typing import NamedTuple, Optional, Protocol, TypeVar
 
 from .epochs import Opening
-from .faults import BullyError
 from .member import Life, Promise, Until
 from .orders import Orders
-from .values import Rows
-
-SECOND = 1_000_000_000  # nanoseconds
-PART = 0.02  # seconds that a wait in memory takes at most, if something else may wake it
-BY_HISTORY = '; history writes it as a trace, and init makes another log'  # is told of a log by an older version
 
 Name = TypeVar('Name', str, bytes)
 Wanted = tuple[Optional[Opening], Orders]  # what is wished for, and what is ordered
@@ -184,26 +174,6 @@ class Log(Protocol):
         """The log isn't used any more. Presences stay until they end."""
 
 
-def rows_text(rows: Sequence[str]) -> str:
-    """The rows of an append as one text, each with its line end. Raises ValueError."""
-    text = rows.text if isinstance(rows, Rows) else ''.join([f'{row}\n' for row in rows])
-    if not rows or text.count('\n') != len(rows):
-        raise ValueError('an append has one row at least, and no row a line end')
-    return text
-
-
-def log_name() -> str:
-    """A name that no other log has."""
-    return secrets.token_hex(8)
-
-
-def see_end(where: str, end: Promise, here: Promise) -> None:
-    """Raises DamagedLog, if the log was read up to here, and ends before."""
-    if here > end:
-        raise DamagedLog(f'{where}: the log was read up to place {here.place} of epoch {here.epoch}, and ends at {end.place} of {end.epoch}: '
-                         'its store went back, as one does that is restored')  # fmt: skip
-
-
 def found_in(log: Log) -> Found:
     """What is found in the log, but no rows."""
     return log.look(0, 0)
@@ -227,257 +197,3 @@ def are_idle(until: Until, promises: Mapping[Name, object], here: object, before
         return False
     idle = idle_of(promises, here)
     return bool(idle - before) if until is Until.ANY_IDLE else bool(idle) and len(idle) == len(promises)
-
-
-def no_epoch(where: str, epoch: int, there: range) -> NoEpoch:
-    """That the epoch isn't there, and which are."""
-    return NoEpoch(f'{where}: epoch {epoch} is not there, but ' + (f'{there[0]} to {there[-1]}' if len(there) > 1 else f'{there[0]}'))
-
-
-def opening_of(where: str, epoch: int, text: str | bytes) -> Opening:
-    """The opening of an epoch, as a store has it. Raises DamagedLog."""
-    try:
-        opening = Opening.parse(text if isinstance(text, str) else text.decode())
-    except (ValueError, KeyError, TypeError, BullyError) as fault:
-        raise DamagedLog(f'{where}: epoch {epoch} has no opening: {fault}') from fault
-    if opening.epoch != epoch:
-        raise DamagedLog(f'{where}: epoch {epoch} has the opening of epoch {opening.epoch}')
-    return opening
-
-
-def rows_of(where: str, epoch: int, place: int, text: str | bytes) -> Rows:
-    """The rows of an epoch behind that place, each with its line end, as a store has them. Raises DamagedLog."""
-    try:
-        rows = Rows(text if isinstance(text, str) else text.decode())
-    except ValueError as fault:
-        raise DamagedLog(f'{where}: a row of epoch {epoch} behind place {place} is no text') from fault
-    if '\r' in rows.text or '\n\n' in rows.text or rows.text.startswith('\n'):
-        bad = next(number for number, row in enumerate(rows, place) if not row or '\r' in row)
-        raise DamagedLog(f'{where}: what stands at place {bad} of epoch {epoch} is no row: {rows[bad - place]!r}')
-    return rows
-
-
-def orders_of(where: str, text: str | bytes | None) -> Orders:
-    """What is ordered, as a store has it. Raises DamagedLog."""
-    try:
-        return Orders.parse(text.decode() if isinstance(text, bytes) else text or '')
-    except (ValueError, KeyError, TypeError, AttributeError) as fault:
-        raise DamagedLog(f'{where}: what is ordered can not be read: {fault}') from fault
-
-
-def wish_of(where: str, epoch: int, text: str | bytes | None) -> Opening | None:
-    """What is wished for in an epoch, as a store has it. Raises DamagedLog."""
-    return None if text is None else opening_of(where, epoch + 1, text)
-
-
-def seconds_of_boot() -> float:
-    """The clock of leases on one machine: seconds since it booted, with those of its sleep."""
-    return time.clock_gettime(time.CLOCK_BOOTTIME)
-
-
-def nanoseconds_of_boot() -> int:
-    """The same clock in whole nanoseconds."""
-    return time.clock_gettime_ns(time.CLOCK_BOOTTIME)
-
-
-def wall_clock() -> int:
-    """Milliseconds since 1970, as far as the machine knows. Nothing depends on it."""
-    return time.time_ns() // 1_000_000
-
-
-def slept(seconds: float, *descriptors: int | None) -> list[int]:
-    """Sleeps so long, or until one of these descriptors, as far as there are any, has something to read. Which have."""
-    poll = select.poll()
-    for descriptor in descriptors:
-        if descriptor is not None:
-            poll.register(descriptor, select.POLLIN)
-    return [descriptor for descriptor, _ in poll.poll(1000 * seconds)]
-
-
-class Lease(NamedTuple):
-    """A presence: whose, and when it ends."""
-
-    holder: Holder
-    until: int
-
-
-class MemoryLog:
-    """A log in memory. Threads may share it: what a look has told is kept for each of them."""
-
-    def __init__(self, opening: Opening, clock: Callable[[], int] = nanoseconds_of_boot) -> None:
-        """A log that begins so. Presences last by the clock, in whole nanoseconds."""
-        self.clock = clock
-        self.leases: dict[str, Lease] = {}
-        self.wish: Opening | None = None
-        self.orders = Orders()
-        self._openings = {opening.epoch: opening}
-        self._rows: dict[int, list[str]] = {opening.epoch: []}
-        self._times: dict[int, dict[int, int | None]] = {opening.epoch: {}}
-        self._changed = threading.Condition(threading.RLock())
-        self._told = threading.local()
-
-    @property
-    def epoch(self) -> int:
-        """The current one."""
-        return max(self._rows)
-
-    @property
-    def rows(self) -> list[str]:
-        """Those of the current epoch."""
-        return self._rows[self.epoch]
-
-    @property
-    def presences(self) -> dict[str, Holder]:
-        """Who is present now."""
-        now = self.clock()
-        return {name: lease.holder for name, lease in self.leases.items() if now < lease.until}
-
-    def epochs(self) -> range:
-        with self._changed:
-            return range(min(self._rows), self.epoch + 1)
-
-    def opening(self, epoch: int | None = None) -> Opening:
-        with self._changed:
-            found = self._openings.get(self.epoch if epoch is None else epoch)
-            if found is None:
-                raise no_epoch('the log', epoch or 0, self.epochs())
-            return found
-
-    # Presences.
-
-    def take(self, name: str, life: Life, promise: Promise, ttl: int) -> bool:
-        with self._changed:
-            done = name not in self.presences and promise == self._end()
-            if done:
-                self._hold(name, Holder(life, promise), self.clock() + ttl)
-            return done
-
-    def renew(self, name: str, life: Life, ttl: int) -> bool:
-        with self._changed:
-            done = self._holds(name, life)
-            if done:
-                self._hold(name, self.leases[name].holder, self.clock() + ttl)
-            return done
-
-    def release(self, name: str, life: Life) -> None:
-        with self._changed:
-            if self._holds(name, life):
-                del self.leases[name]
-                self._changed.notify_all()
-
-    def promise(self, name: str, life: Life, promise: Promise) -> bool:
-        with self._changed:
-            done = self._holds(name, life)
-            if done:
-                lease = self.leases[name]
-                self._hold(name, Holder(life, max(promise, lease.holder.promise)), lease.until)
-            return done
-
-    def _holds(self, name: str, life: Life) -> bool:
-        holder = self.presences.get(name)
-        return holder is not None and holder.life == life
-
-    def _hold(self, name: str, holder: Holder, until: int) -> None:
-        self.leases[name] = Lease(holder, until)
-        self._changed.notify_all()
-
-    # The log.
-
-    def append(self, epoch: int, place: int, rows: Sequence[str]) -> bool:
-        rows_text(rows)
-        with self._changed:
-            done = self._may_append(Promise(epoch, place))
-            if done:
-                self._times[epoch][place] = wall_clock()
-                self.rows.extend(rows)
-                self._changed.notify_all()
-            return done
-
-    def finish(self, epoch: int, place: int, opening: Opening) -> bool:
-        with self._changed:
-            done = self._may_append(Promise(epoch, place)) and opening.bare == self.opening().after(self.wish)
-            if done:
-                self._openings[opening.epoch], self._rows[opening.epoch], self.wish = opening, [], None
-                self._times[opening.epoch] = {}
-                self._changed.notify_all()
-            return done
-
-    def _end(self) -> Promise:
-        """The end of the current epoch's log."""
-        return Promise(self.epoch, len(self.rows))
-
-    def _may_append(self, here: Promise) -> bool:
-        see_end('the log', self._end(), here)
-        return here == self._end() and are_idle(Until.ALL_IDLE, self._promises(), here)
-
-    def _promises(self) -> dict[str, Promise]:
-        return {name: holder.promise for name, holder in self.presences.items()}
-
-    def read(self, epoch: int, place: int) -> list[str]:
-        with self._changed:
-            if epoch not in self._rows:
-                raise no_epoch('the log', epoch, self.epochs())
-            see_end('the log', self._end(), Promise(epoch, place))
-            return self._rows[epoch][place:]
-
-    def times(self, epoch: int) -> dict[int, int | None]:
-        with self._changed:
-            return dict(self._times.get(epoch, {}))
-
-    def prune(self, first: int) -> None:
-        with self._changed:
-            for epoch in range(min(self._rows), min(first, self.epoch)):
-                del self._rows[epoch], self._times[epoch]
-
-    # Looks and waits.
-
-    def look(self, epoch: int, place: int) -> Found:
-        with self._changed:
-            see_end('the log', self._end(), Promise(epoch, place))
-            found = Found(self.epoch, self.rows[place:] if epoch == self.epoch else [], self.presences, self.wish, self.orders)
-            self._told.wanted, self._told.idle = found.wanted, (self._end(), found.idle(self._end()))
-            return found
-
-    def wait(self, epoch: int, place: int, lives: Mapping[str, Life], until: Until, seconds: float, woken: int | None = None) -> None:
-        if woken is not None:  # it is looked at now and then
-            seconds = 0.0 if slept(0.0, woken) else min(seconds, PART)
-        end, told = self.clock() + int(seconds * SECOND), getattr(self._told, 'wanted', (None, Orders()))
-        known: tuple[Promise, frozenset[str]] = getattr(self._told, 'idle', (Promise(), frozenset()))
-        before = known[1] if known[0] == Promise(epoch, place) else frozenset()
-        with self._changed:
-            while not self.has_news(epoch, place, lives, told, until, before) and self.clock() < end:
-                ends = [lease.until for lease in self.leases.values() if self.clock() < lease.until]
-                self._changed.wait(max(0, min([end, *ends]) - self.clock()) / SECOND)
-
-    def has_news(self, epoch: int, place: int, lives: Mapping[str, Life], wanted: Wanted, until: Until, before: AbstractSet[str]) -> bool:
-        """Whether a wait is over before its time behind a look that found this wish and these orders, and these idle up to that place."""
-        with self._changed:
-            if Promise(epoch, place) != self._end() or wanted != (self.wish, self.orders):
-                return True
-            there = {name: holder.life for name, holder in self.presences.items()}
-            return there != lives or are_idle(until, self._promises(), Promise(epoch, place), before)
-
-    def ask(self, wish: Opening, epoch: int) -> bool:
-        with self._changed:
-            done = epoch == self.epoch and wish.epoch == epoch + 1
-            if done:
-                self.wish = wish.bare
-                self._changed.notify_all()
-            return done
-
-    def cancel(self, epoch: int) -> None:
-        with self._changed:
-            if epoch == self.epoch:
-                self.wish = None
-                self._changed.notify_all()
-
-    def order(self, orders: Orders, before: Orders | None) -> bool:
-        with self._changed:
-            done = before is None or before == self.orders
-            if done:
-                self.orders = orders
-                self._changed.notify_all()
-            return done
-
-    def close(self) -> None:
-        pass

@@ -5,8 +5,9 @@ import time
 from collections.abc import Callable
 from dataclasses import replace
 
+from .clocks import seconds_of_boot
 from .epochs import Opening
-from .logs import Found, Log, Unanswered, found_in, seconds_of_boot
+from .logs import Found, Log, Unanswered, found_in
 from .orders import Orders
 from .running import number_of
 from .stores import BadWords

@@ -17,8 +17,9 @@ from http.server import BaseHTTPRequestHandler, ThreadingHTTPServer
 from typing import Any
 from urllib.parse import parse_qs, urlsplit
 
+from .clocks import seconds_of_boot
 from .faults import BullyError
-from .logs import LogError, seconds_of_boot
+from .logs import LogError
 from .running import Member
 from .values import Status
 from .view import GroupView, LogView, NodeView

@@ -10,8 +10,9 @@ import logging
 import secrets
 import threading
 
+from .clocks import SECOND, seconds_of_boot, slept
 from .epochs import Opening
-from .logs import SECOND, Log, LogError, Unanswered, found_in, seconds_of_boot, slept
+from .logs import Log, LogError, Unanswered, found_in
 from .member import Life, Promise, Until
 from .replica import Replica
 from .running import Member

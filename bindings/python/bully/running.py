@@ -13,10 +13,9 @@ from dataclasses import dataclass, field
 from typing import TypeVar
 
 from .asks import Asker
+from .clocks import SECOND, nanoseconds_of_boot, seconds_of_boot, slept
 from .epochs import Opening, Token
-from .logs import (
-    SECOND, DamagedLog, Found, Log, Unanswered, found_in, nanoseconds_of_boot, openings_of, seconds_of_boot, slept,
-)  # fmt: skip
+from .logs import DamagedLog, Found, Log, Unanswered, found_in, openings_of
 from .looks import awaited, seen_of
 from .member import (
     Ask, Begin, Core, End, Ending, Life, Opening as Terms, Promise, Request, Rest, Seen, Step, Stop, StoreAnswer, Until,
@@ -98,7 +97,7 @@ class Member:
         """A member of the log's group, for the node of this name, or of this number in the current epoch. If the group's settings
         change, it goes on by the name; `run` returns, if the group has no such node any more. With `settings`, which may be those of an
         earlier epoch, the log has to be of that group. `sure` is told, behind each renewal, until when what is owned is sure, by
-        `logs.seconds_of_boot`.
+        `clocks.seconds_of_boot`.
 
         Raises OtherGroup, NotInGroup, BadHeader, BadNode, BadTtl, OutOfMemory, and what the log raises."""
         self.log = log
@@ -124,7 +123,7 @@ class Member:
         self._ended = threading.Event()
         self._ended.set()
         self._shown: tuple[Assignment | None, float] = (None, 0.0)
-        self.stepped = 0.0  # when it took its last step, by `logs.seconds_of_boot`
+        self.stepped = 0.0  # when it took its last step, by `clocks.seconds_of_boot`
 
     def _take_part(self, opening: Opening, number: int) -> None:
         """It takes part for the node of this number, as a process that no other one was."""
@@ -152,7 +151,7 @@ class Member:
 
     @property
     def sure_until(self) -> float:
-        """Until when the node is surely present, by `logs.seconds_of_boot`."""
+        """Until when the node is surely present, by `clocks.seconds_of_boot`."""
         return self._shown[1]
 
     @property

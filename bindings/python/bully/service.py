@@ -6,7 +6,7 @@ import socket
 import threading
 from contextlib import suppress
 
-from .logs import seconds_of_boot
+from .clocks import seconds_of_boot
 from .running import Member
 from .worker import Workers
 

@@ -16,16 +16,19 @@ from pathlib import Path
 from typing import NamedTuple
 from urllib.parse import quote
 
+from .clocks import SECOND, nanoseconds_of_boot, slept, wall_clock
 from .epochs import Opening
 from .guard import is_stopped, writer_of
 from .logs import (
-    BY_HISTORY, SECOND, BadPresence, DamagedLog, DiskFull, ForeignLog, Found, Holder, LogBusy, LogExists, NoLog,
-    OtherLog, ReadOnlyLog, Unanswered, are_idle, log_name, nanoseconds_of_boot, no_epoch, opening_of, orders_of,
-    rows_of, rows_text, see_end, slept, wall_clock, wish_of,
+    BadPresence, DamagedLog, DiskFull, ForeignLog, Found, Holder, LogBusy, LogExists, NoLog, OtherLog, ReadOnlyLog,
+    Unanswered, are_idle,
 )  # fmt: skip
 from .member import Life, Promise, Until
 from .orders import Orders
 from .repairing import Kept
+from .stored import (
+    BY_HISTORY, life_of, life_text, log_name, no_epoch, opening_of, orders_of, rows_of, rows_text, see_end, wish_of,
+)  # fmt: skip
 from .values import Rows
 
 APPLICATION = 0x62756C79  # of a file with a log: `buly`
@@ -145,17 +148,6 @@ def form_of(path: str, file: sqlite3.Connection) -> int:
     if file.execute('pragma application_id').fetchone()[0] != APPLICATION:
         raise ForeignLog(f'{path}: another kind of file')
     return int(file.execute('pragma user_version').fetchone()[0])
-
-
-def life_text(life: Life) -> str:
-    """A life, for a store."""
-    return f'{life.process}.{life.number}'
-
-
-def life_of(text: str) -> Life:
-    """The same life. Raises ValueError."""
-    process, number = text.split('.')
-    return Life(int(process), int(number))
 
 
 def holder_of(where: str, name: str, life: str, epoch: int, place: int, until: int) -> Holder:

@@ -2,10 +2,8 @@
 from __future__ import annotations
 
 import argparse
-import contextlib
 import os
-import time
-from collections.abc import Callable, Mapping, Sequence
+from collections.abc import Sequence
 from dataclasses import dataclass, field
 from typing import TYPE_CHECKING
 
@@ -57,7 +55,7 @@ class FileStore:
 
     def history(self, epoch: int | None = None, has_times: bool = False) -> Sequence[str]:
         """The trace of an epoch, or of the current one: also in a log of the form before."""
-        from .older import file_trace
+        from .history import file_trace, traced
 
         return traced(lambda: self.open(reads=True), file_trace(self.path, epoch), epoch, has_times)
 
@@ -85,40 +83,9 @@ class EtcdStore:
 
     def history(self, epoch: int | None = None, has_times: bool = False) -> Sequence[str]:
         """The trace of an epoch, or of the current one: also in a log of the form before."""
-        from .older import etcd_trace
+        from .history import etcd_trace, traced
 
         return traced(self.open, etcd_trace(self.address, epoch, self.tls, self.user, self.password), epoch, has_times)
-
-
-def trace(log: Log, epoch: int | None, has_times: bool = False) -> Sequence[str]:
-    """The trace of an epoch, or of the current one, from its header on; or the same with times. Closes the log."""
-    with contextlib.closing(log):
-        number = log.epochs()[-1] if epoch is None else epoch
-        rows = [log.opening(number).header, *log.read(number, 0)]
-        return timed(rows, log.times(number)) if has_times else rows
-
-
-def traced(log: Callable[[], Log], older: Sequence[str] | None, epoch: int | None, has_times: bool) -> Sequence[str]:
-    """The same of a log, unless an older one was found, which has no times."""
-    if older is None:
-        return trace(log(), epoch, has_times)
-    return timed(older, {}) if has_times else older
-
-
-def timed(rows: Sequence[str], times: Mapping[int, int | None]) -> list[str]:
-    """The rows of a trace, each behind the time of its append and a comma; behind the comma alone, if that isn't kept."""
-    lines, told = [], ''
-    for place, row in enumerate(rows, -1):
-        told = time_text(times[place]) if place in times else told
-        lines.append(f'{told},{row}')
-    return lines
-
-
-def time_text(milliseconds: int | None) -> str:
-    """A time of UTC by ISO 8601; nothing, if there is none."""
-    if milliseconds is None:
-        return ''
-    return time.strftime('%Y-%m-%dT%H:%M:%S', time.gmtime(milliseconds // 1000)) + f'.{milliseconds % 1000:03}Z'
 
 
 def store_of(options: argparse.Namespace) -> FileStore | EtcdStore:

@@ -7,8 +7,9 @@ from collections.abc import Mapping
 from dataclasses import dataclass
 from typing import Any, Deque
 
+from .clocks import seconds_of_boot
 from .epochs import SETTLEMENT, Token
-from .logs import Found, Holder, Log, seconds_of_boot
+from .logs import Found, Holder, Log
 from .member import Life, Promise
 from .replica import Replica
 from .settings import shown_name

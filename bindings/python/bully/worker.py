@@ -13,8 +13,8 @@ from collections.abc import Sequence
 from contextlib import suppress
 from pathlib import Path
 
+from .clocks import SECOND, seconds_of_boot, slept
 from .guard import BEATS, adopt, children, end_children, may_kill
-from .logs import SECOND, seconds_of_boot, slept
 from .running import Assignment, Member
 
 GUARD = str(Path(__file__).with_name('guard.py'))

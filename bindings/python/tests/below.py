@@ -8,7 +8,7 @@ from pathlib import Path
 from types import SimpleNamespace
 from typing import cast
 
-from bully import logs
+from bully import clocks
 from bully.epochs import Opening, Token
 from bully.running import Assignment, Member
 from bully.worker import Workers
@@ -60,5 +60,5 @@ class Below(unittest.TestCase):
         self.member.ttl, self.member.margin = ttl, ttl / 5
         workers.begin(cast(Member, self.member))
         self.addCleanup(workers.close)
-        workers.hear_until(logs.seconds_of_boot() + seconds)
+        workers.hear_until(clocks.seconds_of_boot() + seconds)
         return workers

@@ -4,9 +4,11 @@ from __future__ import annotations
 import random
 from collections.abc import Callable
 
+from bully.clocks import SECOND
 from bully.epochs import Opening
-from bully.logs import SECOND, Log, LogError, MemoryLog
+from bully.logs import Log, LogError
 from bully.member import Life, Promise
+from bully.memory import MemoryLog
 from bully.orders import Orders
 from .steps import looked
 

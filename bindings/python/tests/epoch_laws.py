@@ -3,8 +3,9 @@ from __future__ import annotations
 
 from collections.abc import Callable
 
+from bully.clocks import SECOND
 from bully.epochs import Opening
-from bully.logs import SECOND, Holder, Log, NoEpoch
+from bully.logs import Holder, Log, NoEpoch
 from bully.member import Promise, Until
 from bully.orders import Orders
 from .laws import Tests

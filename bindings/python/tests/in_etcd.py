@@ -6,9 +6,10 @@ import socket
 import threading
 from typing import Any
 
+from bully.clocks import SECOND
 from bully.etcd import EtcdLog
 from bully.gateway import Endpoint
-from bully.logs import SECOND, Unanswered
+from bully.logs import Unanswered
 from bully.member import Life
 from .etcd_servers import Server, WithEtcd
 from .steps import EMPTY, LONG, A

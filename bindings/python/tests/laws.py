@@ -9,8 +9,10 @@ from collections.abc import Callable
 from typing import TYPE_CHECKING
 from unittest import mock
 
-from bully.logs import SECOND, DamagedLog, Holder, Log, MemoryLog, NoEpoch
+from bully.clocks import SECOND
+from bully.logs import DamagedLog, Holder, Log, NoEpoch
 from bully.member import Life, Promise, Until
+from bully.memory import MemoryLog
 from bully.orders import Orders
 from .calls import Calls, answer_of
 from .steps import EMPTY, OPENING, A, B, C, Clock, add, be_idle, end_of, present

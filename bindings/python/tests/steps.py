@@ -1,8 +1,9 @@
 """Steps of a log that many tests take, and who takes them."""
 from __future__ import annotations
 
+from bully.clocks import SECOND
 from bully.epochs import Opening
-from bully.logs import SECOND, Holder, Log
+from bully.logs import Holder, Log
 from bully.member import Life, Promise
 
 HEADER = 'bully,1,3,6'

@@ -12,7 +12,8 @@ from collections.abc import Callable
 from unittest import mock
 
 from bully import command, stores
-from bully.logs import SECOND, Log
+from bully.clocks import SECOND
+from bully.logs import Log
 from bully.member import Life, Promise
 from bully.running import Member
 from .configurations import TOP, toml

@@ -8,9 +8,10 @@ import time
 from collections.abc import Callable
 from typing import Any
 
+from bully.clocks import SECOND
 from bully.etcd import EtcdLog
 from bully.gateway import Denied, read_address
-from bully.logs import SECOND, Holder, LogError, Unanswered
+from bully.logs import Holder, LogError, Unanswered
 from bully.member import Life, Promise, Until
 from .etcd_servers import Servers, WithCertificates, add_users, alone, begin_alone, coded, free_ports
 from .in_etcd import InEtcd

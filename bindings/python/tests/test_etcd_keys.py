@@ -16,10 +16,11 @@ from typing import Any
 from unittest import mock
 
 from bully import etcd, gateway
+from bully.clocks import SECOND
 from bully.epochs import Opening
 from bully.etcd import EtcdLog
 from bully.gateway import Address, Client, Endpoint, one, read_address
-from bully.logs import SECOND, DamagedLog, ForeignLog, LogError, LogExists, NoEpoch, NoLog, Unanswered
+from bully.logs import DamagedLog, ForeignLog, LogError, LogExists, NoEpoch, NoLog, Unanswered
 from bully.member import Life, Promise, Until
 from bully.orders import Orders
 from bully.repairing import damage_of, repair

@@ -9,10 +9,11 @@ from typing import Any
 from unittest import mock
 
 from bully import etcd, gateway
+from bully.clocks import SECOND
 from bully.epochs import Opening
 from bully.etcd import EtcdLog
 from bully.gateway import Client, one, value_of
-from bully.logs import SECOND, Log, NoEpoch
+from bully.logs import Log, NoEpoch
 from bully.member import Life
 from . import test_etcd_presences, test_etcd_watches
 from .counting import has_failed

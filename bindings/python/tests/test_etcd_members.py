@@ -11,7 +11,7 @@ from collections.abc import Sequence
 from typing import Any
 from unittest import mock
 
-from bully import check, command, stores
+from bully import check, command, history, stores
 from bully.epochs import Opening, Token
 from bully.etcd import EtcdLog
 from bully.logs import Log
@@ -105,7 +105,7 @@ class OverEtcd(WithEtcd, WithFolder):
         """No two worked on one partition at once, nobody by an old token, and these epochs are lawful."""
         self.assertFalse((self.work / 'faults').exists(), 'two have worked on one partition, or one by an old token')
         for epoch in epochs:
-            self.assertTrue(check(''.join(f'{row}\n' for row in stores.trace(self.opened(patience=SLOW), epoch)).encode()).is_lawful)
+            self.assertTrue(check(''.join(f'{row}\n' for row in history.trace(self.opened(patience=SLOW), epoch)).encode()).is_lawful)
 
     def end(self, *members: MemberProcess) -> None:
         """They leave in order, one by one, and nobody is present any more."""

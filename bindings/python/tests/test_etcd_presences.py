@@ -6,10 +6,11 @@ from collections.abc import Callable
 from unittest import mock
 
 from bully import gateway
+from bully.clocks import SECOND
 from bully.epochs import Opening
 from bully.etcd import EtcdLog
 from bully.gateway import Client, one
-from bully.logs import SECOND, ForeignLog, Holder, Unanswered
+from bully.logs import ForeignLog, Holder, Unanswered
 from bully.member import Life, Promise
 from .etcd_servers import Json, begin_alone
 from .in_etcd import GRANT, KEEPALIVE, PUT, TXN, InEtcd

@@ -12,10 +12,10 @@ from pathlib import Path
 from unittest import mock
 
 from bully import sqlite
+from bully.clocks import SECOND, nanoseconds_of_boot
 from bully.epochs import Opening
 from bully.logs import (
-    SECOND, DamagedLog, DiskFull, ForeignLog, Holder, LogBusy, LogError, LogExists, NoEpoch, NoLog, OtherLog,
-    ReadOnlyLog, nanoseconds_of_boot,
+    DamagedLog, DiskFull, ForeignLog, Holder, LogBusy, LogError, LogExists, NoEpoch, NoLog, OtherLog, ReadOnlyLog,
 )  # fmt: skip
 from bully.member import Promise, Until
 from bully.sqlite import SqliteLog
@@ -40,7 +40,8 @@ except LogError as fault:
 # Takes a presence for so many seconds, and tells what came of it.
 TAKES = '''
 import sys
-from bully.logs import SECOND, LogError
+from bully.clocks import SECOND
+from bully.logs import LogError
 from bully.member import Life, Promise
 from bully.sqlite import SqliteLog
 try:

@@ -14,7 +14,7 @@ from types import SimpleNamespace
 from typing import Any, cast
 from unittest import mock
 
-from bully import guard, logs
+from bully import clocks, guard
 from bully.running import Member
 from bully.worker import GuardLost, WorkerEnded, WorkerStuck, Workers
 from .below import Below, assigned
@@ -42,18 +42,18 @@ OTHER_USER = '''
 import logging, sys, threading, time
 from types import SimpleNamespace
 rooted, kills = sys.argv[1:]
-from bully import logs, worker
+from bully import clocks, worker
 from bully.running import Assignment
 logging.basicConfig(stream=sys.stdout, format='%(message)s')
 worker._told.error = lambda _, processes: print('these processes may work on:', processes, flush=True)
 failures, lost = [], []
 workers = worker.Workers([rooted, '--reuid', '0', '--regid', '0', '--clear-groups', 'sh', '-c', 'echo $$; exec sleep 1000'], 'x', 0.1)
 workers.begin(SimpleNamespace(ttl=2.0, margin=0.4, end_with=failures.append, lose=lost.append, is_leaving=True))
-workers.hear_until(logs.seconds_of_boot() + 1000.0)
+workers.hear_until(clocks.seconds_of_boot() + 1000.0)
 settings = SimpleNamespace(text=lambda *_: '{}', name=str)
 workers.start(Assignment(1, 1, (0,), settings))
 input()
-workers._guard.kill() if kills else workers.hear_until(logs.seconds_of_boot())
+workers._guard.kill() if kills else workers.hear_until(clocks.seconds_of_boot())
 stopping = threading.Thread(target=workers.stop, args=[None])
 stopping.start()
 while not workers.is_stuck:
@@ -72,24 +72,24 @@ from bully.epochs import Opening
 from bully.member import Life, Promise
 from bully.sqlite import SqliteLog
 from types import SimpleNamespace
-from bully import logs, worker
+from bully import clocks, worker
 lost = []
 workers = worker.Workers(['sleep', '1000'], 'x', 1000.0)
 workers.begin(SimpleNamespace(ttl=2.0, margin=0.4, end_with=print, lose=lost.append))
-workers.hear_until(logs.seconds_of_boot() + 1000.0)
+workers.hear_until(clocks.seconds_of_boot() + 1000.0)
 settings = SimpleNamespace(text=lambda *_: '{}', name=str)
 workers.start(worker.Assignment(1, 1, (0,), settings))
 while not Path(f'/proc/{workers._guard.pid}/task/{workers._guard.pid}/children').read_text():
     time.sleep(0.01)
 print('not yet')
-workers.hear_until(logs.seconds_of_boot() + 0.5)
+workers.hear_until(clocks.seconds_of_boot() + 0.5)
 while not lost:
     time.sleep(0.01)
 print('lost')
 workers.close()
 log = SqliteLog.create(sys.argv[1], Opening.first('bully,1,3,6'))
-log.take('a', Life(1, 1), Promise(1, 0), 5 * logs.SECOND)
-print(log._one('select until from presence') > 1_000_000 * logs.SECOND)
+log.take('a', Life(1, 1), Promise(1, 0), 5 * clocks.SECOND)
+print(log._one('select until from presence') > 1_000_000 * clocks.SECOND)
 '''
 
 # It begins a write to a file once it is told to.
@@ -151,11 +151,11 @@ class Guards(Below):
         """It is killed at that moment, also while it is stopped, and with what it started. Whose worker it was is told then."""
         workers = self.begin('stubborn', seconds=3.0)
         os.kill(self.worker, signal.SIGSTOP)
-        until = logs.seconds_of_boot() + 0.5
+        until = clocks.seconds_of_boot() + 0.5
         workers.hear_until(until)
         workers.hear_until(until)
         wait_until(self.are_gone)
-        self.assertGreaterEqual(logs.seconds_of_boot(), until)
+        self.assertGreaterEqual(clocks.seconds_of_boot(), until)
         wait_until(lambda: self.lost)
         workers.stop(assigned(0))
         self.assertEqual((self.failures, self.lost), ([], [self.assignment]))
@@ -214,12 +214,12 @@ class Guards(Below):
         with self.assertLogs('bully', 'WARNING') as said:
             for count, rest in enumerate((0.4, 0.8, 1.6), 1):
                 wait_until(lambda: len(said.output) == count)
-                failed = logs.seconds_of_boot()
+                failed = clocks.seconds_of_boot()
                 self.assertIn(f'failed, with status 7, and is begun again in {rest:.1f} s', said.output[-1])
                 workers.stop(assigned(0))
                 workers.start(assigned(count + 2, 0))
                 wait_until(lambda: assigned(count + 2, 0) in self.lost)
-                self.assertGreater(logs.seconds_of_boot() - failed, rest - 0.1)
+                self.assertGreater(clocks.seconds_of_boot() - failed, rest - 0.1)
                 self.assertEqual((len(begins.read_text().split()), workers.rest_seconds), (count, 0.0))
                 workers.stop(assigned(0))
                 workers.start(assigned(count + 2, 0))
@@ -290,7 +290,7 @@ class Guards(Below):
                 if stops:
                     workers.stop(assigned(0))
                 else:
-                    workers.hear_until(logs.seconds_of_boot())
+                    workers.hear_until(clocks.seconds_of_boot())
                     wait_until(self.are_gone)
                     workers.stop(assigned(0))
                 self.assertTrue(self.are_gone())
@@ -314,7 +314,7 @@ class Guards(Below):
     def test_until_behind_a_stop(self) -> None:
         """A worker that was told to stop, and has much time for that, is killed at the moment until which its work is sure."""
         workers = self.begin('stubborn', patience=3600.0)
-        workers.hear_until(logs.seconds_of_boot() + 0.3)
+        workers.hear_until(clocks.seconds_of_boot() + 0.3)
         thread = threading.Thread(target=workers.stop, args=[self.assignment], daemon=True)
         thread.start()
         wait_until(self.are_gone)
@@ -397,8 +397,8 @@ class Guards(Below):
 
         def tell() -> None:
             for _ in range(10_000):
-                workers.hear_until(logs.seconds_of_boot() - 1.0)
-            workers.hear_until(logs.seconds_of_boot() + 1000.0)
+                workers.hear_until(clocks.seconds_of_boot() - 1.0)
+            workers.hear_until(clocks.seconds_of_boot() + 1000.0)
 
         thread = threading.Thread(target=tell, daemon=True)
         thread.start()
@@ -416,7 +416,7 @@ class Guards(Below):
         workers = self.made(['sh', '-c', 'for each in 1 2 3; do (true &); done; exec sleep 1000'])
         workers.start(self.assignment)
         wait_until(lambda: len(children(workers._guard.pid)) == 4)
-        workers.hear_until(logs.seconds_of_boot() + 1000.0)
+        workers.hear_until(clocks.seconds_of_boot() + 1000.0)
         wait_until(lambda: len(children(workers._guard.pid)) == 1)
         workers.stop(assigned(0))
         self.assertEqual((self.failures, self.lost), ([], []))
@@ -456,7 +456,7 @@ os.kill(os.getpid(), signal.SIGSTOP)
             assert writer.stdin is not None and writer.stdout is not None
             with mock.patch.object(os, 'getppid', lambda: writer.pid):
                 watch = guard.Watch(f'{self.folder}/group.db-shm', 2.0)
-                self.assertLessEqual((watch.pause() or 0) * guard.MILLISECOND + watch.span, 0.4 * logs.SECOND * 2.0 + 2 * guard.MILLISECOND)
+                self.assertLessEqual((watch.pause() or 0) * guard.MILLISECOND + watch.span, 0.4 * clocks.SECOND * 2.0 + 2 * guard.MILLISECOND)
                 for said in ('idle\n', 'writes\n'):
                     self.assertEqual(writer.stdout.readline(), said)
                     writer.send_signal(signal.SIGSTOP)

@@ -9,11 +9,13 @@ from unittest import mock
 from bully import looks, ordering, resizing, running, settings, view
 from bully.epochs import Opening, Token
 from bully.group import Setup
-from bully.logs import Found, Holder, MemoryLog, Unanswered
+from bully.history import timed
+from bully.logs import Found, Holder, Unanswered
 from bully.member import Life, Presence, Promise, Seen, Until
+from bully.memory import MemoryLog
 from bully.orders import Orders
 from bully.running import Member, NotInGroup
-from bully.stores import BadWords, timed
+from bully.stores import BadWords
 from .steps import LONG, OPENING
 from .threads import Threads
 from .waiting import PATIENCE, wait_until

@@ -15,8 +15,9 @@ import unittest
 from unittest import mock
 
 from bully import page, view
+from bully.clocks import seconds_of_boot
 from bully.epochs import Opening, Token
-from bully.logs import Found, Holder, Unanswered, seconds_of_boot
+from bully.logs import Found, Holder, Unanswered
 from bully.member import Life, Promise
 from bully.orders import Orders
 from bully.running import Member

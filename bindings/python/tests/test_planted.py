@@ -8,9 +8,11 @@ from unittest import mock
 
 from bully import sqlite
 from bully.epochs import Opening
-from bully.logs import Holder, MemoryLog, Wanted, rows_text
+from bully.logs import Holder, Wanted
 from bully.member import Life, Promise, Until
+from bully.memory import MemoryLog
 from bully.sqlite import SqliteLog
+from bully.stored import rows_text
 from . import folders, test_files, test_stores
 from .counting import has_failed
 from .steps import EMPTY

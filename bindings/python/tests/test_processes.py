@@ -18,9 +18,10 @@ from pathlib import Path
 from typing import BinaryIO
 from unittest import mock
 
-from bully import command, logs
+from bully import clocks, command
+from bully.clocks import SECOND
 from bully.epochs import Token
-from bully.logs import SECOND, Holder
+from bully.logs import Holder
 from bully.sqlite import SqliteLog
 from bully.view import LogView
 from .configurations import TOP, toml
@@ -148,7 +149,7 @@ os.kill(os.getpid(), signal.SIGSTOP)
         while 'database is locked' not in member.said:  # it was to renew just then
             writer = subprocess.Popen([sys.executable, '-c', words], env=environment(), stderr=subprocess.DEVNULL)
             self.assertEqual(writer.wait(PATIENCE), -signal.SIGKILL)
-            log, begun = self.opened(), logs.seconds_of_boot()
+            log, begun = self.opened(), clocks.seconds_of_boot()
             wait_until(lambda: self.until(log) > begun + 8.0)  # it was renewed since
             self.assertTrue(is_running(worker))
         self.assertEqual(member.end(), 0)
@@ -215,8 +216,8 @@ os.kill(os.getpid(), signal.SIGSTOP)
             (self.folder / 'begun').unlink()
             guard = parent_of(worker)
             os.kill(guard, signal.SIGSTOP)  # it hears of no renewal
-            begun = logs.seconds_of_boot()
-            wait_until(lambda: logs.seconds_of_boot() > begun + 2.0)
+            begun = clocks.seconds_of_boot()
+            wait_until(lambda: clocks.seconds_of_boot() > begun + 2.0)
             os.kill(guard, signal.SIGCONT)
             self.assertNotEqual(member.worker(), worker)
             self.assertFalse(is_running(worker))

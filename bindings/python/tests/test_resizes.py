@@ -9,9 +9,11 @@ import unittest
 from unittest import mock
 
 from bully import Setup, check, resizing, settings, view
+from bully.clocks import seconds_of_boot
 from bully.epochs import Opening
-from bully.logs import Found, MemoryLog, Unanswered, seconds_of_boot
+from bully.logs import Found, Unanswered
 from bully.member import Life, Promise
+from bully.memory import MemoryLog
 from bully.running import Assignment, Member, NotInGroup
 from bully.sqlite import SqliteLog
 from .folders import InFolder

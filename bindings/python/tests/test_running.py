@@ -7,9 +7,11 @@ from typing import cast
 from unittest import mock
 
 from bully import NotLearned, Setup, check, running, settings, view
+from bully.clocks import seconds_of_boot
 from bully.epochs import Opening
-from bully.logs import Holder, MemoryLog, seconds_of_boot
+from bully.logs import Holder
 from bully.member import Life, Promise
+from bully.memory import MemoryLog
 from bully.running import Assignment, Member, OtherGroup
 from .steps import HEADER, LONG, OPENING
 from .threads import Noting, Slow, Threads, Troubled

@@ -9,7 +9,8 @@ import unittest
 from unittest import mock
 
 from bully import messages, service
-from bully.logs import Found, MemoryLog
+from bully.logs import Found
+from bully.memory import MemoryLog
 from bully.running import Member
 from bully.worker import Workers
 from .folders import InFolder

@@ -7,7 +7,8 @@ from unittest import mock
 
 from bully import Setup, settings, sqlite
 from bully.epochs import Opening, Token, setup_of
-from bully.logs import Log, MemoryLog
+from bully.logs import Log
+from bully.memory import MemoryLog
 from .epoch_laws import EpochLaws
 from .folders import WithLogs
 from .laws import Laws

@@ -8,7 +8,7 @@ import sys
 import threading
 from pathlib import Path
 
-from bully import Setup, guard, logs
+from bully import Setup, clocks, guard
 from bully.epochs import Token
 from bully.running import Assignment
 from bully.settings import Settings
@@ -116,16 +116,16 @@ class Talks(Below):
         workers = self.begin('talks')
         worker = self.worker()
         workers.stop(assigned(0))
-        workers.hear_until(logs.seconds_of_boot() - 1)
+        workers.hear_until(clocks.seconds_of_boot() - 1)
         workers.stop(assigned(0))
         self.assertTrue(is_running(worker))
-        workers.hear_until(logs.seconds_of_boot() + 1000)
+        workers.hear_until(clocks.seconds_of_boot() + 1000)
         workers.start(assigned(3, 1))
-        workers.hear_until(logs.seconds_of_boot())
+        workers.hear_until(clocks.seconds_of_boot())
         wait_until(lambda: self.lost)
         self.assertFalse(is_running(worker))
         workers.stop(assigned(0))
-        workers.hear_until(logs.seconds_of_boot() + 1000)
+        workers.hear_until(clocks.seconds_of_boot() + 1000)
         workers.start(assigned(3, 1))
         wait_until(lambda: self.worker() != worker)
         workers.stop(assigned(0))
@@ -137,7 +137,7 @@ class Talks(Below):
             with self.subTest(patience=patience):
                 workers = self.begin('silent', patience)
                 worker = self.worker()
-                workers.hear_until(logs.seconds_of_boot() + seconds)
+                workers.hear_until(clocks.seconds_of_boot() + seconds)
                 workers.stop(assigned(0))
                 self.assertFalse(is_running(worker))
         self.assertEqual((self.failures, self.lost), ([], []))
@@ -187,11 +187,11 @@ class Talks(Below):
             guard = subprocess.Popen(words, stdin=subprocess.DEVNULL, stderr=said, pass_fds=[given.fileno()])
             self.addCleanup(guard.kill)
             given.close()
-            for message in (f'until {logs.nanoseconds_of_boot() + 10**12}', 'begin {}'):
+            for message in (f'until {clocks.nanoseconds_of_boot() + 10**12}', 'begin {}'):
                 channel.send(message.encode())
             wait_until(child.exists)
             channel.send(b'stop')
-            self.assertEqual(logs.slept(PATIENCE, channel.fileno()), [channel.fileno()])  # it has said that nothing is worked on
+            self.assertEqual(clocks.slept(PATIENCE, channel.fileno()), [channel.fileno()])  # it has said that nothing is worked on
         self.assertEqual((guard.wait(PATIENCE), (self.folder / 'said').read_text()), (0, ''))
         self.assertFalse(is_running(int(child.read_text())))
 
@@ -205,7 +205,7 @@ class Talks(Below):
                 workers.start(assigned(2, 0))
                 wait_until(begun.exists)
                 (worker,) = children(workers._guard.pid)
-                workers.hear_until(logs.seconds_of_boot() + seconds)
+                workers.hear_until(clocks.seconds_of_boot() + seconds)
                 thread = threading.Thread(target=workers.stop, args=[assigned(0)], daemon=True)
                 thread.start()
                 wait_until(lambda: not is_running(worker) and not thread.is_alive())

@@ -7,9 +7,11 @@ import unittest
 from collections.abc import Sequence
 from typing import Any
 
+from bully.clocks import seconds_of_boot
 from bully.epochs import Opening, Token
-from bully.logs import Found, Log, MemoryLog, Unanswered, seconds_of_boot
+from bully.logs import Found, Log, Unanswered
 from bully.member import Life, Promise
+from bully.memory import MemoryLog
 from bully.running import Member
 from .steps import LONG
 

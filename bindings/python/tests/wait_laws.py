@@ -7,7 +7,8 @@ import threading
 import time
 from collections.abc import Callable
 
-from bully.logs import SECOND, Log, NoEpoch
+from bully.clocks import SECOND
+from bully.logs import Log, NoEpoch
 from bully.member import Promise, Until
 from bully.orders import Orders
 from .laws import Tests

@@ -1,16 +1,49 @@
-"""Reads logs of the form before this one, in which each row stood by itself, the header among them, and an epoch had an end behind its rows.
+"""The history of a group: the log of an epoch as a trace, also of a log of the form before this one.
 
-Members of that form appended row by row; no member of today may share a log with them. `bully-member history` writes the trace.
+In that form each row stood by itself, the header among them, and an epoch had an end behind its rows. No member of today may share such a log.
 """
 from __future__ import annotations
 
 import contextlib
 import ssl
-from collections.abc import Sequence
+import time
+from collections.abc import Callable, Mapping, Sequence
 
 from .gateway import KV_RANGE, Client, below, coded, one, pairs_of, read_address
-from .logs import DamagedLog, NoEpoch
+from .logs import DamagedLog, Log, NoEpoch
 from .sqlite import calls, connection, form_of, identity
+
+
+def trace(log: Log, epoch: int | None, has_times: bool = False) -> Sequence[str]:
+    """The trace of an epoch, or of the current one, from its header on; or the same with times. Closes the log."""
+    with contextlib.closing(log):
+        number = log.epochs()[-1] if epoch is None else epoch
+        rows = [log.opening(number).header, *log.read(number, 0)]
+        return timed(rows, log.times(number)) if has_times else rows
+
+
+def traced(log: Callable[[], Log], older: Sequence[str] | None, epoch: int | None, has_times: bool) -> Sequence[str]:
+    """The same of a log, unless an older one was found, which has no times."""
+    if older is None:
+        return trace(log(), epoch, has_times)
+    return timed(older, {}) if has_times else older
+
+
+def timed(rows: Sequence[str], times: Mapping[int, int | None]) -> list[str]:
+    """The rows of a trace, each behind the time of its append and a comma; behind the comma alone, if that isn't kept."""
+    lines, told = [], ''
+    for place, row in enumerate(rows, -1):
+        told = time_text(times[place]) if place in times else told
+        lines.append(f'{told},{row}')
+    return lines
+
+
+def time_text(milliseconds: int | None) -> str:
+    """A time of UTC by ISO 8601; nothing, if there is none."""
+    if milliseconds is None:
+        return ''
+    return time.strftime('%Y-%m-%dT%H:%M:%S', time.gmtime(milliseconds // 1000)) + f'.{milliseconds % 1000:03}Z'
+
 
 FORM = 2  # of a file
 OPENING = b'{"epoch": '  # with which an opening begins in etcd
