@@ -8,7 +8,7 @@ from typing import NamedTuple
 
 from bully.epochs import Opening
 from bully.etcd import Held, place_text, same
-from bully.gateway import Json, Pair, number_is, one, pairs_of, put, value_is, value_of
+from bully.gateway import Json, Pair, number_is, pairs_of, put_at, range_at, value_is, value_of
 from bully.logs import Found, Holder, Unanswered, Wanted
 from bully.member import Core, Life, Promise, Request, Seen, Until
 from bully.memory import MemoryLog
@@ -218,7 +218,7 @@ class PromisesUnderLease(KeptLog):
         is_held = value_is(keys.life(name), life_text(life).encode())
         is_later = {**value_is(keys.promise(name), told.encode()), 'result': 'LESS'}
         under = {'lease': str(self._held.lease)} if self._held is not None else {}
-        answer = self._change([is_held, is_later], [put(keys.promise(name), told, **under)], one(keys.life(name)), one(keys.promise(name)))
+        answer = self._change([is_held, is_later], [put_at(keys.promise(name), told, **under)], range_at(keys.life(name)), range_at(keys.promise(name)))
         if answer.is_done:
             return True
         holder, promised = map(value_of, answer.ranges)
@@ -230,8 +230,8 @@ class MovesLifeAlone(KeptLog):
 
     def _move(self, name: str, found: Pair, held: Held) -> bool:
         key = self._keys.life(name)
-        moved = [put(key, life_text(held.life), lease=str(held.lease))]
-        answer = self._change([number_is(key, 'mod_revision', found.modified)], moved, one(key))
+        moved = [put_at(key, life_text(held.life), lease=str(held.lease))]
+        answer = self._change([number_is(key, 'mod_revision', found.modified)], moved, range_at(key))
         if answer.is_done:
             self._held = held
         return answer.is_done
@@ -241,10 +241,10 @@ class MovesPromiseOn(KeptLog):
     """Under a new lease a presence has promised the end of the log."""
 
     def _move(self, name: str, found: Pair, held: Held) -> bool:
-        end = value_of(self._look(one(self._keys.place)).ranges[0]) or b''
+        end = value_of(self._look(range_at(self._keys.place)).ranges[0]) or b''
         key, under = self._keys.life(name), str(held.lease)
-        moved = [put(key, life_text(held.life), lease=under), put(self._keys.promise(name), end.decode(), lease=under)]
-        answer = self._change([number_is(key, 'mod_revision', found.modified)], moved, one(key))
+        moved = [put_at(key, life_text(held.life), lease=under), put_at(self._keys.promise(name), end.decode(), lease=under)]
+        answer = self._change([number_is(key, 'mod_revision', found.modified)], moved, range_at(key))
         if answer.is_done:
             self._held = held
         return answer.is_done
@@ -256,12 +256,12 @@ class TakesAnyPlaceThere(KeptLog):
     def take(self, name: str, life: Life, promise: Promise, ttl: int) -> bool:
         self._client.begin()
         keys = self._keys
-        answer = self._look(one(keys.life(name), keys_only=True), one(keys.place))
+        answer = self._look(range_at(keys.life(name), keys_only=True), range_at(keys.place))
         if answer.ranges[0].get('kvs') or (value_of(answer.ranges[1]) or b'')[:10] != place_text(promise).encode()[:10]:
             return False
         held = self._granted(life, ttl, answer.term)
         under = str(held.lease)
-        done = [put(keys.life(name), life_text(life), lease=under), put(keys.promise(name), place_text(promise), lease=under)]
+        done = [put_at(keys.life(name), life_text(life), lease=under), put_at(keys.promise(name), place_text(promise), lease=under)]
         is_done = self._change([number_is(keys.life(name), 'version', 0)], done).is_done
         if is_done:
             self._held = held
@@ -274,13 +274,13 @@ class TakesInTwoSteps(KeptLog):
     def take(self, name: str, life: Life, promise: Promise, ttl: int) -> bool:
         self._client.begin()
         keys = self._keys
-        held = self._granted(life, ttl, self._look(one(keys.place)).term)
+        held = self._granted(life, ttl, self._look(range_at(keys.place)).term)
         conditions = [number_is(keys.life(name), 'version', 0), value_is(keys.place, place_text(promise).encode())]
         under = str(held.lease)
-        is_done = self._change(conditions, [put(keys.life(name), life_text(life), lease=under)]).is_done
+        is_done = self._change(conditions, [put_at(keys.life(name), life_text(life), lease=under)]).is_done
         if is_done:
             self._held = held
-            self._change([], [put(keys.promise(name), place_text(promise), lease=under)])
+            self._change([], [put_at(keys.promise(name), place_text(promise), lease=under)])
         return is_done
 
 
@@ -290,7 +290,7 @@ class RenewsForAnybody(KeptLog):
     def renew(self, name: str, life: Life, ttl: int) -> bool:
         if super().renew(name, life, ttl):
             return True
-        return bool(pairs_of(self._look(one(self._keys.life(name))).ranges[0]))
+        return bool(pairs_of(self._look(range_at(self._keys.life(name))).ranges[0]))
 
 
 class RenewsAcrossGapThere(KeptLog):
@@ -300,10 +300,10 @@ class RenewsAcrossGapThere(KeptLog):
         if super().renew(name, life, ttl):
             return True
         keys = self._keys
-        answer = self._look(one(keys.place))
+        answer = self._look(range_at(keys.place))
         held = self._granted(life, ttl, answer.term)
         under, end = str(held.lease), (value_of(answer.ranges[0]) or b'').decode()
-        done = [put(keys.life(name), life_text(life), lease=under), put(keys.promise(name), end, lease=under)]
+        done = [put_at(keys.life(name), life_text(life), lease=under), put_at(keys.promise(name), end, lease=under)]
         is_done = self._change([number_is(keys.life(name), 'version', 0)], done).is_done
         if is_done:
             self._held = held
@@ -314,9 +314,9 @@ class ReleasesAnyLifeThere(KeptLog):
     """What is given back is gone, whoever holds it by then."""
 
     def release(self, name: str, life: Life) -> None:
-        found = pairs_of(self._look(one(self._keys.life(name))).ranges[0])
+        found = pairs_of(self._look(range_at(self._keys.life(name))).ranges[0])
         if found:
-            self._change([], [{'request_delete_range': one(self._keys.life(name))}, {'request_delete_range': one(self._keys.promise(name))}])
+            self._change([], [{'request_delete_range': range_at(self._keys.life(name))}, {'request_delete_range': range_at(self._keys.promise(name))}])
 
 
 class PromisesForAnybodyThere(KeptLog):
@@ -326,8 +326,8 @@ class PromisesForAnybodyThere(KeptLog):
         self._client.begin()
         keys, told = self._keys, place_text(promise).encode()
         is_later = {**value_is(keys.promise(name), told), 'result': 'LESS'}
-        kept = same(keys.promise(name), value=put(keys.promise(name), told.decode())['request_put']['value'], ignore_lease=True)
-        answer = self._change([is_later], [kept], one(keys.life(name)), one(keys.promise(name)))
+        kept = same(keys.promise(name), value=put_at(keys.promise(name), told.decode())['request_put']['value'], ignore_lease=True)
+        answer = self._change([is_later], [kept], range_at(keys.life(name)), range_at(keys.promise(name)))
         if answer.is_done:
             return True
         holder, promised = map(value_of, answer.ranges)

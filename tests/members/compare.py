@@ -19,7 +19,8 @@ from typing import Any
 
 from bully.etcd import EtcdLog, same
 from bully.gateway import (
-    KV_RANGE, KV_TXN, LEASE_GRANT, LEASE_KEEPALIVE, Json, below, coded, exists, number_is, one, put, ranges, value_is,
+    KV_RANGE, KV_TXN, LEASE_GRANT, LEASE_KEEPALIVE, Json, coded, exists, number_is, put_at, range_at, range_below,
+    ranges, value_is,
 )  # fmt: skip
 from bully.logs import Log
 from bully.memory import MemoryLog
@@ -87,7 +88,7 @@ class Pair:
         told = []
         for number in (0, 1):
             under = lease[number] if lease else None
-            changes = [{'request_delete_range': one(puts[0])}] if removes else [put_by(kind, key, value, under) for key in puts]
+            changes = [{'request_delete_range': range_at(puts[0])}] if removes else [put_by(kind, key, value, under) for key in puts]
             told.append({'compare': compare, 'success': changes if writes else ranges(*self.asked(0)), 'failure': ranges(*self.asked(1))})
         return self.both(KV_TXN, told[0], told[1])
 
@@ -96,18 +97,18 @@ class Pair:
         choice = random.Random(f'{self.cluster.keys.revision} {seed}')
         options: list[Json] = [{}, {'keys_only': True}, {'limit': 2}, {'count_only': True}, {'sort_order': 'DESCEND', 'sort_target': 'KEY'}]
         options.append({'min_mod_revision': str(max(0, self.cluster.keys.revision - choice.randint(-1, 9)))})
-        return [{**choice.choice([one(choice.choice(KEYS)), below(b'g/'), below(b'g/b/')]), **choice.choice(options)} for _ in range(2)]
+        return [{**choice.choice([range_at(choice.choice(KEYS)), range_below(b'g/'), range_below(b'g/b/')]), **choice.choice(options)} for _ in range(2)]
 
     def interval(self) -> Json:
-        return self.choice.choice([one(self.choice.choice(KEYS)), below(b'g/'), below(b'g/a/')])
+        return self.choice.choice([range_at(self.choice.choice(KEYS)), range_below(b'g/'), range_below(b'g/a/')])
 
     def condition(self) -> Json:
         key, revision = self.choice.choice(KEYS), self.choice.randint(0, self.cluster.keys.revision)
         return self.choice.choice([
             exists(key), number_is(key, 'version', self.choice.randint(0, 3)), number_is(key, 'create_revision', revision),
             number_is(key, 'mod_revision', self.cluster.keys.get(key).modified), value_is(key, b'%d' % self.choice.randint(0, 3)),
-            {**below(b'g/b/'), **number_is(b'g/b/', 'version', 0)}, {**self.value(key), 'result': 'LESS'},
-            {**self.value(b'g/a/'), **below(b'g/a/')}, {**self.value(b'g/b/'), **below(b'g/b/')}, {**self.value(b'g/c/'), **below(b'g/c/')},
+            {**range_below(b'g/b/'), **number_is(b'g/b/', 'version', 0)}, {**self.value(key), 'result': 'LESS'},
+            {**self.value(b'g/a/'), **range_below(b'g/a/')}, {**self.value(b'g/b/'), **range_below(b'g/b/')}, {**self.value(b'g/c/'), **range_below(b'g/c/')},
         ])  # fmt: skip
 
     def value(self, key: bytes) -> Json:
@@ -137,7 +138,7 @@ def put_by(kind: str, key: bytes, value: str, lease: int | None) -> Json:
     if kind == 'ignore_lease':
         return same(key, value=coded(value.encode()), ignore_lease=True)
     more = {'lease': str(lease)} if lease else {}
-    return same(key, ignore_value=True, **more) if kind == 'ignore_value' else put(key, value, **more)
+    return same(key, ignore_value=True, **more) if kind == 'ignore_value' else put_at(key, value, **more)
 
 
 def plain(path: str, answer: dict[str, Any]) -> object:

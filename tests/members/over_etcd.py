@@ -262,7 +262,7 @@ class OverEtcd(OverMemory):
             member.wake()
 
 
-class Watch:
+class Subscription:
     """A watch of a member: what it has yet to tell, and when."""
 
     def __init__(self, is_wide: bool, begin: bytes, end: bytes) -> None:
@@ -278,7 +278,7 @@ class Watched(EtcdMember):
     """A member that waits by what a watch tells to the package's own log, and looks by what that knows then."""
 
     simulation: Watching
-    watch: Watch | None = None
+    watch: Subscription | None = None
     broken = 0  # when its watch broke
 
     def is_news(self, wait: Wait) -> bool:
@@ -286,9 +286,9 @@ class Watched(EtcdMember):
         log, found = self.kept, self.found
         assert isinstance(found, FoundInLog)
         here = Promise(self.epoch, self.place)
-        known, idle = log._told_idle
+        known, idle = log._seen_idle
         before = idle if known == here else frozenset()
-        return log._news.awaited(here, found.lives, wait.until, log._told_wanted, before)()
+        return log._news.awaited(here, found.lives, wait.until, log._seen_wanted, before)()
 
     def hear(self, wait: Wait) -> bool:
         """Whether there is what it waits for, once what is due has been told."""
@@ -310,7 +310,7 @@ class Watched(EtcdMember):
             log._see_all(log._look(*log._keys.standing(0)), 0)
         begin, end = interval(log._keys.watched(is_wide))
         assert end is not None
-        self.watch = Watch(is_wide, begin, end)
+        self.watch = Subscription(is_wide, begin, end)
         for event in self.simulation.events_since(log._news.revision, begin, end):
             self.watch.add(self.simulation.now, event)
 

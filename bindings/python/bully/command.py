@@ -55,7 +55,7 @@ LOOK = 1.0  # seconds for which it is looked who isn't idle, if somebody isn't
 AGAIN = 0.1  # seconds before a log that didn't answer is asked again
 
 _Answer = TypeVar('_Answer')
-_told = logging.getLogger('bully')
+_logger = logging.getLogger('bully')
 
 
 def parser() -> argparse.ArgumentParser:
@@ -254,7 +254,7 @@ def status(options: argparse.Namespace) -> int:
         while shown.behind and seconds_of_boot() < end:
             time.sleep(LOOK / 10)
             shown = view.show()
-    print(json.dumps(shown.told(), ensure_ascii=False) if options.json else text_of(shown))
+    print(json.dumps(shown.document(), ensure_ascii=False) if options.json else text_of(shown))
     return OK if shown.is_well else FAILED
 
 
@@ -284,7 +284,7 @@ def answered(ask: Callable[[], _Answer]) -> _Answer:
         try:
             return ask()
         except Unanswered as unanswered:
-            _told.warning('%s', unanswered)
+            _logger.warning('%s', unanswered)
             time.sleep(AGAIN)
 
 

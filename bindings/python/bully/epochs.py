@@ -72,16 +72,16 @@ class Opening:
     ) -> Opening:  # fmt: skip
         """That of the first epoch, which has this number. Nodes without names are called by their numbers."""
         nodes = setup_of(header).nodes
-        told = tuple(names) or tuple(map(str, range(1, nodes + 1)))
-        return Opening(epoch, header, told, room_of(nodes, limit), ttl=ttl)
+        called = tuple(names) or tuple(map(str, range(1, nodes + 1)))
+        return Opening(epoch, header, called, room_of(nodes, limit), ttl=ttl)
 
     @staticmethod
     def parse(text: str) -> Opening:
         """The one that `text` told. A ValueError, a KeyError, a TypeError or a BullyError tells that it is none."""
-        told = json.loads(text)
-        names, table, limit = tuple(told['names']), tuple(told['table']), int(told['limit'])
-        ttl = float(told['ttl']) if 'ttl' in told else None
-        opening = Opening(int(told['epoch']), str(told['header']), names, limit, table, ttl)
+        document = json.loads(text)
+        names, table, limit = tuple(document['names']), tuple(document['table']), int(document['limit'])
+        ttl = float(document['ttl']) if 'ttl' in document else None
+        opening = Opening(int(document['epoch']), str(document['header']), names, limit, table, ttl)
         setup = setup_of(opening.header)
         setup.header()  # which is refused, if there can be no such group
         if setup.nodes != len(names) or len(table) not in (0, setup.partitions):
@@ -92,8 +92,8 @@ class Opening:
 
     def text(self) -> str:
         """The same as JSON, for a store."""
-        told = dataclasses.asdict(self)
-        return json.dumps({key: value for key, value in told.items() if value is not None}, ensure_ascii=False)
+        document = dataclasses.asdict(self)
+        return json.dumps({key: value for key, value in document.items() if value is not None}, ensure_ascii=False)
 
     @property
     def settings(self) -> Settings:

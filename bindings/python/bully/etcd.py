@@ -27,8 +27,9 @@ from typing import NamedTuple
 from .clocks import SECOND, seconds_of_boot, slept, wall_clock
 from .epochs import FIRST, Opening
 from .gateway import (
-    KV_RANGE, LEASE_GRANT, LEASE_KEEPALIVE, Answer, Client, Compacted, Json, Pair, Silent, Watch, behind, below, coded,
-    exists, number_is, one, pair_of, pairs_of, put, ranges, read_address, value_is, value_of,
+    KV_RANGE, LEASE_GRANT, LEASE_KEEPALIVE, Answer, Client, Compacted, Json, Pair, Silent, Subscription, behind, coded,
+    exists, number_is, pair_of, pairs_of, put_at, range_at, range_below, range_from, ranges, read_address, value_is,
+    value_of,
 )  # fmt: skip
 from .logs import (
     BadPresence, DamagedLog, ForeignLog, Found, Holder, LogError, LogExists, NoLog, OtherLog, Unanswered, are_idle,
@@ -98,22 +99,22 @@ class Keys:
 
     def begin(self, opening: Opening) -> list[Json]:
         """The epoch of this opening begins."""
-        here = put(self.place, place_text(Promise(opening.epoch, 0)))
-        return [here, put(self.opening(opening.epoch), BEGIN + opening.text()[1:])]
+        here = put_at(self.place, place_text(Promise(opening.epoch, 0)))
+        return [here, put_at(self.opening(opening.epoch), BEGIN + opening.text()[1:])]
 
     def page(self, begin: bytes, epoch: int) -> Json:
         """The range of an epoch's appends from one key on that are read together."""
-        return one(begin, range_end=coded(behind(self.rows(epoch))), limit=PAGE)
+        return range_from(begin, behind(self.rows(epoch)), limit=PAGE)
 
     def standing(self, since: int) -> list[Json]:
         """The ranges of all that isn't a row: the end of the log, the wish, the orders, and the lives and promises that were put behind a
         revision."""
         newer = {'min_mod_revision': str(since + 1)}
-        return [one(self.place), one(self.next), one(self.orders), below(self.lives, **newer), below(self.promises, **newer)]
+        return [range_at(self.place), range_at(self.next), range_at(self.orders), range_below(self.lives, **newer), range_below(self.promises, **newer)]
 
     def watched(self, is_wide: bool) -> Json:
         """The range of what changes, with promises or without them; rows aren't told, since they are looked for."""
-        return one(self.next, range_end=coded(behind(self.presences) if is_wide else self.promises))
+        return range_from(self.next, behind(self.presences) if is_wide else self.promises)
 
 
 class Held(NamedTuple):
@@ -138,10 +139,10 @@ class EtcdLog:
         self._keys = Keys(read.prefix)
         self._client = Client(read, patience, tls, user, password)
         self._held: Held | None = None
-        self._told_wanted: tuple[bytes | None, bytes | None] = None, None
-        self._told_idle: tuple[Promise, frozenset[str]] = (Promise(), frozenset())
+        self._seen_wanted: tuple[bytes | None, bytes | None] = None, None
+        self._seen_idle: tuple[Promise, frozenset[str]] = (Promise(), frozenset())
         self._news = News(self._keys)
-        self._watch: Watch | None = None
+        self._watch: Subscription | None = None
         self._is_wide = False  # whether it tells of promises
         self._broken = float('-inf')  # when a watch broke
         self._woken: int | None = None  # that ends a wait
@@ -168,7 +169,7 @@ class EtcdLog:
         """Sees that there is a log. Its name."""
         self._client.begin()
         keys = self._keys
-        named, older, first = self._client.transact([], ranges(one(keys.name), one(keys.older), below(keys.root, limit=1))).ranges
+        named, older, first = self._client.transact([], ranges(range_at(keys.name), range_at(keys.older), range_below(keys.root, limit=1))).ranges
         name, opening = value_of(named), value_of(older) or b''
         if name is not None and name.startswith(NAMED):
             return name
@@ -184,7 +185,7 @@ class EtcdLog:
 
     def epochs(self) -> range:
         self._client.begin()
-        return self._there(self._look(one(self._keys.place), one(self._keys.first)))
+        return self._there(self._look(range_at(self._keys.place), range_at(self._keys.first)))
 
     def _there(self, answer: Answer) -> range:
         """The same, by an answer with the end of the log and the first epoch. (Rows of earlier ones may be left, in part.)"""
@@ -193,7 +194,7 @@ class EtcdLog:
     def opening(self, epoch: int | None = None) -> Opening:
         number = self.epochs()[-1] if epoch is None else epoch
         self._client.begin()
-        found = pairs_of(self._look(one(self._keys.opening(number))).ranges[0])
+        found = pairs_of(self._look(range_at(self._keys.opening(number))).ranges[0])
         if not found:
             raise no_epoch(self.address, number, self.epochs())
         return opening_of(self.address, number, found[0].value)
@@ -202,7 +203,7 @@ class EtcdLog:
         """What is wished for is looked at first, and has to be the same then."""
         self._client.begin()
         keys = self._keys
-        *asked, there = self._look(one(keys.opening(epoch)), one(keys.next), one(keys.place)).ranges
+        *asked, there = self._look(range_at(keys.opening(epoch)), range_at(keys.next), range_at(keys.place)).ranges
         end, here = self._end_of(there), Promise(epoch, place)
         see_end(self.address, end, here)
         found, wished = map(pairs_of, asked)
@@ -212,26 +213,26 @@ class EtcdLog:
         if opening.bare != opening_of(self.address, epoch, found[0].value).after(wish):
             return False
         is_same = number_is(keys.next, 'mod_revision', wished[0].modified if wished else 0)
-        return self._add(epoch, place, [*keys.begin(opening), removed(one(keys.next))], is_same)
+        return self._add(epoch, place, [*keys.begin(opening), removed(range_at(keys.next))], is_same)
 
     def ask(self, wish: Opening, epoch: int) -> bool:
         self._client.begin()
         is_of_next = wish.epoch == epoch + 1
-        return is_of_next and self._change(self._is_current(epoch), [put(self._keys.next, wish.bare.text())]).is_done
+        return is_of_next and self._change(self._is_current(epoch), [put_at(self._keys.next, wish.bare.text())]).is_done
 
     def cancel(self, epoch: int) -> None:
         self._client.begin()
-        self._change(self._is_current(epoch), [removed(one(self._keys.next))])
+        self._change(self._is_current(epoch), [removed(range_at(self._keys.next))])
 
     def order(self, orders: Orders, before: Orders | None) -> bool:
         """What is ordered is looked at first, and has to be the same then."""
         self._client.begin()
         key = self._keys.orders
-        found = pairs_of(self._look(one(key)).ranges[0])
+        found = pairs_of(self._look(range_at(key)).ranges[0])
         if before is not None and before != orders_of(self.address, found[0].value if found else None):
             return False
         is_same, text = number_is(key, 'mod_revision', found[0].modified if found else 0), orders.text()
-        return self._change([is_same], [put(key, text) if text else removed(one(key))]).is_done
+        return self._change([is_same], [put_at(key, text) if text else removed(range_at(key))]).is_done
 
     def prune(self, first: int) -> None:
         """The epochs are gone at once. Their rows follow, a part at a time, so that nobody waits for long."""
@@ -239,15 +240,15 @@ class EtcdLog:
         first = min(first, there[-1])
         if first > there[0]:
             self._client.begin()
-            self._change([{**value_is(keys.first, b'%010d' % first), 'result': 'LESS'}], [put(keys.first, f'{first:010}')])
+            self._change([{**value_is(keys.first, b'%010d' % first), 'result': 'LESS'}], [put_at(keys.first, f'{first:010}')])
         while True:
             self._client.begin()
-            asked = one(keys.logs, range_end=coded(keys.rows(first)), keys_only=True, limit=PAGE)
+            asked = range_from(keys.logs, keys.rows(first), keys_only=True, limit=PAGE)
             found = pairs_of(self._look(asked).ranges[0])
             if not found:
                 return
             ends = found[0].key, found[-1].key + b'\0'
-            self._change([], [removed(one(begin, range_end=coded(end))) for begin, end in (ends, tuple(map(keys.time, ends)))])
+            self._change([], [removed(range_from(begin, end)) for begin, end in (ends, tuple(map(keys.time, ends)))])
 
     def _is_current(self, epoch: int) -> list[Json]:
         """That the epoch has begun, and none behind it."""
@@ -260,20 +261,20 @@ class EtcdLog:
         """First it is looked whether it may be, so that no lease is granted for nothing."""
         self._client.begin()
         keys, here = self._keys, place_text(promise)
-        answer = self._look(one(keys.life(name), keys_only=True), one(keys.place))
+        answer = self._look(range_at(keys.life(name), keys_only=True), range_at(keys.place))
         if answer.ranges[0].get('kvs') or value_of(answer.ranges[1]) != here.encode():
             return False
         self._held = self._granted(life, ttl, answer.term)
         conditions = [number_is(keys.life(name), 'version', 0), value_is(keys.place, here.encode())]
         under = str(self._held.lease)
-        done = [put(keys.life(name), life_text(life), lease=under), put(keys.promise(name), here, lease=under)]
+        done = [put_at(keys.life(name), life_text(life), lease=under), put_at(keys.promise(name), here, lease=under)]
         return self._change(conditions, done).is_done
 
     def renew(self, name: str, life: Life, ttl: int) -> bool:
         self._client.begin()
         held = self._held if self._held is not None and self._held[::2] == (life, seconds_of(ttl)) else None
         term = self._keep_alive(held) if held is not None else None
-        answer = self._look(one(self._keys.life(name)))
+        answer = self._look(range_at(self._keys.life(name)))
         found = pairs_of(answer.ranges[0])
         if [pair.value for pair in found] != [life_text(life).encode()]:
             return False
@@ -285,7 +286,7 @@ class EtcdLog:
         self._client.begin()
         keys = self._keys
         is_held = value_is(keys.life(name), life_text(life).encode())
-        self._change([is_held], [removed(one(keys.life(name))), removed(one(keys.promise(name)))])
+        self._change([is_held], [removed(range_at(keys.life(name))), removed(range_at(keys.promise(name)))])
 
     def promise(self, name: str, life: Life, promise: Promise) -> bool:
         """Under whatever lease the presence has by then."""
@@ -294,7 +295,7 @@ class EtcdLog:
         is_held = value_is(keys.life(name), life_text(life).encode())
         is_later = {**value_is(keys.promise(name), told), 'result': 'LESS'}
         kept = same(keys.promise(name), value=coded(told), ignore_lease=True)
-        answer = self._change([is_held, is_later], [kept], one(keys.life(name)), one(keys.promise(name)))
+        answer = self._change([is_held, is_later], [kept], range_at(keys.life(name)), range_at(keys.promise(name)))
         if answer.is_done:
             return True
         holder, promised = map(value_of, answer.ranges)
@@ -321,9 +322,9 @@ class EtcdLog:
         """Puts a presence under a new lease, if nothing has been done to it since it was found. What was promised, also meanwhile, stays."""
         key, under = self._keys.life(name), str(held.lease)
         is_same = number_is(key, 'mod_revision', found.modified)
-        moved = [put(key, life_text(held.life), lease=under), same(self._keys.promise(name), lease=under, ignore_value=True)]
+        moved = [put_at(key, life_text(held.life), lease=under), same(self._keys.promise(name), lease=under, ignore_value=True)]
         try:
-            answer = self._change([is_same], moved, one(key))
+            answer = self._change([is_same], moved, range_at(key))
             if not answer.is_done and value_of(answer.ranges[0]) == found.value:
                 raise Unanswered(f'{self.address}: an earlier renewal was done just now')
         except Unanswered:
@@ -340,12 +341,12 @@ class EtcdLog:
         text = rows_text(rows)
         self._client.begin()
         keys, behind_them, row = self._keys, Promise(epoch, place + len(rows)), self._keys.row(epoch, place)
-        done = [put(row, text), put(keys.time(row), str(wall_clock())), put(keys.place, place_text(behind_them))]
+        done = [put_at(row, text), put_at(keys.time(row), str(wall_clock())), put_at(keys.place, place_text(behind_them))]
         return self._add(epoch, place, done)
 
     def _add(self, epoch: int, place: int, done: Sequence[Json], *more: Json) -> bool:
         """Whether this is done at the end of the log, while all are idle, and on more conditions."""
-        answer = self._change([*more, *self._are_idle(epoch, place)], done, one(self._keys.place))
+        answer = self._change([*more, *self._are_idle(epoch, place)], done, range_at(self._keys.place))
         if not answer.is_done:
             see_end(self.address, self._end_of(answer.ranges[0]), Promise(epoch, place))
         return answer.is_done
@@ -353,11 +354,11 @@ class EtcdLog:
     def _are_idle(self, epoch: int, place: int) -> list[Json]:
         """That the log ends there, and all promises, of which there is one at least, are of that place."""
         keys, here = self._keys, place_text(Promise(epoch, place)).encode()
-        return [value_is(keys.place, here), {**value_is(keys.promises, here), **below(keys.promises)}]
+        return [value_is(keys.place, here), {**value_is(keys.promises, here), **range_below(keys.promises)}]
 
     def read(self, epoch: int, place: int) -> Rows:
         keys = self._keys
-        answer, rows = self._read_with(epoch, place, lambda answer: epoch in self._there(answer), one(keys.place), one(keys.first))
+        answer, rows = self._read_with(epoch, place, lambda answer: epoch in self._there(answer), range_at(keys.place), range_at(keys.first))
         if rows is None:
             raise no_epoch(self.address, epoch, self.epochs())
         see_end(self.address, self._end_of(answer.ranges[0]), Promise(epoch, place))
@@ -369,7 +370,7 @@ class EtcdLog:
         after = begin
         while True:
             self._client.begin()
-            found = pairs_of(self._look(one(after, range_end=coded(behind(begin)), limit=PAGE)).ranges[0])
+            found = pairs_of(self._look(range_from(after, behind(begin), limit=PAGE)).ranges[0])
             times.update({int(pair.key[-10:]): int(pair.value) if pair.value.isdigit() else None for pair in found})
             if len(found) < PAGE:
                 return times
@@ -419,7 +420,7 @@ class EtcdLog:
     def _within(self, epoch: int, place: int, revision: int) -> bytes:
         """The rows behind a place at which no append begins, up to the end of its append."""
         keys = self._keys
-        asked = one(keys.rows(epoch), range_end=coded(keys.row(epoch, place)), limit=1, sort_order='DESCEND', sort_target='KEY')
+        asked = range_from(keys.rows(epoch), keys.row(epoch, place), limit=1, sort_order='DESCEND', sort_target='KEY')
         found = pairs_of(self._more(asked, revision))
         begin = found[0].key[len(keys.rows(epoch)) :] if found else b''
         return b'\n'.join(found[0].value.split(b'\n')[place - int(begin) :]) if begin.isdigit() else b''
@@ -434,7 +435,7 @@ class EtcdLog:
 
     def kept(self) -> Kept:
         self._client.begin()
-        place = self._look(one(self._keys.place))
+        place = self._look(range_at(self._keys.place))
         end, keys = self._end_of(place.ranges[0]), self._keys
         found = self._pages(end.epoch, self._more(keys.page(keys.row(end.epoch, 0), end.epoch), place.revision), place.revision)
         begins = [(pair.key[len(keys.rows(end.epoch)) :], pair.value) for pair in found]
@@ -443,11 +444,11 @@ class EtcdLog:
     def cut(self, end: Promise, append: int, text: str, opening: Opening) -> bool:
         self._client.begin()
         keys = self._keys
-        nobody = {**below(keys.presences), **number_is(keys.presences, 'version', 0)}
+        nobody = {**range_below(keys.presences), **number_is(keys.presences, 'version', 0)}
         begin, behind_all = keys.row(end.epoch, append), behind(keys.rows(end.epoch))
         rest = begin + b'\0' * bool(text), behind_all
-        gone = [removed(one(first, range_end=coded(last))) for first, last in (rest, tuple(map(keys.time, rest)))]
-        done = [*gone, *([put(begin, text)] if text else []), removed(one(keys.next)), *keys.begin(opening)]
+        gone = [removed(range_from(first, last)) for first, last in (rest, tuple(map(keys.time, rest)))]
+        done = [*gone, *([put_at(begin, text)] if text else []), removed(range_at(keys.next)), *keys.begin(opening)]
         return self._change([nobody, value_is(keys.place, place_text(end).encode())], done).is_done
 
     # Looks and waits.
@@ -463,7 +464,7 @@ class EtcdLog:
                 break
         wish, orders = wish_of(self.address, end.epoch, self._news.wish), orders_of(self.address, self._news.orders)
         found = Found(end.epoch, rows or Rows(''), self._news.presences(), wish, orders)
-        self._told_wanted, self._told_idle = self._news.wanted, (end, found.idle(end))
+        self._seen_wanted, self._seen_idle = self._news.wanted, (end, found.idle(end))
         return found
 
     def _see_all(self, answer: Answer, since: int) -> bool:
@@ -476,9 +477,9 @@ class EtcdLog:
     def wait(self, epoch: int, place: int, lives: Mapping[str, Life], until: Until, seconds: float, woken: int | None = None) -> None:
         """By a watch. While many are present it tells of promises only where they are waited for: else each of them would be told to all."""
         end = seconds_of_boot() + seconds
-        known, idle = self._told_idle
+        known, idle = self._seen_idle
         here = Promise(epoch, place)
-        is_news = self._news.awaited(here, lives, until, self._told_wanted, idle if known == here else frozenset())
+        is_news = self._news.awaited(here, lives, until, self._seen_wanted, idle if known == here else frozenset())
         is_wide = until is not Until.NEWS or len(lives) <= FEW
         self._woken = woken
         while not self._hear(is_news, is_wide, max(0.0, end - seconds_of_boot())):
@@ -532,12 +533,12 @@ class EtcdLog:
 
     def _look(self, *asked: Json) -> Answer:
         """What these ranges find, at one revision, in the log that was opened."""
-        return self._checked(self._client.transact([], ranges(one(self._keys.name), *asked)))
+        return self._checked(self._client.transact([], ranges(range_at(self._keys.name), *asked)))
 
     def _change(self, conditions: Sequence[Json], done: Sequence[Json], *refused: Json) -> Answer:
         """What is done if the conditions are so, and else what is found, in the log that was opened."""
         named = self._keys.name
-        answer = self._client.transact([value_is(named, self._name), *conditions], done, [one(named), *refused])
+        answer = self._client.transact([value_is(named, self._name), *conditions], done, [range_at(named), *refused])
         return answer if answer.is_done else self._checked(answer)
 
     def _checked(self, answer: Answer) -> Answer:
@@ -658,12 +659,12 @@ def removed(asked: Json) -> Json:
 
 def make(client: Client, address: str, keys: Keys, opening: Opening) -> None:
     """Makes a log. Raises LogExists, ForeignLog."""
-    there = [one(keys.name, keys_only=True), one(keys.older, keys_only=True), below(keys.root, limit=1, keys_only=True)]
+    there = [range_at(keys.name, keys_only=True), range_at(keys.older, keys_only=True), range_below(keys.root, limit=1, keys_only=True)]
     answer = client.transact([exists(keys.name)], [], there)  # so that the keys of a long log aren't compared
     if not answer.is_done and not answer.ranges[-1].get('kvs'):
-        is_empty = {**below(keys.root), **number_is(keys.root, 'version', 0)}
-        named = put(keys.name, NAMED.decode() + log_name())
-        answer = client.transact([is_empty], [named, *keys.begin(opening), put(keys.first, f'{opening.epoch:010}')], there)
+        is_empty = {**range_below(keys.root), **number_is(keys.root, 'version', 0)}
+        named = put_at(keys.name, NAMED.decode() + log_name())
+        answer = client.transact([is_empty], [named, *keys.begin(opening), put_at(keys.first, f'{opening.epoch:010}')], there)
         if answer.is_done:
             return
     if answer.is_done or any(found.get('kvs') for found in answer.ranges[:2]):

@@ -92,15 +92,15 @@ class Pair(NamedTuple):
     lease: int
 
 
-def pair_of(told: Json) -> Pair:
+def pair_of(document: Json) -> Pair:
     """What is told of a key."""
-    created, modified, lease = (int(told.get(name, 0)) for name in ('create_revision', 'mod_revision', 'lease'))
-    return Pair(b64decode(told['key']), b64decode(told.get('value', '')), created, modified, lease)
+    created, modified, lease = (int(document.get(name, 0)) for name in ('create_revision', 'mod_revision', 'lease'))
+    return Pair(b64decode(document['key']), b64decode(document.get('value', '')), created, modified, lease)
 
 
 def pairs_of(found: Json) -> list[Pair]:
     """What a range found."""
-    return [pair_of(told) for told in found.get('kvs', ())]
+    return [pair_of(document) for document in found.get('kvs', ())]
 
 
 def value_of(found: Json) -> bytes | None:
@@ -118,14 +118,19 @@ def behind(prefix: bytes) -> bytes:
     return prefix[:-1] + bytes([prefix[-1] + 1])
 
 
-def one(key: bytes, **more: object) -> Json:
+def range_at(key: bytes, **more: object) -> Json:
     """The range of one key."""
     return {'key': coded(key), **more}
 
 
-def below(prefix: bytes, **more: object) -> Json:
+def range_from(begin: bytes, end: bytes, **more: object) -> Json:
+    """The range of the keys from one on, up to the end, which isn't of it."""
+    return range_at(begin, range_end=coded(end), **more)
+
+
+def range_below(prefix: bytes, **more: object) -> Json:
     """The range of all keys that begin so."""
-    return {'key': coded(prefix), 'range_end': coded(behind(prefix)), **more}
+    return range_from(prefix, behind(prefix), **more)
 
 
 def number_is(key: bytes, name: str, number: int) -> Json:
@@ -143,7 +148,7 @@ def ranges(*asked: Json) -> list[Json]:
     return [{'request_range': each} for each in asked]
 
 
-def put(key: bytes, value: str, **more: str) -> Json:
+def put_at(key: bytes, value: str, **more: str) -> Json:
     """A key is put."""
     return {'request_put': {'key': coded(key), 'value': coded(value.encode()), **more}}
 
@@ -190,9 +195,9 @@ class Compacted(Exception):
 
 def refusal_of(error: object) -> Refusal:
     """What an error in an answer says: of 3.4 or later, in a stream or not."""
-    told = error if isinstance(error, dict) else {}
-    code = told.get('code', told.get('grpc_code', 0))
-    said = told.get('message') or told.get('error') or error
+    document = error if isinstance(error, dict) else {}
+    code = document.get('code', document.get('grpc_code', 0))
+    said = document.get('message') or document.get('error') or error
     return Refusal(code if isinstance(code, int) else 0, str(said))
 
 
@@ -263,13 +268,13 @@ class Names:
         return found
 
 
-def look_up(endpoint: Endpoint, told: queue.SimpleQueue[list[Any] | OSError]) -> None:
+def look_up(endpoint: Endpoint, answers: queue.SimpleQueue[list[Any] | OSError]) -> None:
     try:
-        told.put(socket.getaddrinfo(endpoint.host, endpoint.port, type=socket.SOCK_STREAM))
+        answers.put(socket.getaddrinfo(endpoint.host, endpoint.port, type=socket.SOCK_STREAM))
     except OSError as error:
-        told.put(error)
+        answers.put(error)
     except UnicodeError as error:
-        told.put(OSError(str(error)))
+        answers.put(OSError(str(error)))
 
 
 def reached(places: Sequence[Any], end: float) -> socket.socket:
@@ -321,9 +326,9 @@ class Client:
 
     def transact(self, conditions: Sequence[Json], done: Sequence[Json], refused: Sequence[Json] = ()) -> Answer:
         """One transaction: what is done if all conditions are so, and else the ranges that are told."""
-        told = {'compare': list(conditions), 'success': list(done), 'failure': ranges(*refused)}
+        request = {'compare': list(conditions), 'success': list(done), 'failure': ranges(*refused)}
         changes = any('request_range' not in each for each in done)
-        answer = self.ask(KV_TXN, told, repeats=not changes)
+        answer = self.ask(KV_TXN, request, repeats=not changes)
         found = [each['response_range'] for each in answer.get('responses', ()) if 'response_range' in each]
         revision, term = int(answer['header']['revision']), int(answer['header']['raft_term'])
         if revision < self.seen[0] or term < self.seen[1]:
@@ -332,7 +337,7 @@ class Client:
         self.seen = revision, term
         return Answer(bool(answer.get('succeeded')), found, revision, term)
 
-    def ask(self, path: str, told: Json, repeats: bool = False) -> Json:
+    def ask(self, path: str, request: Json, repeats: bool = False) -> Json:
         """What etcd answers. If a server doesn't answer, the next one is asked: also of what may have been done, if that `repeats`.
 
         Raises Unanswered, Denied and other LogErrors, Compacted."""
@@ -341,7 +346,7 @@ class Client:
             now = self._now()
             reached = now + (self._end - now) / count
             try:
-                return self._ask_here(path, told, reached, reached if repeats else self._end)
+                return self._ask_here(path, request, reached, reached if repeats else self._end)
             except Silent as silent:
                 causes.append(silent)
                 self._move_on()
@@ -350,11 +355,11 @@ class Client:
         said = '; '.join(map(str, causes))
         raise (Denied if all(cause.is_final for cause in causes) else Unanswered)(said) from causes[-1]
 
-    def watch(self, told: Json) -> Watch:
+    def watch(self, request: Json) -> Subscription:
         """A watch at the server that is asked now. Raises Silent."""
         self.begin()
         connection = self._connect(self._end)
-        body = json.dumps({'create_request': told}).encode()
+        body = json.dumps({'create_request': request}).encode()
         lines = [f'POST {WATCH} HTTP/1.0', f'Host: {self.endpoint}', f'Content-Length: {len(body)}', 'Grpc-Metadata-hasleader: true']
         if self._token:
             lines.append(f'Authorization: {self._token}')
@@ -363,7 +368,7 @@ class Client:
         except OSError as error:
             connection.close()
             raise silent_of(self.endpoint, error, may_be_done=False) from error
-        return Watch(self.endpoint, connection)
+        return Subscription(self.endpoint, connection)
 
     def close(self) -> None:
         if self._connection is not None:
@@ -375,19 +380,19 @@ class Client:
         self.close()
         self._turn = (self._turn + 1) % len(self._endpoints)
 
-    def _ask_here(self, path: str, told: Json, reached: float, end: float) -> Json:
+    def _ask_here(self, path: str, request: Json, reached: float, end: float) -> Json:
         """What this server answers up to the end, if it is reached up to then. If it doesn't know the user any more, that one logs in again,
         once."""
         try:
             if self._user and not self._token:
                 self._log_in(reached, end)
             try:
-                return self._exchange(path, told, reached, end)
+                return self._exchange(path, request, reached, end)
             except Refusal as refusal:
                 if not (self._user and refusal.is_of_token):
                     raise
                 self._log_in(reached, end)
-                return self._exchange(path, told, reached, end)
+                return self._exchange(path, request, reached, end)
         except Refusal as refusal:
             fail(self.endpoint, refusal)
 
@@ -395,7 +400,7 @@ class Client:
         self._token = ''
         self._token = str(self._exchange(LOGIN, {'name': self._user, 'password': self._password}, reached, end)['token'])
 
-    def _exchange(self, path: str, told: Json, reached: float, end: float) -> Json:
+    def _exchange(self, path: str, request: Json, reached: float, end: float) -> Json:
         """A request and its answer. Raises Silent, Refusal, ForeignLog, LogError."""
         if self._connection is None or is_over(self._connection):
             self.close()
@@ -404,7 +409,7 @@ class Client:
         headers = {'Content-Type': 'application/json', **({'Authorization': self._token} if self._token else {})}
         try:
             limit(connection, end)
-            connection.request('POST', path, json.dumps(told).encode(), headers)
+            connection.request('POST', path, json.dumps(request).encode(), headers)
             response = connection.getresponse()
             limit(connection, end)
             text = response.read()
@@ -432,14 +437,14 @@ class Client:
     def _checked(self, status: int, text: bytes) -> Json:
         """What an answer says, if it is one of this etcd."""
         try:
-            told = json.loads(text)
+            document = json.loads(text)
         except ValueError:
-            told = None
-        if not isinstance(told, dict) and (status >= 500 or not text):
+            document = None
+        if not isinstance(document, dict) and (status >= 500 or not text):
             raise Silent(self.endpoint, f'status {status}', may_be_done=True)
-        if isinstance(told, dict) and ('error' in told or 'code' in told):
-            raise refusal_of(told['error'] if isinstance(told.get('error'), dict) else told)
-        answer: Json = told.get('result', told) if isinstance(told, dict) else {}
+        if isinstance(document, dict) and ('error' in document or 'code' in document):
+            raise refusal_of(document['error'] if isinstance(document.get('error'), dict) else document)
+        answer: Json = document.get('result', document) if isinstance(document, dict) else {}
         if status != 200 or 'raft_term' not in answer.get('header', {}):
             raise LogError(f'{self.endpoint}: it does not answer as etcd 3.4 does, but with status {status}: {text[:80]!r}')
         cluster = answer['header'].get('cluster_id')
@@ -449,7 +454,7 @@ class Client:
         return answer
 
 
-class Watch:
+class Subscription:
     """What a server tells of changes, as it comes, over a connection of its own. (In HTTP/1.0 an answer isn't cut into chunks.)"""
 
     def __init__(self, endpoint: Endpoint, connection: http.client.HTTPConnection) -> None:
@@ -493,12 +498,12 @@ class Watch:
 
     def _events_of(self, line: bytes) -> list[Json]:
         try:
-            told = json.loads(line)
+            document = json.loads(line)
         except ValueError as error:
             raise Silent(self.endpoint, f'no watch, but {line[:80]!r}', may_be_done=False) from error
-        result = told.get('result', {})
-        if 'error' in told or result.get('canceled'):
-            why = refusal_of(told['error']) if 'error' in told else Refusal(0, result.get('cancel_reason', 'compacted'))
+        result = document.get('result', {})
+        if 'error' in document or result.get('canceled'):
+            why = refusal_of(document['error']) if 'error' in document else Refusal(0, result.get('cancel_reason', 'compacted'))
             said = f'the watch was ended: {why}'
             raise Denied(f'{self.endpoint}: {said}') if 'permission' in said else Silent(self.endpoint, said, may_be_done=False)
         events: list[Json] = result.get('events', [])

@@ -36,8 +36,8 @@ def setup_parts(setup: Setup) -> tuple[Any, ...]:
     """A setup, as the three arguments that it is to the library."""
     weights = numbers_of('a weight', setup.weights)
     nodes, partitions = number_of('nodes', setup.nodes, UINT16_MAX), number_of('partitions', setup.partitions, UINT16_MAX)
-    told = RawSetup(nodes, partitions, number_of('events_max', setup.events_max, UINT32_MAX), 1 if setup.keeps else 0)
-    return (ctypes.byref(told), *weights)
+    raw = RawSetup(nodes, partitions, number_of('events_max', setup.events_max, UINT32_MAX), 1 if setup.keeps else 0)
+    return (ctypes.byref(raw), *weights)
 
 
 def version() -> str:
@@ -57,10 +57,10 @@ def check(trace: str | bytes | bytearray | memoryview) -> Verdict:
     if not isinstance(trace, (str, bytes, bytearray, memoryview)):
         raise TypeError(f'a trace is str or bytes, and not {type(trace).__name__}')
     text = line_bytes(trace) if isinstance(trace, str) else bytes(trace)
-    told = RawVerdict()
-    status = loaded(for_long=True).bully_check(text, len(text), ctypes.byref(told))
-    expect_ok(status, told.number)
-    return Verdict(VerdictKind(told.kind), told.number, FAULTS[told.cause] if told.cause else None)
+    raw = RawVerdict()
+    status = loaded(for_long=True).bully_check(text, len(text), ctypes.byref(raw))
+    expect_ok(status, raw.number)
+    return Verdict(VerdictKind(raw.kind), raw.number, FAULTS[raw.cause] if raw.cause else None)
 
 
 def plan_table(setup: Setup, members: Iterable[int], old: Sequence[int] | None = None) -> TablePlan:

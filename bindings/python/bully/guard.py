@@ -152,7 +152,7 @@ def say(text: str) -> None:
             os.write(2, text.encode())
 
 
-class Watch:
+class Watchdog:
     """Looks after a member, which may not stay stopped in the middle of a write."""
 
     def __init__(self, file: str, ttl: float) -> None:
@@ -285,8 +285,8 @@ def become(words: list[str], environment: list[bytes], pipes: Sequence[int], par
 class Guard:
     """The guard of a member."""
 
-    def __init__(self, channel: socket.socket, patience: float, talks: bool, ttl: float, watch: Watch, words: list[str]) -> None:
-        self.channel, self.watch, self.words, self.talks, self.ttl = channel, watch, words, talks, ttl
+    def __init__(self, channel: socket.socket, patience: float, talks: bool, ttl: float, watchdog: Watchdog, words: list[str]) -> None:
+        self.channel, self.watchdog, self.words, self.talks, self.ttl = channel, watchdog, words, talks, ttl
         self.patience = int(patience * NANOSECONDS)
         self.until = 0
         self.parts = b''  # of the words of the next begin
@@ -303,7 +303,7 @@ class Guard:
             if self.channel.fileno() in ready:
                 with contextlib.suppress(ConnectionResetError):  # comes once, if the member didn't read all that it was told
                     self.hear(self.channel.recv(MESSAGE_MAX))
-            self.watch.look()
+            self.watchdog.look()
 
     def awaited(self) -> set[int]:
         """Which descriptors are ready, once some are, or the member is to be looked at."""
@@ -315,7 +315,7 @@ class Guard:
         for descriptor in there:
             if descriptor >= 0:
                 poll.register(descriptor, select.POLLIN)
-        return {descriptor for descriptor, _ in poll.poll(self.watch.pause())}
+        return {descriptor for descriptor, _ in poll.poll(self.watchdog.pause())}
 
     def last_moment(self) -> int | None:
         """When the worker is killed, if it is at work, or has to end."""
@@ -378,7 +378,7 @@ def main() -> None:
     for quiet in QUIET:
         signal.signal(quiet, signal.SIG_IGN)
     adopt()
-    Guard(channel, float(patience), kind == 'talks', float(ttl), Watch(file, float(ttl)), words).go_on()
+    Guard(channel, float(patience), kind == 'talks', float(ttl), Watchdog(file, float(ttl)), words).go_on()
 
 
 if __name__ == '__main__':

@@ -9,7 +9,7 @@ import ssl
 import time
 from collections.abc import Callable, Mapping, Sequence
 
-from .gateway import KV_RANGE, Client, below, coded, one, pairs_of, read_address
+from .gateway import KV_RANGE, Client, pairs_of, range_below, range_from, read_address
 from .logs import DamagedLog, Log, NoEpoch
 from .sqlite import calls, connection, form_of, identity
 
@@ -75,7 +75,7 @@ def etcd_trace(address: str, epoch: int | None, tls: ssl.SSLContext | None, user
     client, root = Client(read, 1.0, tls, user, password), f'{read.prefix}/'.encode()
     with contextlib.closing(client):
         client.begin()
-        last = below(root + b'opening/', limit=1, sort_order='DESCEND', sort_target='KEY')
+        last = range_below(root + b'opening/', limit=1, sort_order='DESCEND', sort_target='KEY')
         opening = pairs_of(client.ask(KV_RANGE, last, repeats=True))
         if not opening or not opening[0].value.startswith(OPENING):
             return None
@@ -89,7 +89,7 @@ def read_etcd(address: str, client: Client, prefix: bytes, epoch: int) -> Sequen
     while True:
         client.begin()
         begin, end = prefix + b'%010d' % len(rows), prefix + b'%010d' % (len(rows) + PAGE)
-        found = pairs_of(client.ask(KV_RANGE, one(begin, range_end=coded(end)), repeats=True))
+        found = pairs_of(client.ask(KV_RANGE, range_from(begin, end), repeats=True))
         rows += [pair.value.decode() for pair in found]
         if len(found) < PAGE:
             return checked(address, epoch, rows, int(found[-1].key[-10:]) + 1 if found else len(rows))

@@ -156,8 +156,8 @@ def line_of(line: Line) -> tuple[bytes, int]:
 
 def row_bytes(line: Line) -> bytes:
     """The row, with its line end."""
-    told = line_bytes(line)
-    row = told[:-1] if told.endswith(b'\n') else told
+    text = line_bytes(line)
+    row = text[:-1] if text.endswith(b'\n') else text
     if not row or b'\n' in row or b'\r' in row:
         raise ValueError(f'{line!r} is not one row')
     return row + b'\n'
@@ -211,15 +211,15 @@ def owned_of(room: int, function: Callable[..., int], *arguments: Any) -> Owned 
     return Owned(token.value, partitions) if partitions else None
 
 
-def call_of(told: RawState) -> Call | None:
+def call_of(raw: RawState) -> Call | None:
     """The call that the library tells of a node, if any."""
-    return Call(CallKind(told.call), told.callee, bool(told.orphan)) if told.callee else None
+    return Call(CallKind(raw.call), raw.callee, bool(raw.orphan)) if raw.callee else None
 
 
-def state_of(told: RawState) -> State:
+def state_of(raw: RawState) -> State:
     """All that the library tells of a node."""
-    status, wants = Status(told.status), Want(told.wants)
-    return State(told.node, status, told.coordinator or None, told.halter or None, wants, call_of(told), told.generation)
+    status, wants = Status(raw.status), Want(raw.wants)
+    return State(raw.node, status, raw.coordinator or None, raw.halter or None, wants, call_of(raw), raw.generation)
 
 
 def texts_of(text: str) -> list[str]:
@@ -228,7 +228,7 @@ def texts_of(text: str) -> list[str]:
 
 
 Self = TypeVar('Self', bound='Opened')
-Told = TypeVar('Told', bound=Union[ctypes.Structure, ctypes.c_uint32])
+Filled = TypeVar('Filled', bound=Union[ctypes.Structure, ctypes.c_uint32])
 
 
 class Opened:
@@ -251,10 +251,10 @@ class Opened:
         """Calls the same, which has to answer OK."""
         expect_ok(self._function(name)(*told))
 
-    def _filled(self, told: Told, name: str, *arguments: Any) -> Told:
+    def _filled(self, filled: Filled, name: str, *arguments: Any) -> Filled:
         """What the same writes, called with these arguments and with room for that."""
-        self._call(name, *arguments, ctypes.byref(told))
-        return told
+        self._call(name, *arguments, ctypes.byref(filled))
+        return filled
 
     def close(self) -> None:
         """Gives back what the library keeps. Every later call raises Closed."""

@@ -35,7 +35,7 @@ class MemoryLog:
         self._rows: dict[int, list[str]] = {opening.epoch: []}
         self._times: dict[int, dict[int, int | None]] = {opening.epoch: {}}
         self._changed = threading.Condition(threading.RLock())
-        self._told = threading.local()
+        self._seen = threading.local()
 
     @property
     def epoch(self) -> int:
@@ -156,17 +156,17 @@ class MemoryLog:
         with self._changed:
             see_end('the log', self._end(), Promise(epoch, place))
             found = Found(self.epoch, self.rows[place:] if epoch == self.epoch else [], self.presences, self.wish, self.orders)
-            self._told.wanted, self._told.idle = found.wanted, (self._end(), found.idle(self._end()))
+            self._seen.wanted, self._seen.idle = found.wanted, (self._end(), found.idle(self._end()))
             return found
 
     def wait(self, epoch: int, place: int, lives: Mapping[str, Life], until: Until, seconds: float, woken: int | None = None) -> None:
         if woken is not None:  # it is looked at now and then
             seconds = 0.0 if slept(0.0, woken) else min(seconds, PART)
-        end, told = self.clock() + int(seconds * SECOND), getattr(self._told, 'wanted', (None, Orders()))
-        known: tuple[Promise, frozenset[str]] = getattr(self._told, 'idle', (Promise(), frozenset()))
+        end, wanted = self.clock() + int(seconds * SECOND), getattr(self._seen, 'wanted', (None, Orders()))
+        known: tuple[Promise, frozenset[str]] = getattr(self._seen, 'idle', (Promise(), frozenset()))
         before = known[1] if known[0] == Promise(epoch, place) else frozenset()
         with self._changed:
-            while not self.has_news(epoch, place, lives, told, until, before) and self.clock() < end:
+            while not self.has_news(epoch, place, lives, wanted, until, before) and self.clock() < end:
                 ends = [lease.until for lease in self.leases.values() if self.clock() < lease.until]
                 self._changed.wait(max(0, min([end, *ends]) - self.clock()) / SECOND)
 

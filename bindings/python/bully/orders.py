@@ -22,16 +22,16 @@ class Orders:
     @staticmethod
     def parse(text: str) -> Orders:
         """Those that `text` told. A ValueError, a KeyError, a TypeError or an AttributeError tells that these are none."""
-        told = json.loads(text or '{"drained": []}')
-        lives = {str(name): Life(*map(int, life)) for name, life in told['paused'].items()} if 'paused' in told else None
-        return Orders(frozenset(map(str, told['drained'])), lives)
+        document = json.loads(text or '{"drained": []}')
+        lives = {str(name): Life(*map(int, life)) for name, life in document['paused'].items()} if 'paused' in document else None
+        return Orders(frozenset(map(str, document['drained'])), lives)
 
     def text(self) -> str:
         """The same as JSON, for a store; nothing, if there are none."""
-        told: dict[str, Any] = {'drained': sorted(self.drained)}
+        document: dict[str, Any] = {'drained': sorted(self.drained)}
         if self.lives is not None:
-            told['paused'] = {name: [life.process, life.number] for name, life in sorted(self.lives.items())}
-        return '' if self == Orders() else json.dumps(told, ensure_ascii=False)
+            document['paused'] = {name: [life.process, life.number] for name, life in sorted(self.lives.items())}
+        return '' if self == Orders() else json.dumps(document, ensure_ascii=False)
 
     @property
     def is_paused(self) -> bool:

@@ -25,7 +25,7 @@ from .values import Status
 from .view import GroupView, LogView, NodeView
 from .worker import Workers
 
-_told = logging.getLogger('bully')
+_logger = logging.getLogger('bully')
 
 POLL_SECONDS = 25.0  # how long a request waits for news at most
 POLLS_MAX = 64  # requests that wait at one time
@@ -234,7 +234,7 @@ class Server(ThreadingHTTPServer):
     def handle_error(self, request: object, client_address: object) -> None:
         """Who asked may be gone before the answer. All else is told."""
         if not isinstance(sys.exc_info()[1], OSError):
-            _told.exception('a request from %s failed', client_address)
+            _logger.exception('a request from %s failed', client_address)
 
 
 class Page:
@@ -285,7 +285,7 @@ class Page:
         if parts.path == '/':
             return 200, 'text/html', page_of(name, group, self._workers.told)
         if parts.path == '/group':
-            return 200, 'application/json', json.dumps(group.told()) + '\n'
+            return 200, 'application/json', json.dumps(group.document()) + '\n'
         if parts.path == '/assignment':
             return 200, 'application/json', json.dumps(self._assignment(group)) + '\n'
         return 404, 'text/plain', 'there is no such page\n'
@@ -318,13 +318,13 @@ class Page:
     def _assignment(self, group: GroupView) -> dict[str, Any]:
         """What the member owns now."""
         owned = self._member.assignment()
-        told: dict[str, Any] = {
+        document: dict[str, Any] = {
             'node': self._member.name, 'epoch': group.epoch, 'events': group.events, 'token': None, 'coordinator': None, 'partitions': [],
         }  # fmt: skip
         if owned is not None:
             coordinator = owned.settings.name(owned.coordinator)
-            told.update(token=owned.token, coordinator=coordinator, partitions=list(owned.partitions))
-        return {**told, 'sure_seconds': round(self._sure_seconds(), 3) if owned else 0.0}
+            document.update(token=owned.token, coordinator=coordinator, partitions=list(owned.partitions))
+        return {**document, 'sure_seconds': round(self._sure_seconds(), 3) if owned else 0.0}
 
 
 class PageHandler(BaseHTTPRequestHandler):
@@ -351,13 +351,13 @@ class PageHandler(BaseHTTPRequestHandler):
 
     def send(self, status: int, kind: str, text: str, *headers: tuple[str, str]) -> None:
         content = text.encode('utf-8', 'replace')
-        told = [
+        all_headers = [
             ('Content-Type', kind if 'version' in kind else f'{kind}; charset=utf-8'), ('Content-Length', str(len(content))),
             ('Connection', 'close'), ('Cache-Control', 'no-store'),
             ('X-Content-Type-Options', 'nosniff'), ('Content-Security-Policy', POLICY), *headers,
         ]  # fmt: skip
         self.send_response(status)
-        for header, value in told:
+        for header, value in all_headers:
             self.send_header(header, value)
         self.end_headers()
         self.wfile.write(content)

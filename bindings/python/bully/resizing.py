@@ -18,7 +18,7 @@ from .replica import Replica
 from .running import Member
 from .settings import Settings
 
-_told = logging.getLogger('bully')
+_logger = logging.getLogger('bully')
 
 PART = 0.5  # seconds for which it waits at once
 AGAIN = 0.1  # seconds before a log that didn't answer is asked again
@@ -84,7 +84,7 @@ class Pruning(threading.Thread):
         try:
             self._log.prune(epoch + 1 - self._keep)
         except LogError as fault:
-            _told.warning('old epochs were not taken away: %s', fault)
+            _logger.warning('old epochs were not taken away: %s', fault)
             return False
         return True
 

@@ -45,8 +45,8 @@ class Assignment:
 
 Callback = Callable[[Assignment], None]
 Call = tuple[bool, Assignment]  # whether to stop
-_Told = TypeVar('_Told')
-_told = logging.getLogger('bully')
+_Answered = TypeVar('_Answered')
+_logger = logging.getLogger('bully')
 
 
 class OtherGroup(Exception):
@@ -235,7 +235,7 @@ class Member:
         """It has ended. Whether it takes part again: if it did so since its node was drained, and that is over before it is told to end."""
         self.is_drained = ending is Ending.LEFT and not self._is_leaving
         level = logging.WARNING if ending is Ending.NOT_THERE else logging.INFO
-        _told.log(level, 'node %s: %s', shown_name(self.name), 'it is drained, and does nothing' if self.is_drained else ENDINGS[ending])
+        _logger.log(level, 'node %s: %s', shown_name(self.name), 'it is drained, and does nothing' if self.is_drained else ENDINGS[ending])
         if ending is Ending.BROKEN:
             self.failure = self.failure or self.core.fault or DamagedLog('the log has a row that is no event')
         self._show()
@@ -310,17 +310,17 @@ class Member:
 
     def _ask(self, ask: Ask) -> None:
         """Asks the log, and tells the core what came of it."""
-        told = self._answer(self._asker().call(ask))
-        if isinstance(told, Found):
-            self._looked(told)
-        elif isinstance(told, Opening):
-            self._followed(told)
+        result = self._answer(self._asker().call(ask))
+        if isinstance(result, Found):
+            self._looked(result)
+        elif isinstance(result, Opening):
+            self._followed(result)
         else:
-            answer = StoreAnswer.UNANSWERED if told is None else StoreAnswer.DONE if told else StoreAnswer.REFUSED
+            answer = StoreAnswer.UNANSWERED if result is None else StoreAnswer.DONE if result else StoreAnswer.REFUSED
             self.core.answered(nanoseconds_of_boot(), answer)
-        if told and ask.request is Request.TAKE:
-            _told.info('node %s: present as %d.%d', shown_name(self.name), ask.life.process, ask.life.number)
-        if told and ask.request in (Request.TAKE, Request.RENEW) and self._sure is not None:
+        if result and ask.request is Request.TAKE:
+            _logger.info('node %s: present as %d.%d', shown_name(self.name), ask.life.process, ask.life.number)
+        if result and ask.request in (Request.TAKE, Request.RENEW) and self._sure is not None:
             self._sure(self.core.sure_until / SECOND)
 
     def _asker(self) -> Asker:
@@ -348,7 +348,7 @@ class Member:
         if life is not None and life.process != self._process and life != self._other:
             self._other = life
             who = shown_name(self.name), life.process, life.number
-            _told.warning('node %s: another process is present for it, as %d.%d, and this one waits until that ends', *who)
+            _logger.warning('node %s: another process is present for it, as %d.%d, and this one waits until that ends', *who)
 
     def _followed(self, opening: Opening) -> None:
         """With what the current epoch begins."""
@@ -356,14 +356,14 @@ class Member:
         self.core.followed(nanoseconds_of_boot(), terms_of(opening, number_of(opening, self.name)) if is_in else None)
         if is_in and opening.epoch != self.opening.epoch:
             self._enter(opening)
-            _told.info('node %s: goes on in epoch %d as number %d', shown_name(self.name), opening.epoch, self.node)
+            _logger.info('node %s: goes on in epoch %d as number %d', shown_name(self.name), opening.epoch, self.node)
 
-    def _answer(self, call: Callable[[], _Told]) -> _Told | None:
+    def _answer(self, call: Callable[[], _Answered]) -> _Answered | None:
         """What the log answers; None, if it doesn't."""
         try:
             return call()
         except Unanswered as unanswered:
-            _told.warning('node %s: %s', shown_name(self.name), unanswered)
+            _logger.warning('node %s: %s', shown_name(self.name), unanswered)
             return None
 
     # The callbacks, in a thread of their own.
@@ -372,7 +372,7 @@ class Member:
         """Calls what it is told to, one after the other."""
         for is_stop, work in iter(self._to_call.get, None):
             words = 'stops' if is_stop else 'begins'
-            _told.info('node %s: %s partitions %s by token %d', shown_name(self.name), words, list(work.partitions), work.token)
+            _logger.info('node %s: %s partitions %s by token %d', shown_name(self.name), words, list(work.partitions), work.token)
             try:
                 (self._stop_work if is_stop else self._start_work)(work)
             except BaseException as failure:

@@ -36,11 +36,11 @@ class Settings:
 
     def text(self, ttl: float, margin: float) -> str:
         """The settings as JSON, for a worker."""
-        told = {
+        document = {
             'names': self.names, 'weights': self.setup.weights or (1,) * self.setup.nodes, 'partitions': self.setup.partitions,
             'keep': self.setup.keeps, 'ttl': ttl, 'margin': margin,
         }  # fmt: skip
-        return json.dumps(told, ensure_ascii=False)
+        return json.dumps(document, ensure_ascii=False)
 
 
 @dataclass(frozen=True)
@@ -65,12 +65,12 @@ MEMBERS = {'names': str, 'weights': int, 'fault': dict}  # the kinds of what is 
 
 def read_settings(text: bytes) -> Settings:
     """The settings that this document has. Raises ConfigFault, with the first fault as docs/FORMATS.md has them."""
-    told = parsed(text)
-    fault = next(faults_in(told), None)
+    document = parsed(text)
+    fault = next(faults_in(document), None)
     if fault is not None:
         raise ConfigFault(fault)
-    setup = Setup(told['nodes'], told['partitions'], weights=tuple(told.get('weights', ())), keeps=told.get('keep', False))
-    return Settings(setup, tuple(told['names']))
+    setup = Setup(document['nodes'], document['partitions'], weights=tuple(document.get('weights', ())), keeps=document.get('keep', False))
+    return Settings(setup, tuple(document['names']))
 
 
 def parsed(text: bytes) -> dict[str, Any]:
@@ -80,12 +80,12 @@ def parsed(text: bytes) -> dict[str, Any]:
     except ImportError:
         raise ConfigFault('to read a configuration takes Python 3.11 or later') from None
     try:
-        told = tomllib.loads(text.decode('utf-8'))
+        document = tomllib.loads(text.decode('utf-8'))
     except ValueError:
         raise ConfigFault('Toml') from None
-    if any(not -INTEGER_MAX <= number < INTEGER_MAX for number in integers(told)):
+    if any(not -INTEGER_MAX <= number < INTEGER_MAX for number in integers(document)):
         raise ConfigFault('Toml')
-    return told
+    return document
 
 
 def integers(value: object) -> list[int]:
@@ -104,27 +104,27 @@ def is_kind(value: object, key: Key) -> bool:
     return are_kind and type(value) is key.kind
 
 
-def faults_in(told: dict[str, Any]) -> Iterator[str]:
+def faults_in(document: dict[str, Any]) -> Iterator[str]:
     """The faults, in the order of docs/FORMATS.md. None is looked for before the ones before it were handed out."""
-    faults = told.get('fault', [])
-    tables = [(told, TOP), *((fault, FAULT) for fault in faults)] if is_kind(faults, TOP[-1]) else [(told, TOP)]
+    faults = document.get('fault', [])
+    tables = [(document, TOP), *((fault, FAULT) for fault in faults)] if is_kind(faults, TOP[-1]) else [(document, TOP)]
     yield from (f'Missing {key.name}' for table, keys in tables for key in keys if key.is_required and key.name not in table)
     yield from (f'Kind {key.name}' for table, keys in tables for key in keys if key.name in table and not is_kind(table[key.name], key))
-    yield from (f'Range {key.name}' for key in TOP if key.name in told and not is_in_range(told, key))
+    yield from (f'Range {key.name}' for key in TOP if key.name in document and not is_in_range(document, key))
     for fault in faults:
-        ranges = (1 <= fault['at'] <= told['turns'], fault['node'] in told['names'], fault['kind'] in ('crash', 'recover'))
+        ranges = (1 <= fault['at'] <= document['turns'], fault['node'] in document['names'], fault['kind'] in ('crash', 'recover'))
         yield from (f'Range {key.name}' for key, is_in in zip(FAULT, ranges) if not is_in)
-    if len(set(told['names'])) < len(told['names']):
+    if len(set(document['names'])) < len(document['names']):
         yield 'DoubleName'
     if any(not set(table) <= {key.name for key in keys} for table, keys in tables):
         yield 'UnknownKey'
 
 
-def is_in_range(told: dict[str, Any], key: Key) -> bool:
+def is_in_range(document: dict[str, Any], key: Key) -> bool:
     """Whether the value of the key at the top is in its range."""
-    value = told[key.name]
+    value = document[key.name]
     if key.name in ('names', 'weights'):
-        return len(value) == told['nodes'] and all(each if key.name == 'names' else 1 <= each <= 1000 for each in value)
+        return len(value) == document['nodes'] and all(each if key.name == 'names' else 1 <= each <= 1000 for each in value)
     if key.name == 'fault':
         return len(value) <= key.most
     return key.kind is bool or key.least <= value <= key.most

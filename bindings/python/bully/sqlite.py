@@ -191,9 +191,9 @@ class SqliteLog:
         self._boot = boot_name()
         self._sight = 0  # when it is to be looked again which files are there
         self._name = ''  # of the log, once it is known
-        self._told: dict[str, Life] = {}  # who was present when that was looked at last
-        self._told_wanted: tuple[str | None, str] = None, ''
-        self._told_idle: tuple[Promise, frozenset[str]] = (Promise(), frozenset())
+        self._present: dict[str, Life] = {}  # who was present when that was looked at last
+        self._seen_wanted: tuple[str | None, str] = None, ''
+        self._seen_idle: tuple[Promise, frozenset[str]] = (Promise(), frozenset())
         self._lives = -1  # the count of changes then
         self._earliest = 0  # before then none of these presences ends
         self._version = self._promises = -1  # of what a wait saw last
@@ -370,7 +370,7 @@ class SqliteLog:
     def _are_idle(self, until: Until, here: Promise) -> bool:
         asked = 'select name, epoch, place from presence where boot = ? and until > ?'
         promises = {name: place for name, *place in self._file.execute(asked, (self._boot, nanoseconds_of_boot()))}
-        known, idle = self._told_idle
+        known, idle = self._seen_idle
         return are_idle(until, promises, [here.epoch, here.place], idle if known == here else frozenset())
 
     def read(self, epoch: int, place: int) -> Rows:
@@ -422,7 +422,7 @@ class SqliteLog:
             rows = self._rows(epoch, place, end.place) if epoch == end.epoch else Rows('')
             wish, orders = wish_of(self.path, end.epoch, standing.wish), orders_of(self.path, standing.orders)
             found = Found(end.epoch, rows, self._look_around(standing), wish, orders)
-        self._told_wanted, self._told_idle = standing.wanted, (end, found.idle(end))
+        self._seen_wanted, self._seen_idle = standing.wanted, (end, found.idle(end))
         return found
 
     def _look_around(self, standing: Standing) -> dict[str, Holder]:
@@ -430,7 +430,7 @@ class SqliteLog:
         asked = 'select name, life, epoch, place, until from presence where boot = ? and until > ?'
         found = self._file.execute(asked, (self._boot, nanoseconds_of_boot())).fetchall()
         presences = {name: holder_of(self.path, name, *told) for name, *told in found}
-        self._told = {name: holder.life for name, holder in presences.items()}
+        self._present = {name: holder.life for name, holder in presences.items()}
         self._lives, self._earliest = standing.lives, min((until for *_, until in found), default=NEVER)
         return presences
 
@@ -460,7 +460,7 @@ class SqliteLog:
             if standing.lives != self._lives or is_end:
                 self._look_around(standing)
             end = standing.end
-            if end != here or standing.wanted != self._told_wanted or self._told != lives:
+            if end != here or standing.wanted != self._seen_wanted or self._present != lives:
                 return True
             is_same, self._promises = standing.promises == self._promises, standing.promises
             return until is not Until.NEWS and not is_same and self._are_idle(until, here)

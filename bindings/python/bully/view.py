@@ -51,7 +51,7 @@ class NodeView:
         """Whether it is present, and drained, for people."""
         return ('yes' if self.is_present else 'no') + (', drained' if self.is_drained else '')
 
-    def told(self) -> dict[str, Any]:
+    def document(self) -> dict[str, Any]:
         """The same for JSON."""
         return {
             'node': self.node, 'name': self.name, 'status': str(self.status), 'coordinator': self.coordinator,
@@ -83,14 +83,14 @@ class GroupView:
     @property
     def told_more(self) -> str:
         """Whether it is paused, and who is behind, for people."""
-        told = ', '.join(f'{shown_name(name)} for {seconds:.1f} s' for name, seconds in self.behind.items())
-        return ('; paused: who works goes on, and nobody settles' if self.is_paused else '') + (f'; not idle yet: {told}' if told else '')
+        late = ', '.join(f'{shown_name(name)} for {seconds:.1f} s' for name, seconds in self.behind.items())
+        return ('; paused: who works goes on, and nobody settles' if self.is_paused else '') + (f'; not idle yet: {late}' if late else '')
 
-    def told(self) -> dict[str, Any]:
+    def document(self) -> dict[str, Any]:
         """The same for JSON."""
         return {
             'epoch': self.epoch, 'rows': self.rows, 'events': self.events, 'token': self.token, 'coordinator': self.coordinator,
-            'owners': list(self.owners), 'nodes': [node.told() for node in self.nodes], 'at_rest': self.is_at_rest,
+            'owners': list(self.owners), 'nodes': [node.document() for node in self.nodes], 'at_rest': self.is_at_rest,
             'paused': self.is_paused,
             'behind': {name: round(seconds, 3) for name, seconds in self.behind.items()},
             'last': [{'row': number, 'text': row} for number, row in self.last],

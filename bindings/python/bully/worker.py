@@ -24,7 +24,7 @@ REST_MAX = 60.0  # seconds that a worker rests at most which fails again and aga
 PART = 0.1  # seconds for which it waits at once for a worker to stop
 MESSAGE_MAX = 100_000  # bytes of a message to the guard: all sockets have room for so many
 
-_told = logging.getLogger('bully')
+_logger = logging.getLogger('bully')
 
 
 class GuardLost(Exception):
@@ -84,8 +84,8 @@ class Workers:
         settings = assignment.settings.text(self._member.ttl, self._member.margin)
         coordinator = assignment.settings.name(assignment.coordinator)
         if self._talks:
-            told = {'begin': assignment.token, 'partitions': assignment.partitions, 'coordinator': coordinator}
-            words = json.dumps({**told, 'settings': json.loads(settings)})
+            document = {'begin': assignment.token, 'partitions': assignment.partitions, 'coordinator': coordinator}
+            words = json.dumps({**document, 'settings': json.loads(settings)})
         else:
             partitions = ' '.join(map(str, assignment.partitions))
             named = {'TOKEN': str(assignment.token), 'SETTINGS': settings, 'COORDINATOR': coordinator, 'PARTITIONS': partitions}
@@ -193,7 +193,7 @@ class Workers:
         fails_again = self._rest and self._begun < self._rest_end + ttl
         self._rest = min(2 * self._rest, REST_MAX) if fails_again else ttl / 5
         self._rest_end = now + self._rest
-        _told.warning('the worker failed, with status %d, and is begun again in %.1f s', status, self._rest)
+        _logger.warning('the worker failed, with status %d, and is begun again in %.1f s', status, self._rest)
         if self._assignment is not None:
             self._begin_later(self._assignment)
 
@@ -239,4 +239,4 @@ class Workers:
 
     def _tell_left(self, processes: list[int]) -> None:
         self._left = processes
-        _told.error('these processes may work on, since SIGKILL has not ended them; until they are gone nothing is begun here: %s', processes)
+        _logger.error('these processes may work on, since SIGKILL has not ended them; until they are gone nothing is begun here: %s', processes)

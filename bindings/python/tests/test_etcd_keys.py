@@ -19,7 +19,7 @@ from bully import etcd, gateway
 from bully.clocks import SECOND
 from bully.epochs import Opening
 from bully.etcd import EtcdLog
-from bully.gateway import Address, Client, Endpoint, one, read_address
+from bully.gateway import Address, Client, Endpoint, range_at, read_address
 from bully.logs import DamagedLog, ForeignLog, LogError, LogExists, NoEpoch, NoLog, Unanswered
 from bully.member import Life, Promise, Until
 from bully.orders import Orders
@@ -178,14 +178,14 @@ class Prefixes(InEtcd):
                 EtcdLog(prefix)
 
     def test_addresses(self) -> None:
-        one, two, six = Endpoint('a', 2379), Endpoint('10.0.0.1', 80), Endpoint('::1', 2379)
+        range_at, two, six = Endpoint('a', 2379), Endpoint('10.0.0.1', 80), Endpoint('::1', 2379)
         for words, read in (
-            ('etcd://a/x', Address((one,), 'x', False)), ('etcds://a:2379,10.0.0.1:80/x/y//', Address((one, two), 'x/y', True)),
-            ('etcd://[::1]:2379/x', Address((six,), 'x', False)), ('etcd://[::1],a//x', Address((six, one), '/x', False)),
+            ('etcd://a/x', Address((range_at,), 'x', False)), ('etcds://a:2379,10.0.0.1:80/x/y//', Address((range_at, two), 'x/y', True)),
+            ('etcd://[::1]:2379/x', Address((six,), 'x', False)), ('etcd://[::1],a//x', Address((six, range_at), '/x', False)),
         ):  # fmt: skip
             with self.subTest(words=words):
                 self.assertEqual(read_address(words), read)
-        self.assertEqual((str(one), str(six)), ('a:2379', '[::1]:2379'))
+        self.assertEqual((str(range_at), str(six)), ('a:2379', '[::1]:2379'))
 
     def test_bad_addresses(self) -> None:
         for words in (
@@ -454,7 +454,7 @@ class Contents(InEtcd):
         log, other = self.begun(), self.opened()
         watch, asked = Client.watch, []
 
-        def from_start(client: Client, told: Json) -> gateway.Watch:
+        def from_start(client: Client, told: Json) -> gateway.Subscription:
             asked.append(told)
             return watch(client, {**told, 'start_revision': '1'})
 

@@ -12,7 +12,7 @@ from bully import etcd, gateway
 from bully.clocks import SECOND
 from bully.epochs import Opening
 from bully.etcd import EtcdLog
-from bully.gateway import Client, one, value_of
+from bully.gateway import Client, range_at, value_of
 from bully.logs import Log, NoEpoch
 from bully.member import Life
 from . import test_etcd_presences, test_etcd_watches
@@ -159,7 +159,7 @@ class MovesWhatItFound(EtcdLog):
     """A promise that is made meanwhile is lost by a move."""
 
     def renew(self, name: str, life: Life, ttl: int) -> bool:
-        self._promised = value_of(self._look(one(self._keys.promise(name))).ranges[0]) or b''
+        self._promised = value_of(self._look(range_at(self._keys.promise(name))).ranges[0]) or b''
         return super().renew(name, life, ttl)
 
     def _change(self, conditions: Sequence[Json], done: Sequence[Json], *refused: Json) -> gateway.Answer:
@@ -177,7 +177,7 @@ class FromNowOn(EtcdLog):
     def _begin_watch(self, is_news: Callable[[], bool], is_wide: bool, seconds: float) -> bool:
         watch = Client.watch
 
-        def now(client: Client, told: Json) -> gateway.Watch:
+        def now(client: Client, told: Json) -> gateway.Subscription:
             return watch(client, {name: value for name, value in told.items() if name != 'start_revision'})
 
         with mock.patch.object(Client, 'watch', now):

@@ -9,7 +9,7 @@ from bully import gateway
 from bully.clocks import SECOND
 from bully.epochs import Opening
 from bully.etcd import EtcdLog
-from bully.gateway import Client, one
+from bully.gateway import Client, range_at
 from bully.logs import ForeignLog, Holder, Unanswered
 from bully.member import Life, Promise
 from .etcd_servers import Json, begin_alone
@@ -166,18 +166,18 @@ class Promises(InEtcd):
         """Whatever is wished for meanwhile, the next epoch begins by what was wished for last."""
         self.log.release('a', A)
         self.assertTrue(self.log.take('a', A, EMPTY, LONG))
-        one, two = Opening(2, 'bully,1,2,4', ('a', 'b'), 500), Opening(2, 'bully,1,1,4', ('c',), 500)
+        range_at, two = Opening(2, 'bully,1,2,4', ('a', 'b'), 500), Opening(2, 'bully,1,1,4', ('c',), 500)
         late = self.late(lambda: self.log.finish(1, 0, OPENING.after(None)))
-        self.assertTrue(self.log.ask(one, 1))
+        self.assertTrue(self.log.ask(range_at, 1))
         self.assertFalse(self.is_done(late))
-        late = self.late(lambda: self.log.finish(1, 0, one))
+        late = self.late(lambda: self.log.finish(1, 0, range_at))
         self.assertTrue(self.log.ask(two, 1))
         self.assertFalse(self.is_done(late))
-        self.assertTrue(self.log.ask(one, 1))
+        self.assertTrue(self.log.ask(range_at, 1))
         self.assertFalse(self.is_done(late), 'it was asked for anew')
-        late = self.late(lambda: self.log.finish(1, 0, one))
+        late = self.late(lambda: self.log.finish(1, 0, range_at))
         self.assertTrue(self.is_done(late))
-        self.assertEqual((self.log.opening(), self.log.look(2, 0).wish), (one, None))
+        self.assertEqual((self.log.opening(), self.log.look(2, 0).wish), (range_at, None))
 
 
 class Lost(InEtcd):

@@ -79,7 +79,7 @@ class Watching(InEtcd):
             self.log._end_watch()
             place, done = len(self.log.look(1, 0).rows), []
 
-            def begin(client: Client, told: Json) -> gateway.Watch:
+            def begin(client: Client, told: Json) -> gateway.Subscription:
                 done.append(act())
                 return watch(client, told)
 

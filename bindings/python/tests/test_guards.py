@@ -45,7 +45,7 @@ rooted, kills = sys.argv[1:]
 from bully import clocks, worker
 from bully.running import Assignment
 logging.basicConfig(stream=sys.stdout, format='%(message)s')
-worker._told.error = lambda _, processes: print('these processes may work on:', processes, flush=True)
+worker._logger.error = lambda _, processes: print('these processes may work on:', processes, flush=True)
 failures, lost = [], []
 workers = worker.Workers([rooted, '--reuid', '0', '--regid', '0', '--clear-groups', 'sh', '-c', 'echo $$; exec sleep 1000'], 'x', 0.1)
 workers.begin(SimpleNamespace(ttl=2.0, margin=0.4, end_with=failures.append, lose=lost.append, is_leaving=True))
@@ -455,7 +455,7 @@ os.kill(os.getpid(), signal.SIGSTOP)
         with subprocess.Popen(words, universal_newlines=True, **pipes) as writer:
             assert writer.stdin is not None and writer.stdout is not None
             with mock.patch.object(os, 'getppid', lambda: writer.pid):
-                watch = guard.Watch(f'{self.folder}/group.db-shm', 2.0)
+                watch = guard.Watchdog(f'{self.folder}/group.db-shm', 2.0)
                 self.assertLessEqual((watch.pause() or 0) * guard.MILLISECOND + watch.span, 0.4 * clocks.SECOND * 2.0 + 2 * guard.MILLISECOND)
                 for said in ('idle\n', 'writes\n'):
                     self.assertEqual(writer.stdout.readline(), said)

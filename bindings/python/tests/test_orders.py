@@ -179,7 +179,7 @@ class Ordered(Threads):
     """Members in threads to which orders are given."""
 
     def setUp(self) -> None:
-        patch = mock.patch.object(running._told, 'warning')  # of who isn't answered
+        patch = mock.patch.object(running._logger, 'warning')  # of who isn't answered
         patch.start()
         self.addCleanup(patch.stop)
         self.log = Silent(OPENING)
