@@ -1,7 +1,7 @@
 """Logs of `bully.etcd` over a simulated etcd: their calls are done request by request, in simulated time.
 
-A call begins anew with each answer: all that was answered before is told to it again, and it stops at the first request that has no
-answer yet. So it may not change what it begins with before its last answer, and none does.
+A call begins anew with each answer: all that was answered before is told to it again, and it stops at the first request
+that has no answer yet. So it may not change what it begins with before its last answer, and none does.
 """
 from __future__ import annotations
 
@@ -141,8 +141,8 @@ class KeptLog(EtcdLog):
     def has_news(
         self, epoch: int, place: int, lives: Mapping[str, Life], wanted: Wanted, until: Until, before: AbstractSet[str],
     ) -> bool:  # fmt: skip
-        """Whether a wait is over before its time behind a look that found this wish and these orders, and these idle: of etcd as it is, whatever
-        a server knows."""
+        """Whether a wait is over before its time behind a look that found this wish and these orders, and these idle:
+        of etcd as it is, whatever a server knows."""
         there, here = self.client.cluster.keys, place_text(Promise(epoch, place)).encode()
         end, wished = there.get(self._keys.place).value, there.get(self._keys.next).value
         orders = orders_of(self.address, there.get(self._keys.orders).value)

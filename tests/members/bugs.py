@@ -210,7 +210,8 @@ class MeetsNoStranger(Core):
 
 
 class PromisesUnderLease(KeptLog):
-    """A promise names the lease that its life has when it is asked for: one that comes late puts it under an old one, and it is lost with that."""
+    """A promise names the lease that its life has when it is asked for: one that comes late puts it under an old one,
+    and it is lost with that."""
 
     def promise(self, name: str, life: Life, promise: Promise) -> bool:
         self._client.begin()
@@ -433,7 +434,8 @@ class SlowPromises(SlowTakes):
 
 
 class Bug(NamedTuple):
-    """What is broken, and the first seed that shows it, with a part of what it shows; 0, if none did. With what trouble, if not with any."""
+    """What is broken, and the first seed that shows it, with a part of what it shows; 0, if none did. With what
+    trouble, if not with any."""
 
     log: type[MemoryLog] | type[KeptLog]  # noqa: UP007
     seed: int

@@ -1,10 +1,11 @@
 """An etcd of three servers in simulated time, as far as a log uses it, and what may become of its leaders.
 
-It has one order of all that is done, as etcd does. Up to chance is what etcd leaves open: what becomes of requests while there is no
-leader; how late a lease ends that isn't renewed; what a server tells by itself, if it is asked so (`serializable`); and what a leader does
-that was cut off or paused, and doesn't know that another one came. That one goes on to renew leases, of which no other server hears. Once
-it is back it may end a lease of its own term that it hasn't renewed for the ttl, whatever was renewed under the new leader. A new leader
-gives each lease its full ttl. And no leader ends a lease earlier than the ttl behind a renewal that was done under it.
+It has one order of all that is done, as etcd does. Up to chance is what etcd leaves open: what becomes of requests
+while there is no leader; how late a lease ends that isn't renewed; what a server tells by itself, if it is asked so
+(`serializable`); and what a leader does that was cut off or paused, and doesn't know that another one came. That one
+goes on to renew leases, of which no other server hears. Once it is back it may end a lease of its own term that it
+hasn't renewed for the ttl, whatever was renewed under the new leader. A new leader gives each lease its full ttl. And
+no leader ends a lease earlier than the ttl behind a renewal that was done under it.
 """
 from __future__ import annotations
 
@@ -122,7 +123,8 @@ class Leader:
 
 @dataclass
 class Stale(Leader):
-    """A leader that was cut off from the others, or paused, and knows nothing of a new one: what it knew then, and what it was asked."""
+    """A leader that was cut off from the others, or paused, and knows nothing of a new one: what it knew then, and what
+    it was asked."""
 
     seconds: dict[int, float]
     revision: int
@@ -162,8 +164,8 @@ class Cluster:
             self.await_leader(path, told, reply)
 
     def await_leader(self, path: str, told: Json, reply: Reply) -> None:
-        """A server that knows no leader waits for one. If it was asked to renew a lease, it has noted the term before. The leader that was
-        lost may still do that, too, if it is paused with the request."""
+        """A server that knows no leader waits for one. If it was asked to renew a lease, it has noted the term before.
+        The leader that was lost may still do that, too, if it is paused with the request."""
         term = self.leader.term
 
         def reply_of_term(outcome: Outcome) -> None:
@@ -377,7 +379,8 @@ class Cluster:
             reply(Refusal(NO_LEADER, 'etcdserver: leader changed'))
 
     def bring_back(self) -> None:
-        """A stale leader goes on, does what it was asked meanwhile, and then finds the new one. That one may end leases by its word."""
+        """A stale leader goes on, does what it was asked meanwhile, and then finds the new one. That one may end leases
+        by its word."""
         stale, self.stale = self.stale, None
         assert stale is not None
         for path, told, reply in stale.asked:

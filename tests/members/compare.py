@@ -2,10 +2,11 @@
 
     tests/members/compare LIBRARY_FOLDER [--requests COUNT] [--logs COUNT] [--seed SEED]
 
-LIBRARY_FOLDER is what `bin/library` wrote. It starts a server of its own, if the program `etcd` is on the path, and else tries nothing. Asked
-are transactions that write or read, ranges of any revision, and leases that are granted, renewed and ended. Terms aren't compared, nor are
-numbers of leases. Then logs over both are asked the same, each by calls of its own; and a log in memory has to answer so, too. The last line is
-'N passed, M failed'; the exit status is 0 where M is 0, and else 1.
+LIBRARY_FOLDER is what `bin/library` wrote. It starts a server of its own, if the program `etcd` is on the path, and
+else tries nothing. Asked are transactions that write or read, ranges of any revision, and leases that are granted,
+renewed and ended. Terms aren't compared, nor are numbers of leases. Then logs over both are asked the same, each by
+calls of its own; and a log in memory has to answer so, too. The last line is 'N passed, M failed'; the exit status is 0
+where M is 0, and else 1.
 """
 from __future__ import annotations
 

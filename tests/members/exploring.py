@@ -1,10 +1,11 @@
-"""All states of a small store and of what is under way between it and its members, up to a bound: does any reach what must not be?
+"""All states of a small store and of what is under way between it and its members, up to a bound: does any reach what
+must not be?
 
-Abstract: an append is one plan. A place is a number, EPOCH * 100 + ROWS with the header, so places of a later epoch are higher, and the last
-plan stands one before the end of the log, if more than the header is there. A member looks, asks, gives up, begins and stops work whenever it
-may. Requests are done in any order, late, or never. A presence may end at any time, and work by it has ended then: that is the clocks'
-premise. Wrong is that one works by another plan than the last one of the current epoch, or that a node uses a token below one that it used,
-or uses it again in another life.
+Abstract: an append is one plan. A place is a number, EPOCH * 100 + ROWS with the header, so places of a later epoch are
+higher, and the last plan stands one before the end of the log, if more than the header is there. A member looks, asks,
+gives up, begins and stops work whenever it may. Requests are done in any order, late, or never. A presence may end at
+any time, and work by it has ended then: that is the clocks' premise. Wrong is that one works by another plan than the
+last one of the current epoch, or that a node uses a token below one that it used, or uses it again in another life.
 """
 from __future__ import annotations
 
@@ -36,9 +37,9 @@ ALL = 1_000_000  # states, which none of them has
 
 
 class Node(NamedTuple):
-    """What the store has of a node: a life (0: none), and its promise. And what its process knows: its life; the one that it asks for; how
-    many it asked for; up to where it has read; what its life has promised; the plan by which it works (0: none); and what it used last, in
-    which life."""
+    """What the store has of a node: a life (0: none), and its promise. And what its process knows: its life; the one
+    that it asks for; how many it asked for; up to where it has read; what its life has promised; the plan by which it
+    works (0: none); and what it used last, in which life."""
 
     held: int = 0
     promise: int = 0
@@ -146,7 +147,8 @@ class Explorer:
                 yield 'is present, and knows', to(held=request.life, promise=promise, life=request.life, asking=0)
 
     def explore(self, most: int) -> tuple[str | None, int]:
-        """How what must not be is reached, if it is, by the fewest steps; and how many states were seen, which is `most` if there are more."""
+        """How what must not be is reached, if it is, by the fewest steps; and how many states were seen, which is
+        `most` if there are more."""
         first = State(FIRST, (Node(),) * self.bounds.nodes)
         seen: dict[State, tuple[State, str] | None] = {first: None}
         queue: Deque[State] = deque([first])

@@ -1,4 +1,5 @@
-"""What happens to five members over three servers of etcd: members are killed, paused and cut off, and so are servers."""
+"""What happens to five members over three servers of etcd: members are killed, paused and cut off, and so are
+servers."""
 from __future__ import annotations
 
 import random

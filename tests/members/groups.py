@@ -42,8 +42,9 @@ def told_seconds(what: str, seconds: Sequence[float]) -> str:
 
 @dataclass
 class Times:
-    """How long a group took to come to rest behind changes of one kind, and how many rows; the same behind the end of a presence, if one
-    ended, or else behind the begin of the last one, if one began; and until all partitions were worked on, if that was looked for at once."""
+    """How long a group took to come to rest behind changes of one kind, and how many rows; the same behind the end of a
+    presence, if one ended, or else behind the begin of the last one, if one began; and until all partitions were worked
+    on, if that was looked for at once."""
 
     to_rest: list[float] = field(default_factory=list)
     behind_end: list[float] = field(default_factory=list)
@@ -101,8 +102,9 @@ class Group:
         self, folder: Path, stores: dict[str, str], ttl: float, within: Callable[[str], Sequence[str]] = lambda _: (),
         names: Sequence[str] = NAMES, partitions: int = PARTITIONS, words: Sequence[str] = (), work: Callable[[Path, int], Work] = Work,
     ) -> None:  # fmt: skip
-        """A new group. The store is told for each member, and for who looks at them (''). `within` has the words by which a process is
-        begun where a member is; `words` are more ones for each member; and `work` makes what has the work, in a folder."""
+        """A new group. The store is told for each member, and for who looks at them (''). `within` has the words by
+        which a process is begun where a member is; `words` are more ones for each member; and `work` makes what has the
+        work, in a folder."""
         self.folder, self.ttl, self.words = folder, ttl, list(words)
         self.stores, self.within = stores, within
         self.configs = 0
@@ -158,8 +160,8 @@ class Group:
     # Rest.
 
     def look(self, present: AbstractSet[str] | None = None) -> GroupView | None:
-        """How the group stands; nothing, if the store doesn't answer. If some are told, it is noted until when these were all present, and until
-        when not all were that have a process."""
+        """How the group stands; nothing, if the store doesn't answer. If some are told, it is noted until when these
+        were all present, and until when not all were that have a process."""
         now = time.monotonic()
         try:
             self.shown = self.view.show()
@@ -188,7 +190,8 @@ class Group:
         return up == normal == alive and shown.coordinator == alive[-1] and set(shown.owners) == set(alive)
 
     def rest(self, settles: float, end: float) -> float | None:
-        """Waits for a rest that lasts for so many seconds at least. When it began; nothing, if it didn't up to the end."""
+        """Waits for a rest that lasts for so many seconds at least. When it began; nothing, if it didn't up to the
+        end."""
         since, rows, present = 0.0, -1, present_in(self.shown)
         while time.monotonic() < end:
             shown, now = self.look(present), time.monotonic()
@@ -202,7 +205,8 @@ class Group:
         return None
 
     def goes_on(self, end: float, but: str = '') -> float | None:
-        """Waits until one more unit is done on each partition, but those of that node, by the token of the table. When that was."""
+        """Waits until one more unit is done on each partition, but those of that node, by the token of the table. When
+        that was."""
         before = self.work.sizes()
         while time.monotonic() < end:
             shown, sizes, tokens = self.look(), self.work.sizes(), self.work.last_tokens()
@@ -214,7 +218,8 @@ class Group:
         return None
 
     def come_to_rest(self, what: str, change: Callable[[], object], settles: float = 0.0) -> None:
-        """Makes a change, and waits until the group is at rest behind it, and works: how long that took, and how many rows."""
+        """Makes a change, and waits until the group is at rest behind it, and works: how long that took, and how many
+        rows."""
         before, begun = self.shown, time.monotonic()
         self.all_present = self.not_present = begun
         change()
@@ -273,7 +278,8 @@ class Group:
         self.come_to_rest('the end of a drain', lambda: self.order('undrain', name))
 
     def halt(self, name: str) -> None:
-        """In a pause of the group the member is killed, and another process comes for its node: the others work on, and nothing is appended."""
+        """In a pause of the group the member is killed, and another process comes for its node: the others work on, and
+        nothing is appended."""
         self.order('pause')
         before, member = self.show(), self.members.pop(name)
         member.kill()
@@ -299,7 +305,8 @@ class Group:
         return True
 
     def pause(self, name: str, seconds: float, whom: str) -> None:
-        """The member, its worker or both are stopped for so long; a member for more than the ttl until the others are at rest."""
+        """The member, its worker or both are stopped for so long; a member for more than the ttl until the others are
+        at rest."""
         paused = self.members[name]
         workers = [] if whom == 'member' else workers_of(paused.pid)
         self.count(whom == 'member' or bool(workers), f'{name} has no worker to pause')
@@ -333,7 +340,8 @@ class Group:
     # At rest, and in the end.
 
     def idle(self, seconds: float, most: float) -> None:
-        """What members and their guards cost that have nothing to do: no row, less than this percentage of a processor, and 24 MiB."""
+        """What members and their guards cost that have nothing to do: no row, less than this percentage of a processor,
+        and 24 MiB."""
         processes = {name: [member.pid, *children(member.pid)] for name, member in self.members.items()}
         before, rows, begun = cost(processes), self.show().rows, time.monotonic()
         time.sleep(seconds)
@@ -347,8 +355,8 @@ class Group:
               f'{memory[0]:.1f} to {memory[-1]:.1f} MiB of its own')
 
     def end(self, program: Path | None = None) -> None:
-        """All leave in order, one of them behind the others, and what they left is judged; also with everything said, if there is the program
-        `bully`."""
+        """All leave in order, one of them behind the others, and what they left is judged; also with everything said,
+        if there is the program `bully`."""
         *others, last = self.members
         for names in (others, [last]):
             for name in names:

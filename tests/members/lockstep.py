@@ -22,7 +22,8 @@ class Differ(Wrong):
 
 
 class Both:
-    """The plain rules, and others beside them. What they do is compared at each step: its kind, its times and lives, and its rows."""
+    """The plain rules, and others beside them. What they do is compared at each step: its kind, its times and lives,
+    and its rows."""
 
     steps = settlements = 0  # how many were compared, in all groups
 

@@ -1,7 +1,8 @@
-"""A network of a test's own on this machine: each host is a network namespace, and two bridges in another one join them all.
+"""A network of a test's own on this machine: each host is a network namespace, and two bridges in another one join them
+all.
 
-Each host has an address on both bridges: 10.83.0.N, and 10.83.1.N, over which servers talk to one another. Nothing of the machine's own
-network is touched. It takes root, and the programs `ip` and `bridge`.
+Each host has an address on both bridges: 10.83.0.N, and 10.83.1.N, over which servers talk to one another. Nothing of
+the machine's own network is touched. It takes root, and the programs `ip` and `bridge`.
 """
 from __future__ import annotations
 

@@ -1,17 +1,21 @@
-"""Tries members in processes of their own over three servers of etcd, on a network of its own: 100 faults of members, servers and network.
+"""Tries members in processes of their own over three servers of etcd, on a network of its own: 100 faults of members,
+servers and network.
 
     tests/members/network LIBRARY_FOLDER [--faults COUNT] [--seed SEED] [--locks COUNT] [--program PATH] [--folder FOLDER]
 
-LIBRARY_FOLDER is what `bin/library` wrote. Each server and each of five members is in a network namespace; without root, or without the
-program `ip`, all are on the loopback, and nothing happens to the network. Members are killed and come back, are paused, or their workers,
-or both, for less and for more than the ttl, and are cut off; servers are killed and come back, are paused, and are cut off, the leader
-among them. Each time the group has to come to rest, and to work. With up to 10 faults there is one of each that the network has.
+LIBRARY_FOLDER is what `bin/library` wrote. Each server and each of five members is in a network namespace; without
+root, or without the program `ip`, all are on the loopback, and nothing happens to the network. Members are killed and
+come back, are paused, or their workers, or both, for less and for more than the ttl, and are cut off; servers are
+killed and come back, are paused, and are cut off, the leader among them. Each time the group has to come to rest, and
+to work. With up to 10 faults there is one of each that the network has.
 
-At the end the log has to be lawful, also with everything said if PATH is the program `bully`; no two workers may have worked on one
-partition at one moment, no token may have fallen, and all have to leave in order. It tells how long it took to come to rest, and, beside the
-death of a member, how long `etcdctl lock` takes with the same ttl, which is tried COUNT times; a tenth of the faults, if it isn't told.
+At the end the log has to be lawful, also with everything said if PATH is the program `bully`; no two workers may have
+worked on one partition at one moment, no token may have fallen, and all have to leave in order. It tells how long it
+took to come to rest, and, beside the death of a member, how long `etcdctl lock` takes with the same ttl, which is tried
+COUNT times; a tenth of the faults, if it isn't told.
 
-The last line is 'N passed, M failed'; the exit status is 0 where M is 0, and else 1. Without the program `etcd` nothing is tried.
+The last line is 'N passed, M failed'; the exit status is 0 where M is 0, and else 1. Without the program `etcd` nothing
+is tried.
 """
 from __future__ import annotations
 

@@ -1,7 +1,8 @@
 """The same groups over `bully.etcd`, and an etcd whose leaders are lost (`cluster.py`).
 
-Each request of a call has its own way, and may be lost, or its answer; the member waits for it as long as `bully.gateway` does, and then
-asks the next server. A watch tells what is new late, or not at all. What is judged is read from etcd's keys as they are.
+Each request of a call has its own way, and may be lost, or its answer; the member waits for it as long as
+`bully.gateway` does, and then asks the next server. A watch tells what is new late, or not at all. What is judged is
+read from etcd's keys as they are.
 """
 from __future__ import annotations
 
@@ -248,7 +249,8 @@ class OverEtcd(OverMemory):
         self.tell_all()
 
     def tell(self, member: Member) -> None:
-        """By a watch, which may be late, or broken: then the member hears of the next change, or goes on when its time is over."""
+        """By a watch, which may be late, or broken: then the member hears of the next change, or goes on when its time
+        is over."""
         wait, found = member.awaited, member.found
         if wait is None or found is None or not self.store.has_news(member.epoch, found, wait.until):
             return

@@ -1,6 +1,7 @@
 """The same groups over the log of `bully.memory`, and what all logs of the package have in common here.
 
-A member asks the log as `bully.running` does. What is judged is read from the log as it is, apart from what members ask.
+A member asks the log as `bully.running` does. What is judged is read from the log as it is, apart from what members
+ask.
 """
 from __future__ import annotations
 
@@ -64,7 +65,8 @@ class Watchable(logs.Log, Protocol):
 
 
 class LogStore:
-    """What is judged of a log of the package, and what whoever resizes a group asks of it, which is answered at once."""
+    """What is judged of a log of the package, and what whoever resizes a group asks of it, which is answered at
+    once."""
 
     log: Watchable
     kept_from = 0  # no member is told that an epoch was taken away: looks tell of the current one
@@ -272,8 +274,8 @@ class OverMemory(Simulation):
         return cast(LogStore, self.store)
 
     def changed(self, what: str, done: bool) -> bool:
-        """In a pause a group is settled only if one that was there before has promised to be idle, and can't go on; or if that was asked for
-        before, and comes late."""
+        """In a pause a group is settled only if one that was there before has promised to be idle, and can't go on; or
+        if that was asked for before, and comes late."""
         lives = self.given.orders.lives if done else None
         if lives is not None and self.end not in self.asked and not any((life, self.end) in self.promised for life in lives.values()):
             raise Wrong(f'{what} in a pause')

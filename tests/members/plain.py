@@ -1,8 +1,9 @@
-"""A member by its rules, in plain Python, of which nothing is proved. It was written from the rules alone, apart from the proved member,
-so that a difference between the two tells something.
+"""A member by its rules, in plain Python, of which nothing is proved. It was written from the rules alone, apart from
+the proved member, so that a difference between the two tells something.
 
-All times are whole nanoseconds of one clock that never goes back. A *place* in a log is how many rows stand behind its header. A token is how
-many events there are up to a plan and with it. So a plan stands at a place or behind it exactly if the place is below its token.
+All times are whole nanoseconds of one clock that never goes back. A *place* in a log is how many rows stand behind its
+header. A token is how many events there are up to a plan and with it. So a plan stands at a place or behind it exactly
+if the place is below its token.
 """
 from __future__ import annotations
 
@@ -29,7 +30,8 @@ LEAST = 2 * SETTLEMENT  # times as many rows an epoch has at least: behind a fir
 
 @dataclass(frozen=True)
 class World:
-    """How a group stands behind a log: who is up; whom each Normal node has as coordinator; the last plan, whose token is 0 if there is none."""
+    """How a group stands behind a log: who is up; whom each Normal node has as coordinator; the last plan, whose token
+    is 0 if there is none."""
 
     nodes: int
     up: frozenset[int]
@@ -46,8 +48,8 @@ def world_of(replica: Replica) -> World:
 
 
 def is_at_rest(world: World, present: Sequence[int], promised: int) -> bool:
-    """Whether those present, and no others, are up; all are Normal under the highest of them; and they may work by the last plan, behind
-    the place that was promised, which is over no others."""
+    """Whether those present, and no others, are up; all are Normal under the highest of them; and they may work by the
+    last plan, behind the place that was promised, which is over no others."""
     there = set(present)
     if world.up != there:
         return False
@@ -84,7 +86,8 @@ def planned(setup: Setup, members: Sequence[int], old: Sequence[int] | None) -> 
 
 
 def settle(world: World, setup: Setup, present: Sequence[int], old: Sequence[int] | None = None) -> list[str]:
-    """The rows that bring a group to rest among those present, from whatever its log came to. With nobody present all crash."""
+    """The rows that bring a group to rest among those present, from whatever its log came to. With nobody present all
+    crash."""
     there = set(present)
     if not there:
         return [f'crash,{node}' for node in sorted(world.up)]
@@ -304,8 +307,8 @@ class Plain:
         return self._step_of_taking(now)
 
     def _step_of_taking(self, now: int) -> Step:
-        """Rules 10 and 11: an earlier life of its own process, taken late, is given back; another process's is waited for; and so are others
-        that are there, until they have settled its node Down, or have done nothing for a ttl."""
+        """Rules 10 and 11: an earlier life of its own process, taken late, is given back; another process's is waited
+        for; and so are others that are there, until they have settled its node Down, or have done nothing for a ttl."""
         for presence in self.presences:
             if presence.node == self.node:
                 is_own = presence.life.process == self.process
@@ -380,7 +383,8 @@ class Plain:
             self.must_look |= not is_done
 
     def _is_stale(self, ask: Ask) -> bool:
-        """Whether a presence was asked for by another life than it has by now. Then nothing is done about the answer."""
+        """Whether a presence was asked for by another life than it has by now. Then nothing is done about the
+        answer."""
         if ask.request is Request.TAKE:
             return self.life is not None
         return ask.request is Request.RENEW and not (isinstance(self.life, Present) and self.life.life == ask.life)
@@ -445,7 +449,8 @@ class Plain:
         self.is_past, self.asked = True, None
 
     def followed(self, now: int, opening: Opening | None) -> None:
-        """With what the current epoch begins; none, if the node isn't in it. Refused as a beginning is, and then nothing changes."""
+        """With what the current epoch begins; none, if the node isn't in it. Refused as a beginning is, and then
+        nothing changes."""
         wrong = refusal(opening, self.ttl) if opening is not None else None
         if wrong:
             raise ValueError(wrong)
@@ -483,7 +488,8 @@ def left(span: int, since: int, now: int) -> int:
     return max(0, span - max(0, now - since))
 
 
-# A settler makes the rows that bring a group to rest behind a log: of its header, its rows, who is present, and an old table.
+# A settler makes the rows that bring a group to rest behind a log: of its header, its rows, who is present, and an old
+# table.
 Settler = Callable[[str, Sequence[str], Sequence[int], Optional[Sequence[int]]], list[str]]
 
 
@@ -495,7 +501,8 @@ def settle_behind(header: str, rows: Sequence[str], present: Sequence[int], old:
 
 
 def rests_behind(header: str, rows: Sequence[str], present: Sequence[int], promised: int) -> tuple[bool, list[Owned | None]]:
-    """Whether the group is at rest behind a log among those present, and by what each node may work, if that place was promised."""
+    """Whether the group is at rest behind a log among those present, and by what each node may work, if that place was
+    promised."""
     with Replica(header) as replica:
         replica.learn(rows)
         world = world_of(replica)

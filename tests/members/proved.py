@@ -1,4 +1,5 @@
-"""What the plain rules are compared with: those of the library, which are proved. This is the one place where these are called."""
+"""What the plain rules are compared with: those of the library, which are proved. This is the one place where these are
+called."""
 from __future__ import annotations
 
 from collections.abc import Sequence

@@ -1,4 +1,5 @@
-"""A recorder of units of work, in a process apart from who works: it judges whether two work on one partition at one moment.
+"""A recorder of units of work, in a process apart from who works: it judges whether two work on one partition at one
+moment.
 
     recorder.py SOCKET FOLDER
 
@@ -10,12 +11,14 @@ and is answered `granted`, or `old`, if the partition has seen a higher token. B
 
     end NS                           when that was over
 
-A unit begins once it is granted. It ends as is told, or by the end of its worker, which closes the connection: a worker that is stopped in a
-unit is still in it. If a unit is asked for at a moment when another worker's one on the partition isn't over, that is `overlap`. Such faults
-are lines of FOLDER/faults, and a unit that was done is one, `TOKEN NODE`, in the file of its partition, as `worker.py` writes them by itself.
+A unit begins once it is granted. It ends as is told, or by the end of its worker, which closes the connection: a worker
+that is stopped in a unit is still in it. If a unit is asked for at a moment when another worker's one on the partition
+isn't over, that is `overlap`. Such faults are lines of FOLDER/faults, and a unit that was done is one, `TOKEN NODE`, in
+the file of its partition, as `worker.py` writes them by itself.
 
-What has come is judged in the order of its moments. What was said before a message, by whomever, is there once that is read: so nothing is judged
-before all is read that is there. A worker's end has no moment, and stands behind what it said last. It ends once standard input does.
+What has come is judged in the order of its moments. What was said before a message, by whomever, is there once that is
+read: so nothing is judged before all is read that is there. A worker's end has no moment, and stands behind what it
+said last. It ends once standard input does.
 """
 from __future__ import annotations
 

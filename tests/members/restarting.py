@@ -1,10 +1,13 @@
-"""A group at rest, and one node of it whose process dies or leaves again and again. How often does that stop the others' work?
+"""A group at rest, and one node of it whose process dies or leaves again and again. How often does that stop the
+others' work?
 
-A new life of it counts once it has stayed for a hundredth of the ttl, the next one for four times as long, and so on up to ten ttl, as long
-as each comes within 60 ttl behind the one before. So of lives that are present for less than ten ttl five count at most, by the stays of
-0.01, 0.04, 0.16, 0.64 and 2.56 ttl. Each of them stops the others' work when it counts, and when it is gone; and so does the end of the
-first one. That holds since a life is taken only once the others have settled the one before it Down: a node that is up counts at once. And
-it holds within an epoch: the next one begins with no memory of who came, so epochs have room for 100 events a node and more here.
+A new life of it counts once it has stayed for a hundredth of the ttl, the next one for four times as long, and so on up
+to ten ttl, as long as each comes within 60 ttl behind the one before. So of lives that are present for less than ten
+ttl five count at most, by the stays of
+0.01, 0.04, 0.16, 0.64 and 2.56 ttl. Each of them stops the others' work when it counts, and when it is gone; and so
+does the end of the first one. That holds since a life is taken only once the others have settled the one before it
+Down: a node that is up counts at once. And it holds within an epoch: the next one begins with no memory of who came, so
+epochs have room for 100 events a node and more here.
 """
 from __future__ import annotations
 
@@ -19,7 +22,8 @@ MOST = 6  # times a member stops work since the node has come; it counts five ti
 
 
 class Restarts(Trouble):
-    """Nothing else goes wrong. A life lasts for so much of a ttl at most, and the next one comes so much later at most."""
+    """Nothing else goes wrong. A life lasts for so much of a ttl at most, and the next one comes so much later at
+    most."""
 
     def __init__(self, choice: random.Random) -> None:
         super().__init__(choice)

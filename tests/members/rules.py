@@ -5,17 +5,20 @@
 
 LIBRARY_FOLDER is what `bin/library` wrote. If nothing more is said all of this is tried, in sizes for each day:
 
-- `--seeds`: groups over a store in memory, in simulated time, one for each seed. Each member goes by the plain rules and by the proved
-  ones in lockstep, and the first difference is a fault.
-- `--restarts`: so many groups, of which one node comes and goes again and again: how often does that stop the others' work?
-- `--settle`: settlements behind so many random lawful logs, and behind each prefix of the traces in `examples/`. The plain one and the proved
-  one have to be the same, row by row, and what they come to is judged apart from both.
+- `--seeds`: groups over a store in memory, in simulated time, one for each seed. Each member goes by the plain rules
+  and by the proved ones in lockstep, and the first difference is a fault.
+- `--restarts`: so many groups, of which one node comes and goes again and again: how often does that stop the others'
+  work?
+- `--settle`: settlements behind so many random lawful logs, and behind each prefix of the traces in `examples/`. The
+  plain one and the proved one have to be the same, row by row, and what they come to is judged apart from both.
 - `--any`: so many members that are told whatever may be, in any order, also in lockstep.
-- `--bugs`: rules, stores and settlements with a bug planted, each by the first seed that shows it; and that lockstep sees each rule that is
-  broken.
-- `--explore`: all states of a small store, or so many; and each condition of it left out, which has to lead to what must not be.
+- `--bugs`: rules, stores and settlements with a bug planted, each by the first seed that shows it; and that lockstep
+  sees each rule that is broken.
+- `--explore`: all states of a small store, or so many; and each condition of it left out, which has to lead to what
+  must not be.
 
-`--find` tells the first seed up to LAST that shows each bug: `planted.py` has them. They are others once the simulation changes.
+`--find` tells the first seed up to LAST that shows each bug: `planted.py` has them. They are others once the simulation
+changes.
 
 The last line is 'N passed, M failed'; the exit status is 0 where M is 0, and else 1.
 """

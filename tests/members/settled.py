@@ -58,7 +58,8 @@ def moves(table: Sequence[int], before: Sequence[int] | None) -> int:
 
 
 def fewest(setup: Setup, members: Sequence[int], before: Sequence[int] | None) -> int:
-    """How many have to, as the library plans. It knows no owner that is gone: here that is one more node, which is no member."""
+    """How many have to, as the library plans. It knows no owner that is gone: here that is one more node, which is no
+    member."""
     weights = (*(setup.weights or (1,) * setup.nodes), 1)
     more = replace(setup, nodes=setup.nodes + 1, weights=weights)
     return plan_table(more, members, before and [owner or more.nodes for owner in before]).moves
@@ -76,7 +77,8 @@ def try_case(case: Case, settlers: Sequence[Settler]) -> str | None:
 
 
 def rest_differs(case: Case) -> str | None:
-    """Where plain and proved rules differ about rest and work, behind the log and behind each part of its settlement."""
+    """Where plain and proved rules differ about rest and work, behind the log and behind each part of its
+    settlement."""
     choice = random.Random(len(case.rows))
     settled = settle_behind(case.header, case.rows, case.present, case.old)
     for end in (0, len(settled) // 2, len(settled)):

@@ -1,17 +1,18 @@
-"""A group of members by their rules, over a store and in simulated time: everything that happens follows from a seed. The store is the one of
-`store.py`, if none is told: `over_memory.py` and `over_etcd.py` have those of the package.
+"""A group of members by their rules, over a store and in simulated time: everything that happens follows from a seed.
+The store is the one of `store.py`, if none is told: `over_memory.py` and `over_etcd.py` have those of the package.
 
-Requests are slow, come long after they were given up, or are lost; answers are lost; members are paused, with their worker or without it,
-or the worker alone; they die, leave, join, are cut off, and two processes act for one node at once; workers end by themselves; logs are
-soon full; other settings are wished for; old epochs are taken away. At each moment
+Requests are slow, come long after they were given up, or are lost; answers are lost; members are paused, with their
+worker or without it, or the worker alone; they die, leave, join, are cut off, and two processes act for one node at
+once; workers end by themselves; logs are soon full; other settings are wished for; old epochs are taken away. At each
+moment
 
 - no two work on one partition, but for one that was paused beyond its presence;
 - nobody who is present works where rows are appended, or an epoch ends;
 - no worker that wasn't paused uses an old token, and no token on a partition serves two lives;
 - no log has more rows than it may have.
 
-Then there is no more trouble: the group has to come to rest, and to stay so, with what is wished for and with each partition worked on, and
-the log of each epoch has to be lawful.
+Then there is no more trouble: the group has to come to rest, and to stay so, with what is wished for and with each
+partition worked on, and the log of each epoch has to be lawful.
 """
 from __future__ import annotations
 
@@ -700,7 +701,8 @@ class Simulation:
         return wanted is None or (wanted.setup.header(), wanted.names) == (epoch.header, epoch.settings.names)
 
     def judge(self) -> None:
-        """The log of each epoch is lawful, and each of its plans moves no more than it has to, from the table of the epoch before, too."""
+        """The log of each epoch is lawful, and each of its plans moves no more than it has to, from the table of the
+        epoch before, too."""
         for epoch in self.store.epochs:
             self.judge_epoch(epoch)
 

@@ -5,14 +5,16 @@
     tests/members/simulate LIBRARY_FOLDER --find SECONDS [NAME ...]
     tests/members/simulate LIBRARY_FOLDER --long [CHANGES]
 
-LIBRARY_FOLDER is what `bin/library` wrote. Each group has to come to rest once there is no more trouble, its logs have to be lawful, and
-no two members may work on one partition at one moment, but for those that were paused beyond their presence; and then by tokens that
-the resource can tell apart. The log is that of `bully.memory`; with `--over-etcd` that of `bully.etcd`, over an etcd whose leaders
-are lost; with `--told` members wait there by the package's own watch, and look by what it told. With `--epochs` logs are soon full, groups are
-resized often, and old epochs are taken away; with `--orders` nodes are drained, and groups are paused. With a bug planted, some seed has to show it: the first one ends the search. `--bugs`
-tries each bug by the seed that `bugs.py` has, and `--find` looks for it anew, for so many seconds each. `--long` is one group of five with
-10,000 changes of who is there, if no other number is told, over many epochs: the memory of all may not grow. A kind of trouble that never
-happened among 200 seeds or more is a failure, too. The last line is 'N passed, M failed'; the exit status is 0 where M is 0, and else 1.
+LIBRARY_FOLDER is what `bin/library` wrote. Each group has to come to rest once there is no more trouble, its logs have
+to be lawful, and no two members may work on one partition at one moment, but for those that were paused beyond their
+presence; and then by tokens that the resource can tell apart. The log is that of `bully.memory`; with `--over-etcd`
+that of `bully.etcd`, over an etcd whose leaders are lost; with `--told` members wait there by the package's own watch,
+and look by what it told. With `--epochs` logs are soon full, groups are resized often, and old epochs are taken away;
+with `--orders` nodes are drained, and groups are paused. With a bug planted, some seed has to show it: the first one
+ends the search. `--bugs` tries each bug by the seed that `bugs.py` has, and `--find` looks for it anew, for so many
+seconds each. `--long` is one group of five with 10,000 changes of who is there, if no other number is told, over many
+epochs: the memory of all may not grow. A kind of trouble that never happened among 200 seeds or more is a failure, too.
+The last line is 'N passed, M failed'; the exit status is 0 where M is 0, and else 1.
 """
 from __future__ import annotations
 

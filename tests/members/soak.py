@@ -1,16 +1,19 @@
-"""Tries members for a long time, over a file or over three servers of etcd, while a recorder apart judges what their workers do.
+"""Tries members for a long time, over a file or over three servers of etcd, while a recorder apart judges what their
+workers do.
 
     tests/members/soak LIBRARY_FOLDER [--store sqlite|etcd] [--seconds SECONDS] [--seed SEED] [--rests SHARE] [--nodes COUNT]
         [--ttl SECONDS] [--talk] [--program PATH] [--folder FOLDER]
 
-LIBRARY_FOLDER is what `bin/library` wrote. Members, their guards and their workers are killed and paused, by a seed, also a member with its worker
-and with its guard at one moment; so are the servers, one or all. Who has ended is begun again. Behind a share of the faults the group gets time to come
-to rest, and behind the others the next one comes. Each worker asks the recorder, a process of its own, for each unit of work (`recorder.py`).
+LIBRARY_FOLDER is what `bin/library` wrote. Members, their guards and their workers are killed and paused, by a seed,
+also a member with its worker and with its guard at one moment; so are the servers, one or all. Who has ended is begun
+again. Behind a share of the faults the group gets time to come to rest, and behind the others the next one comes. Each
+worker asks the recorder, a process of its own, for each unit of work (`recorder.py`).
 
-Each kind of fault has to be seen to happen. At the end the group has to come to rest, and to leave in order; no unit may have overlapped another one,
-or have been asked for by an old token; and the logs have to be lawful, also with everything said if PATH is the program `bully`. First the
-recorder has to see a worker that works on, since member and guard are paused. The last line is 'N passed, M failed'; the exit status is 0 where M is
-0, and else 1. With `--store etcd`, but without the program `etcd`, nothing is tried.
+Each kind of fault has to be seen to happen. At the end the group has to come to rest, and to leave in order; no unit
+may have overlapped another one, or have been asked for by an old token; and the logs have to be lawful, also with
+everything said if PATH is the program `bully`. First the recorder has to see a worker that works on, since member and
+guard are paused. The last line is 'N passed, M failed'; the exit status is 0 where M is 0, and else 1. With `--store
+etcd`, but without the program `etcd`, nothing is tried.
 """
 from __future__ import annotations
 
@@ -47,7 +50,8 @@ def words() -> argparse.Namespace:
 
 
 def stores_in(closing: contextlib.ExitStack, folder: Path, options: argparse.Namespace) -> tuple[dict[str, str], Servers | None]:
-    """The log's address for each member, and the servers that it is in, if there are any. Each member asks another one first."""
+    """The log's address for each member, and the servers that it is in, if there are any. Each member asks another one
+    first."""
     if options.store == 'sqlite':
         return dict.fromkeys(['', *NAMES], f'sqlite:{folder / "group.db"}'), None
     servers = Servers(3, [])

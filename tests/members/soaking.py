@@ -1,4 +1,5 @@
-"""A soak: a group works for a long time while its members, guards, workers and servers are killed and paused, and a recorder apart judges it."""
+"""A soak: a group works for a long time while its members, guards, workers and servers are killed and paused, and a
+recorder apart judges it."""
 from __future__ import annotations
 
 import random
@@ -79,7 +80,8 @@ class Soak:
     # What happens.
 
     def of_processes(self) -> dict[str, Strike]:
-        """If member and guard are both paused for long nobody is left who ends the worker, and then nothing is promised."""
+        """If member and guard are both paused for long nobody is left who ends the worker, and then nothing is
+        promised."""
         kinds: dict[str, Strike] = {}
         for whom, names in WHOM.items():
             kinds[f'{whom} killed'] = partial(self.strike, names, (), SHORT)
@@ -280,7 +282,8 @@ def faults_of(told: Sequence[Told]) -> list[str]:
 
 
 def see_faults(group: Group) -> None:
-    """A recorder that sees nothing would pass all: it is told of faults; and member and guard are paused for long, so nobody ends their worker."""
+    """A recorder that sees nothing would pass all: it is told of faults; and member and guard are paused for long, so
+    nobody ends their worker."""
     for case, told, faults in CASES:
         group.count(faults_of(told) == faults, f'units {case}: {faults_of(told)}, and not {faults}')
     group.come_to_rest('the begin', lambda: group.begin_all(NAMES[:2]))

@@ -1,5 +1,5 @@
-"""A store of a group in memory: epochs with a log each, presences by the node's name over all of them, and a wish for other settings. Each
-call is one moment. All times are whole nanoseconds. A promise is an epoch and a place.
+"""A store of a group in memory: epochs with a log each, presences by the node's name over all of them, and a wish for
+other settings. Each call is one moment. All times are whole nanoseconds. A promise is an epoch and a place.
 
 | Call | Done, if |
 |---|---|
@@ -31,7 +31,8 @@ class Lease:
 
 @dataclass
 class Epoch:
-    """An epoch: its group, how many rows it may have, the last table of the one before, and its log without the header."""
+    """An epoch: its group, how many rows it may have, the last table of the one before, and its log without the
+    header."""
 
     number: int
     settings: Settings
@@ -70,8 +71,8 @@ def carried(old: Sequence[int] | None, before: Settings, after: Settings) -> tup
 
 @dataclass(frozen=True)
 class Standing:
-    """What a look finds that its member has news of where it is another one: the epoch; how many rows it has, if the member is in it; whose
-    lives are present; and what is wished for."""
+    """What a look finds that its member has news of where it is another one: the epoch; how many rows it has, if the
+    member is in it; whose lives are present; and what is wished for."""
 
     epoch: int
     place: int

@@ -3,13 +3,14 @@
     tests/members/try LIBRARY_FOLDER [--kills COUNT] [--pauses COUNT] [--epochs COUNT] [--orders COUNT] [--store etcd] [--ttl SECONDS]
         [--seed SEED] [--share PERCENT] [--folder FOLDER] [--talk]
 
-LIBRARY_FOLDER is what `bin/library` wrote. Three members share 12 partitions; while they work the group gets five nodes and 24 partitions.
-These five are killed and come back, and are paused, or their workers, or both, for less and for more than the ttl; and the group is
-resized: its nodes get other numbers. Nodes are drained, and the group is paused while one is killed. Each time the group has to come to
-rest. At the end the logs of all epochs have to be lawful, no two workers may have worked on one partition at one moment, no token may have
-fallen, and behind each change of the epoch as many partitions have to be where they were as can be. It tells how long it took to come to
-rest, how many rows, and what an idle member costs. With `--store etcd` the log is in a server of etcd that it starts. The last line is 'N
-passed, M failed'; the exit status is 0 where M is 0, and else 1.
+LIBRARY_FOLDER is what `bin/library` wrote. Three members share 12 partitions; while they work the group gets five nodes
+and 24 partitions. These five are killed and come back, and are paused, or their workers, or both, for less and for more
+than the ttl; and the group is resized: its nodes get other numbers. Nodes are drained, and the group is paused while
+one is killed. Each time the group has to come to rest. At the end the logs of all epochs have to be lawful, no two
+workers may have worked on one partition at one moment, no token may have fallen, and behind each change of the epoch as
+many partitions have to be where they were as can be. It tells how long it took to come to rest, how many rows, and what
+an idle member costs. With `--store etcd` the log is in a server of etcd that it starts. The last line is 'N passed, M
+failed'; the exit status is 0 where M is 0, and else 1.
 """
 from __future__ import annotations
 

@@ -4,9 +4,10 @@
     tests/members/wrong --fit            sees that each fits its file, and has its test, as the gate does
     tests/members/wrong --list           tells them
 
-FOLDER is what `bin/library` wrote. `wrong-bodies.txt` has the bugs: a sentence, the test, the file, and a text that stands there once, with
-what stands in its place. Without a bug its test has to pass, and with it to fail, as the tests of the package are run: one that doesn't end
-in a minute fails. The last line is 'N passed, M failed'; the exit status is 0 if M is 0.
+FOLDER is what `bin/library` wrote. `wrong-bodies.txt` has the bugs: a sentence, the test, the file, and a text that
+stands there once, with what stands in its place. Without a bug its test has to pass, and with it to fail, as the tests
+of the package are run: one that doesn't end in a minute fails. The last line is 'N passed, M failed'; the exit status
+is 0 if M is 0.
 """
 from __future__ import annotations
 

@@ -1,9 +1,9 @@
 """Builds the wheel of the package `bully` for pip, by the standard library alone.
 
-The wheel takes libbully.so with it from the folder BULLY_LIBRARY; or else from `lib` of an archive; or else from out/library at the top
-of the repository, where `bin/library` puts it. Without any it has none, and whoever uses it sets BULLY_LIBRARY. It always has bully.h, which
-the package reads: that of the archive or the repository. The same files make the same bytes; SOURCE_DATE_EPOCH, where it is set, is the
-time of each.
+The wheel takes libbully.so with it from the folder BULLY_LIBRARY; or else from `lib` of an archive; or else from
+out/library at the top of the repository, where `bin/library` puts it. Without any it has none, and whoever uses it sets
+BULLY_LIBRARY. It always has bully.h, which the package reads: that of the archive or the repository. The same files
+make the same bytes; SOURCE_DATE_EPOCH, where it is set, is the time of each.
 """
 from __future__ import annotations
 
@@ -27,7 +27,8 @@ Settings = Optional[dict[str, object]]
 
 
 def tables_of(text: str) -> Tables:
-    """The tables of a document in TOML that have strings of one line. (The standard library reads all of TOML from Python 3.11 on.)"""
+    """The tables of a document in TOML that have strings of one line. (The standard library reads all of TOML from
+    Python 3.11 on.)"""
     tables: Tables = {}
     for head, body in re.findall(r'^\[([^\[\]]+)\]\n((?:[^\[\n].*\n|\n)*)', text, re.MULTILINE):
         tables[head] = dict(re.findall(r'^([\w-]+) = "(.*)"$', body, re.MULTILINE))

@@ -12,11 +12,12 @@ from .values import Answer, Call, Line, State, Status, Want
 
 
 class Agent(Opened):
-    """One node on its own: what a process keeps of it. It has no socket, clock, thread or file: `docs/NODE.md` has the loop of a
-    process, and what the program has to keep.
+    """One node on its own: what a process keeps of it. It has no socket, clock, thread or file: `docs/NODE.md` has the
+    loop of a process, and what the program has to keep.
 
-    Each call that changes it is refused, by an exception, and changes nothing; or it is an event of the group, two where a call
-    failed, and `rows` has them for the log. An agent holds memory of the library until it is closed: `with` closes it."""
+    Each call that changes it is refused, by an exception, and changes nothing; or it is an event of the group, two
+    where a call failed, and `rows` has them for the log. An agent holds memory of the library until it is closed:
+    `with` closes it."""
 
     _kind = 'bully_agent'
     _single = 'an agent is not copied: two of them would be two agents of one node'
@@ -46,7 +47,8 @@ class Agent(Opened):
         self._call('crash')
 
     def check(self) -> None:
-        """The idle node begins to check the others, where it is their coordinator. Raises Closed, Full, IsDown, Busy."""
+        """The idle node begins to check the others, where it is their coordinator. Raises Closed, Full, IsDown,
+        Busy."""
         self._call('check')
 
     def timeout(self) -> None:
@@ -87,7 +89,8 @@ class Agent(Opened):
     # What comes from other nodes, or goes to them. Lines have no line end.
 
     def request(self) -> str | None:
-        """The line of the request of the node's call, while that is under way; to be sent to its callee, once. No event.
+        """The line of the request of the node's call, while that is under way; to be sent to its callee, once. No
+        event.
 
         Raises Closed, OutOfMemory."""
         return self._room.text(self._function('request')) or None
@@ -95,15 +98,15 @@ class Agent(Opened):
     def serve(self, line: Line) -> str:
         """The request of this line runs at the node. One event. The line of the reply, for its caller.
 
-        Raises Closed, the LineFaults, OutOfMemory, Full, BadNode, NoCall, CalleeDown. Premise: the request is the caller's call,
-        and runs once, while that is under way."""
+        Raises Closed, the LineFaults, OutOfMemory, Full, BadNode, NoCall, CalleeDown. Premise: the request is the
+        caller's call, and runs once, while that is under way."""
         return self._room.text(self._function('serve'), *line_of(line))
 
     def replied(self, line: Line) -> Answer:
         """The node's call returns with the reply of this line. One event. What the node is told.
 
-        Raises Closed, the LineFaults, Full; NoCall, where it is no reply to the call under way. Premise: the call ran at its
-        callee, and was answered so."""
+        Raises Closed, the LineFaults, Full; NoCall, where it is no reply to the call under way. Premise: the call ran
+        at its callee, and was answered so."""
         return Answer(self._filled(ctypes.c_uint32(), 'replied', *line_of(line)).value)
 
     def failed(self, number: int) -> Answer:
@@ -180,7 +183,8 @@ class Agent(Opened):
         return int(self._show().generation)
 
     def rows(self) -> list[str]:
-        """The rows of the node's last step, for the log, without their line ends, as `docs/FORMATS.md` has them of version 3.
+        """The rows of the node's last step, for the log, without their line ends, as `docs/FORMATS.md` has them of
+        version 3.
 
         Raises Closed, OutOfMemory."""
         return self._room.text(self._function('rows')).splitlines()

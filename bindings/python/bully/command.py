@@ -14,10 +14,11 @@
     bully-member prune --keep 3 --log sqlite:group.db
     bully-member repair --log sqlite:group.db [--cut PLACE]
 
-`run` starts the worker while its node owns partitions, with BULLY_NODE, BULLY_TOKEN, BULLY_PARTITIONS, BULLY_COORDINATOR and
-BULLY_SETTINGS in its environment, and ends it before anything is appended by which the node owns them no more. The settings of the
-group, names too, stand in its log; a configuration that is given has to be of the same group, also if it was resized since. `resize`
-gives the group other settings, in a new epoch, and `prune` takes old epochs away. `docs/MEMBERS.md` has all of it.
+`run` starts the worker while its node owns partitions, with BULLY_NODE, BULLY_TOKEN, BULLY_PARTITIONS,
+BULLY_COORDINATOR and BULLY_SETTINGS in its environment, and ends it before anything is appended by which the node owns
+them no more. The settings of the group, names too, stand in its log; a configuration that is given has to be of the
+same group, also if it was resized since. `resize` gives the group other settings, in a new epoch, and `prune` takes old
+epochs away. `docs/MEMBERS.md` has all of it.
 """
 from __future__ import annotations
 
@@ -357,9 +358,10 @@ STATUSES: tuple[tuple[type[Exception], int], ...] = (
 
 
 def main(words: list[str] | None = None) -> int:
-    """Runs the command by these words. Its status: 0; 1, if the worker ended by itself or its guard did, or it doesn't end, or the epoch didn't, or
-    the group isn't well; 2 of bad words; 3 of a fault of the configuration, or a log of another group, or damaged; 4, if the log or a file can't be
-    used; 5, if the group has no such node, or none any more."""
+    """Runs the command by these words. Its status: 0; 1, if the worker ended by itself or its guard did, or it doesn't
+    end, or the epoch didn't, or the group isn't well; 2 of bad words; 3 of a fault of the configuration, or a log of
+    another group, or damaged; 4, if the log or a file can't be used; 5, if the group has no such node, or none any
+    more."""
     options = parser().parse_args(words)
     try:
         return COMMANDS[options.command](options)

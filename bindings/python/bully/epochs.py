@@ -1,7 +1,7 @@
 """Epochs: a log has room for 1,000,000 rows, so a group's history is one log after the other.
 
-Each epoch has a log of its own, behind the header that it began with. `docs/MEMBERS.md` says when an epoch ends. Tokens rise over all of
-them.
+Each epoch has a log of its own, behind the header that it began with. `docs/MEMBERS.md` says when an epoch ends. Tokens
+rise over all of them.
 """
 from __future__ import annotations
 
@@ -22,8 +22,8 @@ SETTLEMENT = 11  # rows for each node: what settles a group has no more
 
 
 class Token(int):
-    """The token of a table: one number, EPOCH * 10,000,000 + EVENTS, where so many events of the epoch stand up to the table's plan and
-    with it. A later table has a higher one, also in a later epoch."""
+    """The token of a table: one number, EPOCH * 10,000,000 + EVENTS, where so many events of the epoch stand up to the
+    table's plan and with it. A later table has a higher one, also in a later epoch."""
 
     SPAN = 10_000_000  # more than an epoch has events
 
@@ -56,8 +56,9 @@ def room_of(nodes: int, limit: int) -> int:
 
 @dataclass(frozen=True)
 class Opening:
-    """What an epoch begins with: its header, and the names of its nodes; how many rows it may have; the last table of the epoch before,
-    by this one's numbers of nodes, with 0 where the owner is none of them; and the ttl of all members, if the log has one."""
+    """What an epoch begins with: its header, and the names of its nodes; how many rows it may have; the last table of
+    the epoch before, by this one's numbers of nodes, with 0 where the owner is none of them; and the ttl of all
+    members, if the log has one."""
 
     epoch: int
     header: str
@@ -118,7 +119,8 @@ class Opening:
         return (wish or dataclasses.replace(self, epoch=self.epoch + 1)).bare
 
     def next(self, wish: Opening | None, table: Sequence[int]) -> Opening:
-        """The opening of the next epoch: with what is wished for, or else as this one; and with this epoch's last table, if it has one."""
+        """The opening of the next epoch: with what is wished for, or else as this one; and with this epoch's last
+        table, if it has one."""
         after = self.after(wish)
         there = {name: number for number, name in enumerate(after.names, 1)}
         numbers = {number: there.get(name, 0) for number, name in enumerate(self.names, 1)}

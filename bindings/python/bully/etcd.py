@@ -4,18 +4,20 @@ Below a log's prefix stand
 
 - `name`, which no other log has, with the form of the log; all that is asked is asked of the log of that name;
 - `opening/EPOCH`, and `first`, the first epoch whose rows are there;
-- `place`, the end of the log, which is EPOCH/PLACE of the current epoch; and `log/EPOCH/PLACE`, the rows of one append, each with its line
-  end, by where they begin;
+- `place`, the end of the log, which is EPOCH/PLACE of the current epoch; and `log/EPOCH/PLACE`, the rows of one append,
+  each with its line end, by where they begin;
 - `time/EPOCH/PLACE`, when that append was done, by the wall clock of who appended: milliseconds since 1970;
 - `next`, what the next epoch is to begin with, if something is wished for; and `orders`, if some are given;
 - `presence/life/NAME` and `presence/promise/NAME`, EPOCH/PLACE, under one lease of etcd's.
 
-EPOCH and PLACE have ten digits, so what is later is greater. What a call finds is of one revision, and no read is `serializable`.
+EPOCH and PLACE have ten digits, so what is later is greater. What a call finds is of one revision, and no read is
+`serializable`.
 
-A presence is renewed by its lease, without a write, while etcd has the leader under which the lease was granted. A leader of an earlier
-term that was paused may tell of renewals that no other knows, and may end a lease that was renewed under a later one. So a
-renewal counts only if etcd's term is the same before and behind it, and that of the grant. Else life and promise move to a new lease, in one
-transaction that keeps what was promised. No other write names a lease: one that came late would put a key under an old one, and lose it.
+A presence is renewed by its lease, without a write, while etcd has the leader under which the lease was granted. A
+leader of an earlier term that was paused may tell of renewals that no other knows, and may end a lease that was renewed
+under a later one. So a renewal counts only if etcd's term is the same before and behind it, and that of the grant. Else
+life and promise move to a new lease, in one transaction that keeps what was promised. No other write names a lease: one
+that came late would put a key under an old one, and lose it.
 """
 from __future__ import annotations
 
@@ -107,8 +109,8 @@ class Keys:
         return range_from(begin, behind(self.rows(epoch)), limit=PAGE)
 
     def standing(self, since: int) -> list[Json]:
-        """The ranges of all that isn't a row: the end of the log, the wish, the orders, and the lives and promises that were put behind a
-        revision."""
+        """The ranges of all that isn't a row: the end of the log, the wish, the orders, and the lives and promises that
+        were put behind a revision."""
         newer = {'min_mod_revision': str(since + 1)}
         return [range_at(self.place), range_at(self.next), range_at(self.orders), range_below(self.lives, **newer), range_below(self.promises, **newer)]
 
@@ -118,7 +120,8 @@ class Keys:
 
 
 class Held(NamedTuple):
-    """The lease under which a life holds its presence, for how many seconds, and a term of etcd's that had begun when it was granted."""
+    """The lease under which a life holds its presence, for how many seconds, and a term of etcd's that had begun when
+    it was granted."""
 
     life: Life
     lease: int
@@ -130,8 +133,8 @@ class EtcdLog:
     """A log in etcd. One thread at a time uses it."""
 
     def __init__(self, address: str, patience: float = 1.0, tls: ssl.SSLContext | None = None, user: str = '', password: str = '') -> None:
-        """The log at this address, `etcd://HOST:PORT,HOST:PORT/PREFIX`, which `create` made; over TLS if it begins with `etcds`. Each call
-        takes this many seconds at most, and a read for each of its parts.
+        """The log at this address, `etcd://HOST:PORT,HOST:PORT/PREFIX`, which `create` made; over TLS if it begins with
+        `etcds`. Each call takes this many seconds at most, and a read for each of its parts.
 
         Raises NoLog, ForeignLog, DamagedLog, Denied, LogError, Unanswered; ValueError of an address that is none."""
         read = read_address(address)
@@ -188,7 +191,8 @@ class EtcdLog:
         return self._there(self._look(range_at(self._keys.place), range_at(self._keys.first)))
 
     def _there(self, answer: Answer) -> range:
-        """The same, by an answer with the end of the log and the first epoch. (Rows of earlier ones may be left, in part.)"""
+        """The same, by an answer with the end of the log and the first epoch. (Rows of earlier ones may be left, in
+        part.)"""
         return range(int(value_of(answer.ranges[1]) or FIRST), self._end_of(answer.ranges[0]).epoch + 1)
 
     def opening(self, epoch: int | None = None) -> Opening:
@@ -307,7 +311,8 @@ class EtcdLog:
         return int(answer['header']['raft_term']) if int(answer.get('TTL', 0)) > 0 else None
 
     def _counts(self, held: Held, before: int | None, behind: int) -> bool:
-        """Whether a renewal counts, with etcd's terms before and behind it: no other leader than that of the grant has done it."""
+        """Whether a renewal counts, with etcd's terms before and behind it: no other leader than that of the grant has
+        done it."""
         return held.term == before == behind
 
     def _granted(self, life: Life, ttl: int, term: int) -> Held:
@@ -319,7 +324,8 @@ class EtcdLog:
         return Held(life, int(granted['ID']), seconds, term)
 
     def _move(self, name: str, found: Pair, held: Held) -> bool:
-        """Puts a presence under a new lease, if nothing has been done to it since it was found. What was promised, also meanwhile, stays."""
+        """Puts a presence under a new lease, if nothing has been done to it since it was found. What was promised, also
+        meanwhile, stays."""
         key, under = self._keys.life(name), str(held.lease)
         is_same = number_is(key, 'mod_revision', found.modified)
         moved = [put_at(key, life_text(held.life), lease=under), same(self._keys.promise(name), lease=under, ignore_value=True)]
@@ -377,8 +383,8 @@ class EtcdLog:
             after = found[-1].key + b'\0'
 
     def _read_with(self, epoch: int, place: int, is_there: Callable[[Answer], bool], *more: Json) -> tuple[Answer, Rows | None]:
-        """The rows behind that place, if they are there by the answer, and the answer with what more was asked for at the same revision: the end
-        of the log first."""
+        """The rows behind that place, if they are there by the answer, and the answer with what more was asked for at
+        the same revision: the end of the log first."""
         page = self._keys.page(self._keys.row(epoch, place), epoch)
         for _ in range(READS):
             try:
@@ -390,7 +396,8 @@ class EtcdLog:
         raise Unanswered(f'{self.address}: each revision was compacted while it was read: {cause}') from cause
 
     def _rows(self, epoch: int, place: int, answer: Answer) -> Rows:
-        """The rows of an epoch behind that place: the first appends were found, as the last range, and the others are read."""
+        """The rows of an epoch behind that place: the first appends were found, as the last range, and the others are
+        read."""
         keys, end = self._keys, self._end_of(answer.ranges[0])
         last = end.place if end.epoch == epoch else None  # of an epoch that is over it isn't known
         if last is not None and place >= last:
@@ -409,7 +416,8 @@ class EtcdLog:
         return rows_of(self.address, epoch, place, b''.join(texts))
 
     def _pages(self, epoch: int, found: Json, revision: int) -> Iterator[Pair]:
-        """The appends of an epoch, part by part, as they stand at one revision; the first part was found. Raises Compacted."""
+        """The appends of an epoch, part by part, as they stand at one revision; the first part was found. Raises
+        Compacted."""
         while True:
             pairs = pairs_of(found)
             yield from pairs
@@ -454,8 +462,8 @@ class EtcdLog:
     # Looks and waits.
 
     def look(self, epoch: int, place: int) -> Found:
-        """Of lives and promises only those are read that are newer than the last look. If others are gone of which nothing was told, all
-        are."""
+        """Of lives and promises only those are read that are newer than the last look. If others are gone of which
+        nothing was told, all are."""
         for since in (self._news.known, 0):
             answer, rows = self._read_with(epoch, place, lambda answer: self._end_of(answer.ranges[0]).epoch == epoch, *self._keys.standing(since))
             end = self._end_of(answer.ranges[0])
@@ -475,7 +483,8 @@ class EtcdLog:
             raise BadPresence(f'{self.address}: a presence is none: {fault}') from fault
 
     def wait(self, epoch: int, place: int, lives: Mapping[str, Life], until: Until, seconds: float, woken: int | None = None) -> None:
-        """By a watch. While many are present it tells of promises only where they are waited for: else each of them would be told to all."""
+        """By a watch. While many are present it tells of promises only where they are waited for: else each of them
+        would be told to all."""
         end = seconds_of_boot() + seconds
         known, idle = self._seen_idle
         here = Promise(epoch, place)
@@ -542,7 +551,8 @@ class EtcdLog:
         return answer if answer.is_done else self._checked(answer)
 
     def _checked(self, answer: Answer) -> Answer:
-        """The answer, without the range of the name. Raises NoLog, OtherLog, if the log isn't the one that was opened."""
+        """The answer, without the range of the name. Raises NoLog, OtherLog, if the log isn't the one that was
+        opened."""
         named, *others = answer.ranges
         name = value_of(named)
         if name is None:
@@ -583,8 +593,8 @@ class News:
         return self.wish, self.orders
 
     def see_all(self, answer: Answer, since: int) -> bool:
-        """What the ranges of `standing` found, behind a revision up to which all is known. Whether that tells all: what is gone can't be
-        found. Else nothing changes. Raises ValueError, KeyError of what is no presence."""
+        """What the ranges of `standing` found, behind a revision up to which all is known. Whether that tells all: what
+        is gone can't be found. Else nothing changes. Raises ValueError, KeyError of what is no presence."""
         keys, (place, wish, orders, *found) = self._keys, answer.ranges[:5]
         lives, promises = (dict(self.lives), dict(self.promises)) if since else ({}, {})
         lives.update((keys.node(pair.key, keys.lives), life_of(pair.value.decode())) for pair in pairs_of(found[0]))

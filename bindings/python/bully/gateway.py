@@ -57,7 +57,8 @@ class Address(NamedTuple):
 
 
 def read_address(words: str) -> Address:
-    """The address `etcd://HOST:PORT,HOST:PORT/PREFIX`, or with `etcds`. The prefix is taken as it is spelled, without slashes at its end.
+    """The address `etcd://HOST:PORT,HOST:PORT/PREFIX`, or with `etcds`. The prefix is taken as it is spelled, without
+    slashes at its end.
 
     Raises ValueError."""
     kind, mark, rest = words.partition('://')
@@ -239,7 +240,8 @@ def is_over(connection: http.client.HTTPConnection) -> bool:
 
 
 class Answer(NamedTuple):
-    """What a transaction came to: whether its conditions were so; what its ranges found; and the revision and the term of etcd."""
+    """What a transaction came to: whether its conditions were so; what its ranges found; and the revision and the term
+    of etcd."""
 
     is_done: bool
     ranges: Sequence[Json]
@@ -338,7 +340,8 @@ class Client:
         return Answer(bool(answer.get('succeeded')), found, revision, term)
 
     def ask(self, path: str, request: Json, repeats: bool = False) -> Json:
-        """What etcd answers. If a server doesn't answer, the next one is asked: also of what may have been done, if that `repeats`.
+        """What etcd answers. If a server doesn't answer, the next one is asked: also of what may have been done, if
+        that `repeats`.
 
         Raises Unanswered, Denied and other LogErrors, Compacted."""
         causes: list[Silent] = []
@@ -381,8 +384,8 @@ class Client:
         self._turn = (self._turn + 1) % len(self._endpoints)
 
     def _ask_here(self, path: str, request: Json, reached: float, end: float) -> Json:
-        """What this server answers up to the end, if it is reached up to then. If it doesn't know the user any more, that one logs in again,
-        once."""
+        """What this server answers up to the end, if it is reached up to then. If it doesn't know the user any more,
+        that one logs in again, once."""
         try:
             if self._user and not self._token:
                 self._log_in(reached, end)
@@ -455,7 +458,8 @@ class Client:
 
 
 class Subscription:
-    """What a server tells of changes, as it comes, over a connection of its own. (In HTTP/1.0 an answer isn't cut into chunks.)"""
+    """What a server tells of changes, as it comes, over a connection of its own. (In HTTP/1.0 an answer isn't cut into
+    chunks.)"""
 
     def __init__(self, endpoint: Endpoint, connection: http.client.HTTPConnection) -> None:
         self.endpoint = endpoint
@@ -464,7 +468,8 @@ class Subscription:
         self._has_begun = False
 
     def events(self, seconds: float, woken: int | None = None) -> list[Json]:
-        """The next events, for which it waits so long at most, and until the descriptor has something to read. Raises Silent, Denied."""
+        """The next events, for which it waits so long at most, and until the descriptor has something to read. Raises
+        Silent, Denied."""
         try:
             there = self._connection.sock
             is_left = isinstance(there, ssl.SSLSocket) and there.pending() > 0
@@ -511,6 +516,7 @@ class Subscription:
 
 
 def limit(connection: http.client.HTTPConnection, end: float) -> None:
-    """What is done next over the connection takes no longer than up to then. (Who is told that it ends with an answer has no socket.)"""
+    """What is done next over the connection takes no longer than up to then. (Who is told that it ends with an answer
+    has no socket.)"""
     if connection.sock is not None:
         connection.sock.settimeout(max(LEAST_LIMIT, end - seconds_of_boot()))

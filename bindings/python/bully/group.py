@@ -15,8 +15,8 @@ from .values import EVENTS_MAX, PARTITIONS_MAX, TablePlan, Verdict, VerdictKind
 
 @dataclass(frozen=True)
 class Setup:
-    """What the group is set up with. `weights` are those of nodes 1, 2 and so on; where there are none each node weighs 1. With
-    `keeps` a node keeps its task over a crash. The calls that take a setup judge it."""
+    """What the group is set up with. `weights` are those of nodes 1, 2 and so on; where there are none each node weighs
+    1. With `keeps` a node keeps its task over a crash. The calls that take a setup judge it."""
 
     nodes: int
     partitions: int
@@ -25,8 +25,8 @@ class Setup:
     keeps: bool = False
 
     def header(self) -> str:
-        """The header of a log of this setup, without its line end: of version 1 if that can tell it, and else of version 2, as
-        `docs/FORMATS.md` says. It doesn't tell `events_max`: the bound of a log is always EVENTS_MAX.
+        """The header of a log of this setup, without its line end: of version 1 if that can tell it, and else of
+        version 2, as `docs/FORMATS.md` says. It doesn't tell `events_max`: the bound of a log is always EVENTS_MAX.
 
         Raises BadNodes, BadPartitions, BadLimit, BadWeights, OutOfMemory."""
         return Room().row(loaded().bully_header, *setup_parts(self))
@@ -64,10 +64,11 @@ def check(trace: str | bytes | bytearray | memoryview) -> Verdict:
 
 
 def plan_table(setup: Setup, members: Iterable[int], old: Sequence[int] | None = None) -> TablePlan:
-    """Plans the table over these members, balanced by weight, with the fewest moves from the old table; without one all move.
+    """Plans the table over these members, balanced by weight, with the fewest moves from the old table; without one all
+    move.
 
-    Raises BadNodes, BadPartitions, BadLimit, BadWeights; BadNode of a member; TableLength or TableOwner of the old table;
-    NoMember; OutOfMemory."""
+    Raises BadNodes, BadPartitions, BadLimit, BadWeights; BadNode of a member; TableLength or TableOwner of the old
+    table; NoMember; OutOfMemory."""
     among, before = numbers_of('a member', members), owners_of(old)
     parts = setup_parts(setup)
     count = setup.partitions if setup.partitions <= PARTITIONS_MAX else 0

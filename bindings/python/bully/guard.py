@@ -1,4 +1,5 @@
-"""The guard: the one small process beside a member, for as long as that is there. It starts, ends and kills the member's workers.
+"""The guard: the one small process beside a member, for as long as that is there. It starts, ends and kills the
+member's workers.
 
     guard.py CHANNEL PATIENCE KIND FILE TTL WORKER ARGS..
 
@@ -9,16 +10,19 @@ CHANNEL is a socket to the member, by its number. The member says
     begin WORDS      a worker begins, by these words: NAME=VALUE for its environment, parted by zero bytes
     stop             the worker has to end: by SIGTERM, and after PATIENCE seconds by SIGKILL
 
-and the guard says `begun`; `stopped` behind a stop, once nothing of the worker is left; `lost`, if it has killed the worker since its time
-was over; `ended STATUS`, if that ended by itself; and before these `held PROCESSES`, if these are still there a twentieth of the ttl behind
-SIGKILL, as one of another user is. It kills a worker with all that it started, also while the member is stopped or dead, and behind a sleep of
-the machine. If the member is gone, that is as if it had said stop.
+and the guard says `begun`; `stopped` behind a stop, once nothing of the worker is left; `lost`, if it has killed the
+worker since its time was over; `ended STATUS`, if that ended by itself; and before these `held PROCESSES`, if these are
+still there a twentieth of the ttl behind SIGKILL, as one of another user is. It kills a worker with all that it
+started, also while the member is stopped or dead, and behind a sleep of the machine. If the member is gone, that is as
+if it had said stop.
 
-If KIND is `talks`, a worker stays over changes: WORDS is then a line for its standard input, and so is {"stop": true}. It answers such a stop by
-a line `stopped` on the descriptor BULLY_ANSWERS, or it ends. What it answered before isn't heard.
+If KIND is `talks`, a worker stays over changes: WORDS is then a line for its standard input, and so is {"stop": true}.
+It answers such a stop by a line `stopped` on the descriptor BULLY_ANSWERS, or it ends. What it answered before isn't
+heard.
 
-The guard also kills a member that stays stopped in the middle of a write to FILE, the one with the end `-shm` of a file of SQLite, on which
-whoever writes has a lock, within two fifths of the ttl: else others couldn't renew before theirs is over. It imports nothing of its package.
+The guard also kills a member that stays stopped in the middle of a write to FILE, the one with the end `-shm` of a file
+of SQLite, on which whoever writes has a lock, within two fifths of the ttl: else others couldn't renew before theirs is
+over. It imports nothing of its package.
 """
 from __future__ import annotations
 
@@ -78,8 +82,8 @@ def adopt() -> None:
 
 
 def end_children(spared: AbstractSet[int], seconds: float, tell: Callable[[list[int]], object]) -> dict[int, int]:
-    """Kills the children of this process but these, with all that they leave, and waits for that. Which are still there in so many seconds
-    is told, those that may work on first, and once more if others come. Their statuses."""
+    """Kills the children of this process but these, with all that they leave, and waits for that. Which are still there
+    in so many seconds is told, those that may work on first, and once more if others come. Their statuses."""
     statuses: dict[int, int] = {}
     told: set[int] = set()
     end, sleep = now() + int(seconds * NANOSECONDS), LONGEST_SLEEP / 16
@@ -118,7 +122,8 @@ def may_kill(process: int) -> bool:
 
 
 def writer_of(file: str) -> int | None:
-    """The process that writes, if that can be told. (To open and close the file itself would lose the locks of this process on it.)"""
+    """The process that writes, if that can be told. (To open and close the file itself would lose the locks of this
+    process on it.)"""
     with contextlib.suppress(OSError):
         inode = str(os.stat(file).st_ino)
         found = (writer_in(inode, Path('/proc/locks').read_text(encoding='ascii')) for _ in range(TIMES))
@@ -232,7 +237,8 @@ class Worker:
         self.tell(STOP)
 
     def end_all(self, seconds: float, tell: Callable[[list[int]], object]) -> int:
-        """Kills all that is left of it, and waits for that. Which processes are still there in so many seconds is told. Its status."""
+        """Kills all that is left of it, and waits for that. Which processes are still there in so many seconds is told.
+        Its status."""
         closed(self.end)
         closed(self.answers)
         if self.lines is not None:

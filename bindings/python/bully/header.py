@@ -1,5 +1,5 @@
-"""What `bully.h` declares, by its names and as ctypes takes it. That header is the one source of the statuses' numbers, of structures and of
-functions, so none of them is written down here a second time."""
+"""What `bully.h` declares, by its names and as ctypes takes it. That header is the one source of the statuses' numbers,
+of structures and of functions, so none of them is written down here a second time."""
 from __future__ import annotations
 
 import ctypes
@@ -36,7 +36,8 @@ def top_of_tree() -> Iterator[str]:
 
 
 def _places() -> Iterator[str]:
-    """Where the header may stand: beside this file, where a wheel has it; in this tree; or with the library that the environment names."""
+    """Where the header may stand: beside this file, where a wheel has it; in this tree; or with the library that the
+    environment names."""
     yield HERE
     yield from (os.path.join(top, 'include') for top in top_of_tree())
     library = os.environ.get('BULLY_LIBRARY')
@@ -95,7 +96,8 @@ def _parted(declared: str) -> tuple[str, str]:
 
 
 def type_of(kind: str, structures: Mapping[str, Any]) -> Any:
-    """The type of ctypes for one of the header. These structures are known; what points to another one is handed on as it is."""
+    """The type of ctypes for one of the header. These structures are known; what points to another one is handed on as
+    it is."""
     target, is_pointer, _ = kind.partition(' *')
     if not is_pointer:
         return _NUMBERS[target]

@@ -1,6 +1,7 @@
 """The history of a group: the log of an epoch as a trace, also of a log of the form before this one.
 
-In that form each row stood by itself, the header among them, and an epoch had an end behind its rows. No member of today may share such a log.
+In that form each row stood by itself, the header among them, and an epoch had an end behind its rows. No member of
+today may share such a log.
 """
 from __future__ import annotations
 
@@ -30,7 +31,8 @@ def traced(log: Callable[[], Log], older: Sequence[str] | None, epoch: int | Non
 
 
 def timed(rows: Sequence[str], times: Mapping[int, int | None]) -> list[str]:
-    """The rows of a trace, each behind the time of its append and a comma; behind the comma alone, if that isn't kept."""
+    """The rows of a trace, each behind the time of its append and a comma; behind the comma alone, if that isn't
+    kept."""
     lines, told = [], ''
     for place, row in enumerate(rows, -1):
         told = time_text(times[place]) if place in times else told

@@ -54,7 +54,8 @@ class Learned(Opened):
 
     @property
     def rows(self) -> int:
-        """How many rows were learned, claims too: so the next one of a list of them, without the header, has this index."""
+        """How many rows were learned, claims too: so the next one of a list of them, without the header, has this
+        index."""
         return int(self._group().rows)
 
     @property
@@ -64,9 +65,9 @@ class Learned(Opened):
 
     @property
     def token(self) -> int | None:
-        """The token of the last plan, if there is one: how many events there are up to it and with it, which is at least 1. So a
-        later plan has a higher token. Each node that is Normal goes by the last plan: it has its planner as coordinator, and its
-        table as task."""
+        """The token of the last plan, if there is one: how many events there are up to it and with it, which is at
+        least 1. So a later plan has a higher token. Each node that is Normal goes by the last plan: it has its planner
+        as coordinator, and its table as task."""
         return self._group().token or None
 
     @property

@@ -60,7 +60,8 @@ _STRUCTURES = {
     **dict.fromkeys(('bully_agent', 'bully_replica', 'bully_member'), RawHandle),
 }  # fmt: skip
 
-# The library twice. Calls of a handle keep Python's lock, so that no two threads are in one; a check of a long trace gives it away.
+# The library twice. Calls of a handle keep Python's lock, so that no two threads are in one; a check of a long trace
+# gives it away.
 _loaded: list[ctypes.CDLL] = []
 
 
@@ -78,7 +79,8 @@ def _declared(library: ctypes.CDLL, prototypes: list[tuple[str, Any, list[Any]]]
 
 
 def _own_places() -> Iterator[str]:
-    """Where the library stands that came with this package: beside it, in an archive, or at the top of the repository."""
+    """Where the library stands that came with this package: beside it, in an archive, or at the top of the
+    repository."""
     yield HERE
     for top in top_of_tree():
         yield os.path.join(top, 'lib')
@@ -95,9 +97,9 @@ def _place_of(path: str | os.PathLike[str] | None) -> str:
 
 
 def load(path: str | os.PathLike[str] | None = None) -> None:
-    """Loads the library from this path: its file, or the folder that has it. Without a path that is BULLY_LIBRARY of the
-    environment, or else libbully.so in the folder of this package, in `lib` of an archive or in `out/library` of the repository, or else
-    what the system finds by that name. An OSError tells that it isn't there."""
+    """Loads the library from this path: its file, or the folder that has it. Without a path that is BULLY_LIBRARY of
+    the environment, or else libbully.so in the folder of this package, in `lib` of an archive or in `out/library` of
+    the repository, or else what the system finds by that name. An OSError tells that it isn't there."""
     place, prototypes = _place_of(path), _prototypes()
     try:
         _loaded[:] = [_declared(ctypes.PyDLL(place), prototypes), _declared(ctypes.CDLL(place), prototypes)]
@@ -133,7 +135,8 @@ def numbers_of(what: str, values: Iterable[int]) -> tuple[ctypes.Array[ctypes.c_
 
 
 def owners_of(values: Iterable[int] | None) -> tuple[ctypes.Array[ctypes.c_uint16], int]:
-    """The same of the owners of a table, or none. To the library no owners are no table, but an empty table is one that is too short."""
+    """The same of the owners of a table, or none. To the library no owners are no table, but an empty table is one that
+    is too short."""
     numbers, count = numbers_of('an owner', () if values is None else values)
     if values is not None and not count:
         raise TableLength()
@@ -198,7 +201,8 @@ class Room:
 
 
 def list_of(room: int, function: Callable[..., int], *arguments: Any) -> tuple[int, ...]:
-    """The numbers that the function writes, called with these arguments and so much room behind them, which holds them all."""
+    """The numbers that the function writes, called with these arguments and so much room behind them, which holds them
+    all."""
     numbers, count = (ctypes.c_uint16 * room)(), ctypes.c_size_t()
     expect_ok(function(*arguments, numbers, room, ctypes.byref(count)))
     return tuple(numbers[: count.value])

@@ -1,14 +1,16 @@
 """The store of a shared log: rows in one order, who is present, and what those have promised.
 
-The log of an epoch is a trace: its header stands in what the epoch began with, and a *place* says how many rows stand behind that, so the
-empty log has place 0. A *presence* is a lease: a process takes it, under the name of its node, for a life that no other try has, and renews
-it. Presences are by name, over all epochs. With a presence goes a promise: its life works by no plan before that place of that epoch.
-Rows are appended, and an epoch is ended, only while all that are present have promised the end of its log; so nobody works then.
+The log of an epoch is a trace: its header stands in what the epoch began with, and a *place* says how many rows stand
+behind that, so the empty log has place 0. A *presence* is a lease: a process takes it, under the name of its node, for
+a life that no other try has, and renews it. Presences are by name, over all epochs. With a presence goes a promise: its
+life works by no plan before that place of that epoch. Rows are appended, and an epoch is ended, only while all that are
+present have promised the end of its log; so nobody works then.
 
-`Log` says what a store does: `bully.memory` has one in the memory of a process, `bully.sqlite` in a file of one machine, and `bully.etcd` in etcd.
-`docs/MEMBERS.md` says what members do with it, and `bully.epochs` has epochs.
+`Log` says what a store does: `bully.memory` has one in the memory of a process, `bully.sqlite` in a file of one
+machine, and `bully.etcd` in etcd. `docs/MEMBERS.md` says what members do with it, and `bully.epochs` has epochs.
 
-A call that fails raises an exception below LogError: below Unanswered if it may be tried again, since what it found may pass.
+A call that fails raises an exception below LogError: below Unanswered if it may be tried again, since what it found may
+pass.
 """
 from __future__ import annotations
 
@@ -80,8 +82,8 @@ class Holder(NamedTuple):
 
 
 class Found(NamedTuple):
-    """What a look finds at one moment: which epoch is the current one; the rows that were asked for, if they are of that one; who is present,
-    by name; what is wished for; and what is ordered."""
+    """What a look finds at one moment: which epoch is the current one; the rows that were asked for, if they are of
+    that one; who is present, by name; what is wished for; and what is ordered."""
 
     epoch: int
     rows: Sequence[str]
@@ -103,66 +105,74 @@ class Found(NamedTuple):
         return idle_of({name: holder.promise for name, holder in self.presences.items()}, here)
 
     def is_frozen(self, end: Promise) -> bool:
-        """Whether the group is paused, and nobody settles. Not yet, if one that was present when it was paused has promised the end of the log
-        since or before: it can't work by the last plan any more, so that change is finished first."""
+        """Whether the group is paused, and nobody settles. Not yet, if one that was present when it was paused has
+        promised the end of the log since or before: it can't work by the last plan any more, so that change is finished
+        first."""
         lives = self.orders.lives
         return lives is not None and not any(lives.get(name) == self.presences[name].life for name in self.idle(end))
 
 
 class Log(Protocol):
-    """A store that keeps one order in each epoch. Each call is done at one moment, or not at all; one call at a time. A ttl is in whole
-    nanoseconds."""
+    """A store that keeps one order in each epoch. Each call is done at one moment, or not at all; one call at a time. A
+    ttl is in whole nanoseconds."""
 
     def epochs(self) -> range:
         """The epochs whose rows are there. The last one is the current one."""
 
     def opening(self, epoch: int | None = None) -> Opening:
-        """What an epoch began with, also if its rows were taken away since; without a number that of the current one. Raises NoEpoch."""
+        """What an epoch began with, also if its rows were taken away since; without a number that of the current one.
+        Raises NoEpoch."""
 
     def take(self, name: str, life: Life, promise: Promise, ttl: int) -> bool:
-        """The life holds the presence of that name from now on for the ttl, with this promise, if nobody holds it, the promise's epoch is
-        the current one, and its log ends at the promise's place. Whether it does."""
+        """The life holds the presence of that name from now on for the ttl, with this promise, if nobody holds it, the
+        promise's epoch is the current one, and its log ends at the promise's place. Whether it does."""
 
     def renew(self, name: str, life: Life, ttl: int) -> bool:
-        """The life holds the presence for the ttl from now on, if it held it up to now without a gap. Whether it does."""
+        """The life holds the presence for the ttl from now on, if it held it up to now without a gap. Whether it
+        does."""
 
     def release(self, name: str, life: Life) -> None:
         """The life doesn't hold the presence any more, if it did."""
 
     def promise(self, name: str, life: Life, promise: Promise) -> bool:
-        """The life has promised this from now on, or what it had, if that is later, if it holds the presence. Whether it does."""
+        """The life has promised this from now on, or what it had, if that is later, if it holds the presence. Whether
+        it does."""
 
     def append(self, epoch: int, place: int, rows: Sequence[str]) -> bool:
-        """All rows, of which there is one at least, stand behind this place from now on, if the epoch is the current one, its log ends there,
-        somebody is present, and all that are have promised that place of that epoch. Else nothing changes. Whether they do."""
+        """All rows, of which there is one at least, stand behind this place from now on, if the epoch is the current
+        one, its log ends there, somebody is present, and all that are have promised that place of that epoch. Else
+        nothing changes. Whether they do."""
 
     def finish(self, epoch: int, place: int, opening: Opening) -> bool:
-        """The next epoch is the current one from now on, and begins so, on the same conditions, and if the opening is `next` of this epoch's
-        by what is wished for. Presences and promises stay, and no wish does. Whether it is."""
+        """The next epoch is the current one from now on, and begins so, on the same conditions, and if the opening is
+        `next` of this epoch's by what is wished for. Presences and promises stay, and no wish does. Whether it is."""
 
     def look(self, epoch: int, place: int) -> Found:
-        """The rows of that epoch behind that place, if it is the current one, and what else is found at the same moment. Who asks has read up
-        to there, so a log that ends before is damaged; likewise of a read, an append and a finish."""
+        """The rows of that epoch behind that place, if it is the current one, and what else is found at the same
+        moment. Who asks has read up to there, so a log that ends before is damaged; likewise of a read, an append and a
+        finish."""
 
     def wait(self, epoch: int, place: int, lives: Mapping[str, Life], until: Until, seconds: float, woken: int | None = None) -> None:
-        """Returns once another epoch is the current one, or rows stand behind that place, or others than these lives are present, or another
-        wish or other orders stand than the last look found; or also, by `until`, once one of those present has promised that place of that epoch that
-        hadn't when the last look found the log to end there, or once all have; or once the descriptor `woken` has something to read; or
-        once the time is over. It may return sooner. What was so before the call is never missed."""
+        """Returns once another epoch is the current one, or rows stand behind that place, or others than these lives
+        are present, or another wish or other orders stand than the last look found; or also, by `until`, once one of
+        those present has promised that place of that epoch that hadn't when the last look found the log to end there,
+        or once all have; or once the descriptor `woken` has something to read; or once the time is over. It may return
+        sooner. What was so before the call is never missed."""
 
     def ask(self, wish: Opening, epoch: int) -> bool:
-        """That is wished for from now on, and nothing else, if the epoch is the current one, and the wish is one for the next. Whether it is."""
+        """That is wished for from now on, and nothing else, if the epoch is the current one, and the wish is one for
+        the next. Whether it is."""
 
     def cancel(self, epoch: int) -> None:
         """Nothing is wished for any more, if the epoch is the current one."""
 
     def order(self, orders: Orders, before: Orders | None) -> bool:
-        """These are the orders from now on, over all epochs, if those were the ones before; if none are told, whatever they were, also if they
-        can't be read. Whether they are."""
+        """These are the orders from now on, over all epochs, if those were the ones before; if none are told, whatever
+        they were, also if they can't be read. Whether they are."""
 
     def times(self, epoch: int) -> Mapping[int, int | None]:
-        """When the appends of an epoch were done, by the places that they stand behind: milliseconds since 1970 by the wall clock of who
-        appended; none of one of which that isn't kept."""
+        """When the appends of an epoch were done, by the places that they stand behind: milliseconds since 1970 by the
+        wall clock of who appended; none of one of which that isn't kept."""
 
     def read(self, epoch: int, place: int) -> Sequence[str]:
         """The rows of an epoch behind that place, without their line ends. Raises NoEpoch."""
@@ -180,7 +190,8 @@ def found_in(log: Log) -> Found:
 
 
 def openings_of(log: Log) -> Iterator[Opening]:
-    """What the epochs of the log began with, the current one first, each read once it is asked for. An earlier log may have had those before."""
+    """What the epochs of the log began with, the current one first, each read once it is asked for. An earlier log may
+    have had those before."""
     with suppress(NoEpoch):
         for epoch in range(log.epochs()[-1], 0, -1):
             yield log.opening(epoch)

@@ -1,8 +1,9 @@
 """The rules of a member, as the library has them proved: a process that acts for one node of a group over a shared log.
 
-A `Core` has no clock, store, thread or chance of its own: `next` says what is to be done now, whoever drives it does that, and tells what
-became of it by the call that the step names. `docs/ALGORITHM.md` has the rules, `docs/DECISIONS.md` why they are so. All times are whole
-nanoseconds of one clock that never goes back. A *place* in an epoch's log is how many rows stand behind its header, and each of them is an event.
+A `Core` has no clock, store, thread or chance of its own: `next` says what is to be done now, whoever drives it does
+that, and tells what became of it by the call that the step names. `docs/ALGORITHM.md` has the rules,
+`docs/DECISIONS.md` why they are so. All times are whole nanoseconds of one clock that never goes back. A *place* in an
+epoch's log is how many rows stand behind its header, and each of them is an event.
 """
 from __future__ import annotations
 
@@ -35,7 +36,8 @@ class Promise:
 
 @dataclass(frozen=True, order=True)
 class Life:
-    """A try of a process to be present: no other process of the group ever has its number, and the process counts its tries."""
+    """A try of a process to be present: no other process of the group ever has its number, and the process counts its
+    tries."""
 
     process: int
     number: int
@@ -52,8 +54,9 @@ class Presence:
 
 @dataclass(frozen=True)
 class Opening:
-    """What an epoch begins with, for one member: the header of its log; its number; the node; how many rows the log may have; and the last
-    table of the epoch before, by the numbers of this one, if it had as many partitions: there 0 is an owner that this group hasn't."""
+    """What an epoch begins with, for one member: the header of its log; its number; the node; how many rows the log may
+    have; and the last table of the epoch before, by the numbers of this one, if it had as many partitions: there 0 is
+    an owner that this group hasn't."""
 
     header: Line
     epoch: int
@@ -64,9 +67,9 @@ class Opening:
 
 @dataclass(frozen=True)
 class Seen:
-    """What a look finds beside the rows, at the same moment: the current epoch; who is present for a node of it, by rising nodes; whether
-    somebody is present whose name no node of it has; and whether something else is wished for. In another epoch than the member's nothing
-    but its number counts."""
+    """What a look finds beside the rows, at the same moment: the current epoch; who is present for a node of it, by
+    rising nodes; whether somebody is present whose name no node of it has; and whether something else is wished for. In
+    another epoch than the member's nothing but its number counts."""
 
     epoch: int
     presences: tuple[Presence, ...] = ()
@@ -75,21 +78,22 @@ class Seen:
 
 
 class StoreAnswer(enum.Enum):
-    """What became of a request: it was done; it wasn't, and won't be; or it may be done later, or never, or was done already."""
+    """What became of a request: it was done; it wasn't, and won't be; or it may be done later, or never, or was done
+    already."""
 
     DONE, REFUSED, UNANSWERED = 'done', 'refused', 'unanswered'
 
 
 class Ending(enum.Enum):
-    """Why a member ends: it was told to leave; the group has no node of its name any more; or its log has a row that isn't learned, or that
-    tells no event."""
+    """Why a member ends: it was told to leave; the group has no node of its name any more; or its log has a row that
+    isn't learned, or that tells no event."""
 
     LEFT, NOT_THERE, BROKEN = 'left', 'not there', 'broken'
 
 
 class Until(enum.Enum):
-    """What ends a wait before its time: other rows, lives or wishes than were seen, and no more; or also that somebody that is present
-    is idle up to the end of the log, and wasn't when the member looked last; or that all are."""
+    """What ends a wait before its time: other rows, lives or wishes than were seen, and no more; or also that somebody
+    that is present is idle up to the end of the log, and wasn't when the member looked last; or that all are."""
 
     NEWS, ANY_IDLE, ALL_IDLE = 'news', 'any idle', 'all idle'
 
@@ -105,8 +109,8 @@ class Request(enum.Enum):
     RELEASE = 3  # the end of the presence, if this life has it
     LOOK = 4  # the rows behind all that was learned, for `learn`, and what `looked` is told
     BE_IDLE = 5  # this life's promise of the place, if it has the presence; a higher one stays
-    # To append the rows of `settlement`: if the log ends at the place, somebody is present, and all that are, strangers too, have promised this
-    # place of this epoch.
+    # To append the rows of `settlement`: if the log ends at the place, somebody is present, and all that are, strangers
+    # too, have promised this place of this epoch.
     APPEND = 6
     FINISH = 7  # to end the epoch, and to begin the next one: on the same conditions
     FOLLOW = 8  # what the current epoch began with, for `followed`
@@ -114,8 +118,8 @@ class Request(enum.Enum):
 
 @dataclass(frozen=True)
 class Ask:
-    """To ask the store, for this life or at this place, if the request has any, and to tell what became of that: by `answered`, `looked`,
-    `followed` or `passed`."""
+    """To ask the store, for this life or at this place, if the request has any, and to tell what became of that: by
+    `answered`, `looked`, `followed` or `passed`."""
 
     request: Request
     life: Life = Life(0, 0)
@@ -225,11 +229,11 @@ class Core(Learned):
     _single = 'a member is not copied: there is one of it'
 
     def __init__(self, opening: Opening, process: int, ttl: int) -> None:
-        """A member that has learned nothing, and asked for nothing. No other process of the group ever has the number of this one. The ttl
-        is for how long a presence lasts from its last renewal.
+        """A member that has learned nothing, and asked for nothing. No other process of the group ever has the number
+        of this one. The ttl is for how long a presence lasts from its last renewal.
 
-        Raises BadHeader, BadNode, TableLength, TableOwner; BadRowsMax: `rows_max` is below 22 for each node, or above EVENTS_MAX; BadTtl:
-        the ttl is below TTL_MIN or above TTL_MAX; OutOfMemory."""
+        Raises BadHeader, BadNode, TableLength, TableOwner; BadRowsMax: `rows_max` is below 22 for each node, or above
+        EVENTS_MAX; BadTtl: the ttl is below TTL_MIN or above TTL_MAX; OutOfMemory."""
         super().__init__()
         self.fault: BullyError | None = None  # why its log is broken, if a row wasn't learned
         number, length = number_of('a process', process, UINT64_MAX), number_of('a ttl', ttl, UINT64_MAX)
@@ -254,13 +258,15 @@ class Core(Learned):
         return _STEPS[raw.kind](raw)
 
     def settlement(self) -> list[str]:
-        """The rows of an Append, without line ends: they bring the group to rest among those present, or, if the member ends, among nobody.
+        """The rows of an Append, without line ends: they bring the group to rest among those present, or, if the member
+        ends, among nobody.
 
         Raises Full, if the log has no room for them; OutOfMemory."""
         return texts_of(self._room.text(self._function('settlement')))
 
     def owned(self) -> Owned | None:
-        """By which token the node may work, by a plan behind all that the life has promised, and on which partitions, if on any.
+        """By which token the node may work, by a plan behind all that the life has promised, and on which partitions,
+        if on any.
 
         Raises OutOfMemory."""
         return owned_of(self._partitions, self._function('owned'))
@@ -272,11 +278,11 @@ class Core(Learned):
         self._call('answered', _moment(now), _ANSWERS.index(answer) + 1)
 
     def learn(self, rows: Sequence[Line]) -> None:
-        """The rows that a look found behind its place, before `looked`. A row that isn't learned, or that tells no event, ends the
-        member as BROKEN; if it isn't learned, `fault` tells why.
+        """The rows that a look found behind its place, before `looked`. A row that isn't learned, or that tells no
+        event, ends the member as BROKEN; if it isn't learned, `fault` tells why.
 
-        Raises a NotLearned whose cause is OutOfMemory, and then the member doesn't end; and as `Replica.learn` a ValueError or a
-        TypeError."""
+        Raises a NotLearned whose cause is OutOfMemory, and then the member doesn't end; and as `Replica.learn` a
+        ValueError or a TypeError."""
         try:
             self._learn(rows)
         except NotLearned as fault:
@@ -293,12 +299,13 @@ class Core(Learned):
         self._call('looked', _moment(now), epoch, presences, count, bool(seen.has_strangers), bool(seen.is_wished))
 
     def passed(self) -> None:
-        """In place of any other answer: the epoch is over, and its log was taken away. A store needs it whose look doesn't tell the current
-        epoch then: none of this package does, so `Member` never calls it."""
+        """In place of any other answer: the epoch is over, and its log was taken away. A store needs it whose look
+        doesn't tell the current epoch then: none of this package does, so `Member` never calls it."""
         self._call('passed')
 
     def followed(self, now: int, opening: Opening | None) -> None:
-        """With what the current epoch begins; none, if the member's name isn't in it. Nothing changes if no follow is awaited.
+        """With what the current epoch begins; none, if the member's name isn't in it. Nothing changes if no follow is
+        awaited.
 
         Raises as `Core` does, but for BadTtl; then nothing changes."""
         if opening is None:

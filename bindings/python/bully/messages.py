@@ -1,4 +1,5 @@
-"""What a member says on standard error. A thread of its own writes that, so that a reader who hangs keeps nobody from work."""
+"""What a member says on standard error. A thread of its own writes that, so that a reader who hangs keeps nobody from
+work."""
 from __future__ import annotations
 
 import json
@@ -30,7 +31,8 @@ class JsonLines(logging.Formatter):
 
 
 def write(text: bytes) -> None:
-    """Writes it on standard error, however long that takes: also where others, as a worker, made that one which doesn't block. Raises OSError."""
+    """Writes it on standard error, however long that takes: also where others, as a worker, made that one which doesn't
+    block. Raises OSError."""
     poll = select.poll()
     poll.register(STANDARD_ERROR, select.POLLOUT)
     while text:

@@ -1,6 +1,8 @@
-"""How a log is repaired in which something stands that is no row, or that its group refuses: all members end at it, so all have stopped.
+"""How a log is repaired in which something stands that is no row, or that its group refuses: all members end at it, so
+all have stopped.
 
-What is lawful stays, and what stands behind that is cut. The epoch ends there, and the next one begins, so that no token is used again.
+What is lawful stays, and what stands behind that is cut. The epoch ends there, and the next one begins, so that no
+token is used again.
 """
 from __future__ import annotations
 
@@ -19,7 +21,8 @@ NOWHERE = 2**63  # behind all places: where something stands that is no append
 
 
 class Kept(NamedTuple):
-    """What a store has of the current epoch, whatever it is: where its log ends, and the appends, by the places that they stand behind."""
+    """What a store has of the current epoch, whatever it is: where its log ends, and the appends, by the places that
+    they stand behind."""
 
     end: Promise
     appends: Sequence[tuple[int, bytes]]
@@ -32,8 +35,8 @@ class Repairable(Log, Protocol):
         """What the store has of the current epoch."""
 
     def cut(self, end: Promise, append: int, text: str, opening: Opening) -> bool:
-        """The appends from this place on are gone, but for this text, which stands there if it isn't empty; and the next epoch begins so; if the
-        log ends there and nobody is present. Whether they are."""
+        """The appends from this place on are gone, but for this text, which stands there if it isn't empty; and the
+        next epoch begins so; if the log ends there and nobody is present. Whether they are."""
 
 
 class Damage(NamedTuple):
@@ -54,7 +57,8 @@ class Damage(NamedTuple):
 
 
 def damage_of(log: Repairable) -> Damage | None:
-    """What is wrong with the rows of the log, if anything is. Raises DamagedLog, if not even its opening can be read."""
+    """What is wrong with the rows of the log, if anything is. Raises DamagedLog, if not even its opening can be
+    read."""
     opening, kept = log.opening(), log.kept()
     count = whole(kept.appends)
     all_rows = [row for _, text in kept.appends[:count] for row in lines_of(text)]

@@ -1,7 +1,7 @@
 """How an epoch is ended from outside, so that the next one begins with other settings.
 
-What is wished for stands in the store. Members that see it stop their work, and once all of them are idle one ends the epoch. Where no
-member is there, whoever wishes does that.
+What is wished for stands in the store. Members that see it stop their work, and once all of them are idle one ends the
+epoch. Where no member is there, whoever wishes does that.
 """
 from __future__ import annotations
 
@@ -30,10 +30,11 @@ class NotEnded(Exception):
 
 
 def resize(log: Log, settings: Settings, seconds: float) -> Opening:
-    """The current epoch ends, and the next one begins with these settings, if the group hasn't got them already. The opening of the
-    epoch that has them. If that takes longer than so many seconds, the wish stays.
+    """The current epoch ends, and the next one begins with these settings, if the group hasn't got them already. The
+    opening of the epoch that has them. If that takes longer than so many seconds, the wish stays.
 
-    Raises NotEnded, also if the group is paused, what the log raises, and what a replica raises; Unanswered only once the time is over."""
+    Raises NotEnded, also if the group is paused, what the log raises, and what a replica raises; Unanswered only once
+    the time is over."""
     end = seconds_of_boot() + seconds
     while True:
         try:
@@ -95,7 +96,8 @@ class Pruning(threading.Thread):
 
 
 def lead(log: Log, name: str, seconds: float) -> Opening:
-    """The node of this name leads in the next epoch: it gets the highest number, by which the coordinator is found, and all else stays.
+    """The node of this name leads in the next epoch: it gets the highest number, by which the coordinator is found, and
+    all else stays.
 
     Raises NotEnded, also if it has no member, and what `resize` does."""
     opening = log.opening()

@@ -33,8 +33,8 @@ ENDINGS = {
 
 @dataclass(frozen=True)
 class Assignment:
-    """What the node owns: its partitions, counted from 0, by the table of this coordinator with this token; the settings of the epoch,
-    by which nodes are numbered; and until when that is sure, as far as is told."""
+    """What the node owns: its partitions, counted from 0, by the table of this coordinator with this token; the
+    settings of the epoch, by which nodes are numbered; and until when that is sure, as far as is told."""
 
     token: Token
     coordinator: int
@@ -81,10 +81,11 @@ def terms_of(opening: Opening, node: int) -> Terms:
 class Member:
     """A process that acts for a node of a group over a log. It takes part from `run` on, until `leave` is called.
 
-    `start(assignment)` has to begin the work on what the node owns, and to return; `stop(assignment)` returns once nothing of it is
-    worked on any more. Each is called in a thread of the member's own, one at a time. Work has to be cut into units shorter than
-    the margin, a fifth of the ttl, and before each of them `assignment` has to tell that it may be done. An exception of `start`
-    ends the member in order, and `run` raises it; behind one of `stop` it gives nothing back, since the work may go on.
+    `start(assignment)` has to begin the work on what the node owns, and to return; `stop(assignment)` returns once
+    nothing of it is worked on any more. Each is called in a thread of the member's own, one at a time. Work has to be
+    cut into units shorter than the margin, a fifth of the ttl, and before each of them `assignment` has to tell that it
+    may be done. An exception of `start` ends the member in order, and `run` raises it; behind one of `stop` it gives
+    nothing back, since the work may go on.
 
         with Member(SqliteLog('group.db'), 2, start, stop) as member:
             member.run()
@@ -94,10 +95,10 @@ class Member:
         self, log: Log, node: int | str, start: Callback, stop: Callback, ttl: float = 5.0, settings: Settings | None = None,
         sure: Callable[[float], None] | None = None,
     ) -> None:  # fmt: skip
-        """A member of the log's group, for the node of this name, or of this number in the current epoch. If the group's settings
-        change, it goes on by the name; `run` returns, if the group has no such node any more. With `settings`, which may be those of an
-        earlier epoch, the log has to be of that group. `sure` is told, behind each renewal, until when what is owned is sure, by
-        `clocks.seconds_of_boot`.
+        """A member of the log's group, for the node of this name, or of this number in the current epoch. If the
+        group's settings change, it goes on by the name; `run` returns, if the group has no such node any more. With
+        `settings`, which may be those of an earlier epoch, the log has to be of that group. `sure` is told, behind each
+        renewal, until when what is owned is sure, by `clocks.seconds_of_boot`.
 
         Raises OtherGroup, NotInGroup, BadHeader, BadNode, BadTtl, OutOfMemory, and what the log raises."""
         self.log = log
@@ -175,8 +176,8 @@ class Member:
             self.fail(failure)
 
     def lose(self, assignment: Assignment) -> None:
-        """The work that was begun for this assignment has ended, though nobody told it to: it is stopped, and begun again if the node
-        still owns it."""
+        """The work that was begun for this assignment has ended, though nobody told it to: it is stopped, and begun
+        again if the node still owns it."""
         self._lost.append(assignment)
         self._wake()
 
@@ -188,8 +189,9 @@ class Member:
     # Its life.
 
     def run(self) -> None:
-        """Takes part until it has left, but while its node is drained. Raises what a callback raised; NotLearned, if a row of the log is refused;
-        NotInGroup, if a drained node isn't in the group any more; and what the log raises, but Unanswered: then it tries again."""
+        """Takes part until it has left, but while its node is drained. Raises what a callback raised; NotLearned, if a
+        row of the log is refused; NotInGroup, if a drained node isn't in the group any more; and what the log raises,
+        but Unanswered: then it tries again."""
         self._ended.clear()
         with ExitStack() as ending:
             ending.callback(self._ended.set)
@@ -232,7 +234,8 @@ class Member:
                 return
 
     def _comes_back(self, ending: Ending) -> bool:
-        """It has ended. Whether it takes part again: if it did so since its node was drained, and that is over before it is told to end."""
+        """It has ended. Whether it takes part again: if it did so since its node was drained, and that is over before
+        it is told to end."""
         self.is_drained = ending is Ending.LEFT and not self._is_leaving
         level = logging.WARNING if ending is Ending.NOT_THERE else logging.INFO
         _logger.log(level, 'node %s: %s', shown_name(self.name), 'it is drained, and does nothing' if self.is_drained else ENDINGS[ending])

@@ -1,7 +1,8 @@
 """The store of a shared log in a file of SQLite, which the processes of one machine share: `SqliteLog`.
 
-Presences are over once the machine boots again, so what is written of them need not reach the disk; what is appended does. `changes` counts
-what happens to presences, so that who waits need not look at all of them each time that one is renewed.
+Presences are over once the machine boots again, so what is written of them need not reach the disk; what is appended
+does. `changes` counts what happens to presences, so that who waits need not look at all of them each time that one is
+renewed.
 """
 from __future__ import annotations
 
@@ -38,9 +39,9 @@ SIGHT = SECOND // 4  # nanoseconds from one look at which files are there to the
 PRUNED_AT_ONCE = 100  # appends
 NEVER = 2**63 - 1
 
-# `changes` has the name of the log and its orders, too, and `boots` which boots of the machine have used it, one behind the other: an earlier
-# one is over. A record of the log has the rows of one append, each with its line end, the place that these stand behind, and when that was
-# done. Of an epoch that was taken away the opening is left, without a count.
+# `changes` has the name of the log and its orders, too, and `boots` which boots of the machine have used it, one behind
+# the other: an earlier one is over. A record of the log has the rows of one append, each with its line end, the place
+# that these stand behind, and when that was done. Of an epoch that was taken away the opening is left, without a count.
 TABLES = """
 create table epochs (epoch integer primary key, opening text not null, wish text, count integer);
 create table log (epoch integer, place integer, rows text not null, time integer, primary key (epoch, place));
@@ -161,7 +162,8 @@ def holder_of(where: str, name: str, life: str, epoch: int, place: int, until: i
 
 
 class Standing(NamedTuple):
-    """How a log stands: its end, and what is wished for and ordered; its name, and which boot has used it last; and the counts of changes."""
+    """How a log stands: its end, and what is wished for and ordered; its name, and which boot has used it last; and the
+    counts of changes."""
 
     end: Promise
     wish: str | None
@@ -177,10 +179,12 @@ class Standing(NamedTuple):
 
 
 class SqliteLog:
-    """A log in a file of SQLite: no file of a network. One thread at a time uses it, and no process that this one forks."""
+    """A log in a file of SQLite: no file of a network. One thread at a time uses it, and no process that this one
+    forks."""
 
     def __init__(self, path: os.PathLike[str] | str, patience: float = 1.0, reads: bool = False) -> None:
-        """The log of this file, which `create` made. Each call waits this many seconds for others at most. Who only reads waits for nobody.
+        """The log of this file, which `create` made. Each call waits this many seconds for others at most. Who only
+        reads waits for nobody.
 
         Raises NoLog, ForeignLog, DamagedLog, ReadOnlyLog, Unanswered."""
         self.path = os.fspath(path)
@@ -312,7 +316,8 @@ class SqliteLog:
         self._file.execute('insert into boots (boot) values (?)', (self._boot,))
 
     def _are_elsewhere(self, now: int) -> bool:
-        """Whether another boot may hold presences, by this clock: those of an earlier boot of this machine are mostly of other times."""
+        """Whether another boot may hold presences, by this clock: those of an earlier boot of this machine are mostly
+        of other times."""
         return self._one('select count(*) from presence where boot != ? and since <= ? and until > ?', self._boot, now, now) > 0
 
     def renew(self, name: str, life: Life, ttl: int) -> bool:
@@ -435,7 +440,8 @@ class SqliteLog:
         return presences
 
     def wait(self, epoch: int, place: int, lives: Mapping[str, Life], until: Until, seconds: float, woken: int | None = None) -> None:
-        """If the time is over without news, the next wait goes on at the pace of this one: else what comes is often soon followed by more."""
+        """If the time is over without news, the next wait goes on at the pace of this one: else what comes is often
+        soon followed by more."""
         end = nanoseconds_of_boot() + int(seconds * SECOND)
         self._version = self._promises = -1
         while not self._is_news(Promise(epoch, place), lives, until):
@@ -499,7 +505,8 @@ class SqliteLog:
 
     @contextmanager
     def _transaction(self, kind: str = 'immediate') -> Iterator[Standing]:
-        """One transaction, and how the log stands in it. What is returned out of it is kept, and what is raised undoes it."""
+        """One transaction, and how the log stands in it. What is returned out of it is kept, and what is raised undoes
+        it."""
         self._see_files()
         with calls(self.path):
             self._file.execute(f'begin {kind}')

@@ -17,7 +17,8 @@ Line = Union[str, bytes]
 
 
 class Rows(Sequence[str]):
-    """Rows of a log that came as one text, and are cut only where they are looked at. A log of a million rows is learned sooner so."""
+    """Rows of a log that came as one text, and are cut only where they are looked at. A log of a million rows is
+    learned sooner so."""
 
     def __init__(self, text: str) -> None:
         """The rows of this text, each with its line end."""
@@ -52,7 +53,8 @@ class Rows(Sequence[str]):
 
 
 class Named(enum.IntEnum):
-    """Numbers of the library that are shown by their names, as the rows of traces spell them: `normal`, `are-you-up`."""
+    """Numbers of the library that are shown by their names, as the rows of traces spell them: `normal`,
+    `are-you-up`."""
 
     def __str__(self) -> str:
         return self.name.lower().replace('_', '-')
@@ -93,8 +95,9 @@ class VerdictKind(Named):
 
 @dataclass(frozen=True)
 class Verdict:
-    """The verdict on a trace. Of a lawful one `number` is how many events were counted, and else the row that is refused or
-    differs, from 1; `cause` is the exception that names why an event is refused. As text it is the first line of `bully check`."""
+    """The verdict on a trace. Of a lawful one `number` is how many events were counted, and else the row that is
+    refused or differs, from 1; `cause` is the exception that names why an event is refused. As text it is the first
+    line of `bully check`."""
 
     kind: VerdictKind
     number: int
@@ -126,9 +129,9 @@ class Call(NamedTuple):
 
 
 class State(NamedTuple):
-    """How a node stands: its number and status; its coordinator, if it has one; the node that halted it last, if any; what it
-    wants to do next; the call that it has under way, if any; and how often it was stopped or crashed, of an agent since it was
-    opened, and of a replica in its log."""
+    """How a node stands: its number and status; its coordinator, if it has one; the node that halted it last, if any;
+    what it wants to do next; the call that it has under way, if any; and how often it was stopped or crashed, of an
+    agent since it was opened, and of a replica in its log."""
 
     node: int
     status: Status
@@ -146,8 +149,8 @@ class Event(Named):
 
 
 class Owned(NamedTuple):
-    """What a node's process may work on: the token of the last plan, and the node's partitions by it, rising, the first of a group
-    being 0. There is one at least."""
+    """What a node's process may work on: the token of the last plan, and the node's partitions by it, rising, the first
+    of a group being 0. There is one at least."""
 
     token: int
     partitions: tuple[int, ...]

@@ -35,7 +35,8 @@ class Held:
 
 
 class Away(Tests):
-    """A member that was away while its epoch ended and was taken away, over one of the stores: tests for each of them."""
+    """A member that was away while its epoch ended and was taken away, over one of the stores: tests for each of
+    them."""
 
     BY_ITSELF = ('look', 'take', 'append', 'wait', 'renew')  # what a member asks alone in its group
     BY_A_WISH = ('promise', 'finish', 'opening')  # and once something else is wished for
@@ -72,7 +73,8 @@ class Away(Tests):
                 self.assertIn('node b: its node is not in the group any more', told.output[-1])
 
     def pause(self, call: str) -> None:
-        """A member of node `b` has begun, and is held at this call now; or is about to ask that once something is wished for."""
+        """A member of node `b` has begun, and is held at this call now; or is about to ask that once something is
+        wished for."""
         self.log = self.created()
         self.holds = Held(self.handle(self.log))
         self.member = Member(cast(Log, self.holds), 'b', lambda work: None, lambda work: None, ttl=1.0)
@@ -100,7 +102,8 @@ class Away(Tests):
             failures.append(failure)
 
     def pass_epoch(self, *names: str) -> None:
-        """The group has these nodes in a later epoch, and the rows of the first one are gone. Then the member goes on."""
+        """The group has these nodes in a later epoch, and the rows of the first one are gone. Then the member goes
+        on."""
         resizing.resize(self.log, settings.Settings(Setup(len(names), 5), names), PATIENCE)
         wait_until(self.holds.is_held.is_set)
         self.take_away()

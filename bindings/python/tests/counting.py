@@ -12,8 +12,8 @@ CLEANUP_MAX = 5  # seconds for each clean-up of a test that hung
 
 
 class CountingResult(unittest.TextTestResult):
-    """Counts what was tried: each part of a test by itself, and the rest of the test as one more. A test that hangs fails, and
-    is the last one of its module: what it hangs by others may hang by, too."""
+    """Counts what was tried: each part of a test by itself, and the rest of the test as one more. A test that hangs
+    fails, and is the last one of its module: what it hangs by others may hang by, too."""
 
     passed = 0
 

@@ -74,7 +74,8 @@ class EpochLaws(Tests):
         self.assertEqual(set(present(log)), {'b'})
 
     def test_promises_of_two_epochs(self) -> None:
-        """The same place of another epoch is another place: nothing is appended until all have promised that of the current one."""
+        """The same place of another epoch is another place: nothing is appended until all have promised that of the
+        current one."""
         log, other = self.two()
         self.assertTrue(log.take('b', B, EMPTY, self.LONG))
         self.assertTrue(log.finish(1, 0, NEXT))
@@ -88,8 +89,8 @@ class EpochLaws(Tests):
         self.assertTrue(log.append(2, 0, ['recover,1']))
 
     def test_late_promises_at_an_end(self) -> None:
-        """No epoch ends while somebody hasn't promised its end, a stranger or one of two epochs ago among them; and no promise that comes
-        late lets it."""
+        """No epoch ends while somebody hasn't promised its end, a stranger or one of two epochs ago among them; and no
+        promise that comes late lets it."""
         log, other = self.two()
         self.assertTrue(log.take('b', B, EMPTY, self.LONG))
         self.assertTrue(log.take('stranger', C, EMPTY, self.LONG))

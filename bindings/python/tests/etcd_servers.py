@@ -51,7 +51,8 @@ def free_ports(count: int) -> list[int]:
 
 
 class Place(NamedTuple):
-    """Where a server listens: for clients, and for the other servers; and the words by which a process is begun there."""
+    """Where a server listens: for clients, and for the other servers; and the words by which a process is begun
+    there."""
 
     client: Endpoint
     peer: Endpoint
@@ -307,8 +308,8 @@ def make_certificates(folder: Path) -> None:
 
 
 def add_users(server: Server) -> None:
-    """Users of an etcd that log in from now on, each with its name and ` password`: `member` writes below `x/`, `reader` reads there, and
-    `other` writes elsewhere."""
+    """Users of an etcd that log in from now on, each with its name and ` password`: `member` writes below `x/`,
+    `reader` reads there, and `other` writes elsewhere."""
     for user, role in (('root', 'root'), ('member', 'group'), ('reader', 'looking'), ('other', 'elsewhere')):
         server.ask('/v3/auth/user/add', {'name': user, 'password': f'{user} password'})
         server.ask('/v3/auth/role/add', {'name': role})

@@ -19,7 +19,8 @@ PUT = b'request_put'
 
 
 class Proxy:
-    """Stands between a log and a server. It loses, once, an answer or a request, the first whose request has these bytes."""
+    """Stands between a log and a server. It loses, once, an answer or a request, the first whose request has these
+    bytes."""
 
     def __init__(self, port: int, host: str = '127.0.0.1') -> None:
         self.port = port  # of the server

@@ -271,7 +271,8 @@ class Laws(Tests):
         self.assertGreater(refused, 0, 'no two have met')
 
     def race(self, logs: list[Log], times: int) -> tuple[int, int]:
-        """Each handle appends so often, in a thread of its own. How many appends were done, and how many were refused."""
+        """Each handle appends so often, in a thread of its own. How many appends were done, and how many were
+        refused."""
         counts, barrier = [0, 0], threading.Barrier(len(logs))
         guard = threading.Lock()
 

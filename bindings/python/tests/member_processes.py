@@ -40,7 +40,8 @@ TALKS = """
 
 
 def started(folder: Path, words: Sequence[str], said: BinaryIO | None = None, /, **more: str) -> subprocess.Popen[bytes]:
-    """The process of these words, whose place is this folder, with more in its environment. What it says is for that file, or one of the folder."""
+    """The process of these words, whose place is this folder, with more in its environment. What it says is for that
+    file, or one of the folder."""
     with said or open(folder / 'said', 'wb') as file:
         return subprocess.Popen(words, env=environment(PLACE=str(folder), **more), stderr=file)
 

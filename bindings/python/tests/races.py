@@ -33,7 +33,8 @@ print(refused)
 
 
 def race(test: unittest.TestCase, log: Log, kind: str, where: str) -> None:
-    """Processes append, each as soon as it can. Each append stands once and as a whole, and in the order of its process."""
+    """Processes append, each as soon as it can. Each append stands once and as a whole, and in the order of its
+    process."""
     words, refused = [sys.executable, '-W', 'error', '-c', RACER], 0
     pipes: dict[str, Any] = {'stdin': subprocess.PIPE, 'stdout': subprocess.PIPE, 'universal_newlines': True}
     with contextlib.ExitStack() as opened:

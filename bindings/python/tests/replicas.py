@@ -4,7 +4,8 @@ from __future__ import annotations
 from bully import Replica
 from .traces import log_of
 
-# What the nodes of even groups of 3 and of 7 partitions append, if all of them recover and then have turns in rising order.
+# What the nodes of even groups of 3 and of 7 partitions append, if all of them recover and then have turns in rising
+# order.
 ELECTION_OF_TWO = log_of(
     'recover,1', 'recover,2', 'call,1', 'move,2', 'call,2', 'move,2', 'call,2', 'move,2', 'plan,2,1 1 2', 'call,2', 'move,2',
 )  # fmt: skip
@@ -23,7 +24,8 @@ def shown(replica: Replica) -> list[object]:
 
 
 class Member:
-    """A process of one node, with its replica of a log, to which it appends a row behind all rows that it read, or not at all."""
+    """A process of one node, with its replica of a log, to which it appends a row behind all rows that it read, or not
+    at all."""
 
     def __init__(self, header: str, log: list[str], node: int) -> None:
         self.replica, self.log, self.node = Replica(header), log, node

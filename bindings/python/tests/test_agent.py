@@ -1,4 +1,5 @@
-"""Tests of agents. What is wanted comes from `docs/FORMATS.md`, `docs/ALGORITHM.md`, `docs/NODE.md` and `include/bully.h`."""
+"""Tests of agents. What is wanted comes from `docs/FORMATS.md`, `docs/ALGORITHM.md`, `docs/NODE.md` and
+`include/bully.h`."""
 from __future__ import annotations
 
 import copy

@@ -83,7 +83,8 @@ class Commands(InFolder):
             self.assertEqual(self.of_log('init', '--config', str(self.config), '--epoch', epoch)[0], 2)
 
     def test_bad_rows(self) -> None:
-        """What is no row, no event, no wish or no opening is told with its place, and by the status that a new try doesn't help."""
+        """What is no row, no event, no wish or no opening is told with its place, and by the status that a new try
+        doesn't help."""
         cases = (
             ("insert into log values (1, 1, char(10), 0)", 'what stands at place 1 of epoch 1 is no row'),
             ("insert into log values (1, 1, 'recover,1' || char(13, 10), 0)", 'what stands at place 1 of epoch 1 is no row'),
@@ -114,7 +115,8 @@ class Commands(InFolder):
                     self.assertIn(told, why)
 
     def test_repair(self) -> None:
-        """What is damaged is told, and cut once that is wanted and nobody is present. What is lawful stays, and tokens are new."""
+        """What is damaged is told, and cut once that is wanted and nobody is present. What is lawful stays, and tokens
+        are new."""
         cases = (
             ("update log set rows = rows || char(10) || 'start,2' || char(10)", 5, ['', 'start,2'], "'' is no row"),
             ("update log set rows = rows || 'end,bully,1,3,6' || char(10)", 4, ['end,bully,1,3,6'], 'row 5: A row has no form of a row'),

@@ -1,5 +1,5 @@
-"""Tests of settlements and of a member's rules. What is wanted comes from `docs/ALGORITHM.md` and `include/bully.h`, and
-never from what the library answered. `try` runs them."""
+"""Tests of settlements and of a member's rules. What is wanted comes from `docs/ALGORITHM.md` and `include/bully.h`,
+and never from what the library answered. `try` runs them."""
 from __future__ import annotations
 
 import copy

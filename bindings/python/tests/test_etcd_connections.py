@@ -190,7 +190,8 @@ class Killed(InEtcd):
         return str(found['create_revision']) if found else None
 
     def test_leader_of_before(self) -> None:
-        """One that was paused, and doesn't know that another life holds the presence: what is asked of it late is nothing to that one."""
+        """One that was paused, and doesn't know that another life holds the presence: what is asked of it late is
+        nothing to that one."""
         servers = self.servers(3)
         self.created(servers.address('x'))
         for number in range(3):
@@ -268,8 +269,8 @@ class Killed(InEtcd):
         wait_until(is_over)
 
     def test_late_end_by_a_leader_of_before(self) -> None:
-        """A leader that was paused for longer than a lease, and comes back, doesn't end what was renewed meanwhile: nor does it take promises
-        away."""
+        """A leader that was paused for longer than a lease, and comes back, doesn't end what was renewed meanwhile: nor
+        does it take promises away."""
         servers = self.servers(3)
         self.created(servers.address('x'))
         for number in range(3):

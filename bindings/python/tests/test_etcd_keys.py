@@ -198,7 +198,8 @@ class Prefixes(InEtcd):
 
     @unittest.skipIf(os.getuid() != 0, 'only root can have a network of its own')
     def test_silent_names(self) -> None:
-        """A call doesn't last longer than it is told, where nobody answers which address a name has: the C library waits for 5 s at least."""
+        """A call doesn't last longer than it is told, where nobody answers which address a name has: the C library
+        waits for 5 s at least."""
         with tempfile.TemporaryDirectory() as folder:
             Path(folder, 'resolv.conf').write_text('nameserver 127.0.0.1\n')
             within = f'ip link set lo up && mount --bind {folder}/resolv.conf /etc/resolv.conf && exec "$@"'
@@ -285,7 +286,8 @@ class Contents(InEtcd):
                 self.assertEqual(list(log.read(1, 0)), rows)
 
     def test_a_part_is_taken_away(self) -> None:
-        """Of an epoch that was taken away no row is read, also if rows of it are left: who took it away was ended in the middle of that."""
+        """Of an epoch that was taken away no row is read, also if rows of it are left: who took it away was ended in
+        the middle of that."""
         log, other = self.begun(), self.opened()
         for number in range(5):
             add(log, [f'start,{number}'] * 2)

@@ -1,4 +1,5 @@
-"""Tests of the command `bully-member` and of members over etcd. `try` runs them; without the program `etcd` on the path they are skipped."""
+"""Tests of the command `bully-member` and of members over etcd. `try` runs them; without the program `etcd` on the path
+they are skipped."""
 from __future__ import annotations
 
 import json
@@ -32,7 +33,8 @@ TTL = 2  # seconds
 SLOW = 20.0  # seconds that a log of the test's own waits for answers
 NAMES: list[str] = TOP['names']
 PASSWORD = 'BULLY_ETCD_PASSWORD'
-# Tells when two work on one partition, or one by a token below the last one's; else each unit of work is a line in the file of its partition.
+# Tells when two work on one partition, or one by a token below the last one's; else each unit of work is a line in the
+# file of its partition.
 WORKER = [sys.executable, '-I', '-S', str(ROOT / 'tests' / 'members' / 'worker.py')]
 
 def setUpModule() -> None:
@@ -89,7 +91,8 @@ class OverEtcd(WithEtcd, WithFolder):
         return {partition: (int(lines[-1].split()[0]), lines[-1].split()[1]) for partition, lines in found.items() if lines}
 
     def share(self, behind: int, partitions: int, *names: str) -> int:
-        """These nodes, and no others, work on so many partitions by one token behind that one, once they do. The token."""
+        """These nodes, and no others, work on so many partitions by one token behind that one, once they do. The
+        token."""
         tokens: set[int] = set()
 
         def do_share() -> bool:
@@ -363,7 +366,8 @@ class Groups(OverEtcd):
         self.judge(1)
 
     def test_resized(self) -> None:
-        """Members go on by their names in a new epoch, also one that was paused until the old one was taken away. Who has none there ends."""
+        """Members go on by their names in a new epoch, also one that was paused until the old one was taken away. Who
+        has none there ends."""
         self.make()
         members = {name: self.begin_work(name) for name in NAMES}
         token = self.share(0, 6, 'a', 'b', 'c')

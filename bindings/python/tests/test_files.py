@@ -211,7 +211,8 @@ except LogError as fault:
                 call()
 
     def test_beside(self) -> None:
-        """A backup is copied over it, and what was beside it is taken away: who used it doesn't go on in what is in no folder any more."""
+        """A backup is copied over it, and what was beside it is taken away: who used it doesn't go on in what is in no
+        folder any more."""
         for ends in (('-wal', '-shm'), ('-wal',), ('-shm',)):
             log = self.begun()
             backup = self.path.read_bytes()
@@ -263,7 +264,8 @@ except LogError as fault:
         self.assertEqual(in_mounts(self, f'mount --bind {self.folder} {elsewhere}', OPENS, str(elsewhere / self.path.name)), 'used\n')
 
     def test_earlier_boot(self) -> None:
-        """What was held before the machine booted isn't held any more, though its end hasn't come by the clock that began again."""
+        """What was held before the machine booted isn't held any more, though its end hasn't come by the clock that
+        began again."""
         self.begun().close()
         clock = mock.patch.object(sqlite, 'nanoseconds_of_boot', Clock())
         clock.start()
@@ -279,8 +281,8 @@ except LogError as fault:
         self.assertTrue(later.renew('a', B, LONG))
 
     def test_two_boots(self) -> None:
-        """A machine has one boot at a time: of two over one file the earlier one is refused, also when it comes again. By one clock the later
-        one waits until no presence of the earlier one may be held."""
+        """A machine has one boot at a time: of two over one file the earlier one is refused, also when it comes again.
+        By one clock the later one waits until no presence of the earlier one may be held."""
         log, clock = self.begun(), Clock()
         with mock.patch.object(sqlite, 'boot_name', lambda: 'another'):
             later = self.opened()

@@ -163,7 +163,8 @@ class Tables(unittest.TestCase):
 
 
 class HeaderRows(unittest.TestCase):
-    """`Setup.header` is the header of `docs/FORMATS.md`: of version 1 if that can tell the setup, and else of version 2."""
+    """`Setup.header` is the header of `docs/FORMATS.md`: of version 1 if that can tell the setup, and else of version
+    2."""
 
     wanted = [
         (TWO, 'bully,1,2,3'),

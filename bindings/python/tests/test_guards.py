@@ -148,7 +148,8 @@ class Guards(Below):
             wait_until(lambda: not thread.is_alive())
 
     def test_until(self) -> None:
-        """It is killed at that moment, also while it is stopped, and with what it started. Whose worker it was is told then."""
+        """It is killed at that moment, also while it is stopped, and with what it started. Whose worker it was is told
+        then."""
         workers = self.begin('stubborn', seconds=3.0)
         os.kill(self.worker, signal.SIGSTOP)
         until = clocks.seconds_of_boot() + 0.5
@@ -207,7 +208,8 @@ class Guards(Below):
         self.assertEqual(self.lost, [])
 
     def test_fails_at_once(self) -> None:
-        """It is begun again, each time twice as late, and its member doesn't end. A change of what it owns is no reason to begin it sooner."""
+        """It is begun again, each time twice as late, and its member doesn't end. A change of what it owns is no reason
+        to begin it sooner."""
         begins = self.folder / 'begins'
         workers = self.made(['sh', '-c', f'echo $BULLY_TOKEN >> {begins}; exit 7'], ttl=2.0)
         workers.start(assigned(2, 0))
@@ -228,8 +230,8 @@ class Guards(Below):
         self.assertEqual(self.failures, [])
 
     def test_stuck(self) -> None:
-        """A worker that doesn't end though it was killed is told of, and isn't waited for by a member that is to leave. Its guard is there until
-        it has ended."""
+        """A worker that doesn't end though it was killed is told of, and isn't waited for by a member that is to leave.
+        Its guard is there until it has ended."""
         workers = self.made([sys.executable, '-c', WORKER, str(self.folder), 'stubborn'], 0.1, ttl=1.0)
         self.begin_again(workers)
         freeze(self, self.worker)
@@ -281,8 +283,8 @@ class Guards(Below):
         self.assertEqual((self.failures, self.lost, workers._guard.poll()), ([], [], None))
 
     def test_stopped_guard(self) -> None:
-        """One that doesn't kill the worker at its moment, or doesn't tell that it has stopped, is killed with all that it began. So is one that
-        doesn't begin it."""
+        """One that doesn't kill the worker at its moment, or doesn't tell that it has stopped, is killed with all that
+        it began. So is one that doesn't begin it."""
         for stops in (False, True):
             with self.subTest(stops=stops):
                 workers = self.begin('stubborn', patience=0.1)
@@ -312,7 +314,8 @@ class Guards(Below):
         self.assertTrue(self.are_gone())
 
     def test_until_behind_a_stop(self) -> None:
-        """A worker that was told to stop, and has much time for that, is killed at the moment until which its work is sure."""
+        """A worker that was told to stop, and has much time for that, is killed at the moment until which its work is
+        sure."""
         workers = self.begin('stubborn', patience=3600.0)
         workers.hear_until(clocks.seconds_of_boot() + 0.3)
         thread = threading.Thread(target=workers.stop, args=[self.assignment], daemon=True)
@@ -322,7 +325,8 @@ class Guards(Below):
         self.assertEqual((self.failures, self.lost), ([], []))
 
     def test_another_user(self) -> None:
-        """What can't be killed is told, and nothing is stopped, or begun again, until it is gone, also if its member is to leave."""
+        """What can't be killed is told, and nothing is stopped, or begun again, until it is gone, also if its member is
+        to leave."""
         if os.getuid() != 0:
             self.skipTest('only root can be somebody else')
         rooted = self.folder / 'rooted'
@@ -357,7 +361,8 @@ class Guards(Below):
             member.stdin.close()
 
     def test_clocks(self) -> None:
-        """The moment counts by the clock that goes on in a sleep of the machine, and which another one is far from here."""
+        """The moment counts by the clock that goes on in a sleep of the machine, and which another one is far from
+        here."""
         if os.getuid() != 0:
             self.skipTest('only root can have clocks of its own')
         words = ['unshare', '--time', '--boottime', '1000000', '--fork', '--kill-child', sys.executable, '-c', CLOCKS, str(self.folder / 'group.db')]

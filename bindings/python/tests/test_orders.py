@@ -57,7 +57,8 @@ class Values(unittest.TestCase):
         self.assertEqual(self.seen({**there, 'x': Holder(C, IDLE)}, Orders(), is_wished=True), Seen(1, wanted, True, True))
 
     def test_a_pause(self) -> None:
-        """All that are up in the log work, but for its own presence; nobody else is there, nothing is wished for, and nothing can be settled."""
+        """All that are up in the log work, but for its own presence; nobody else is there, nothing is wished for, and
+        nothing can be settled."""
         paused = Orders(lives={'a': A, 'b': B, 'c': C})
         others = Presence(2, B, Promise()), Presence(3, C, Promise())
         works = Seen(1, (Presence(1, A, WORKS), *others), True, False)
@@ -213,7 +214,8 @@ class Ordered(Threads):
         wait_until(lambda: str(node) not in self.log.presences)
 
     def looks(self, change: Callable[[], object]) -> int:
-        """How often the log is looked at by all behind a change, while the first member renews four times, which is one ttl."""
+        """How often the log is looked at by all behind a change, while the first member renews four times, which is one
+        ttl."""
         count, look = [0], self.log.look
 
         def counted(epoch: int, place: int) -> Found:
@@ -229,7 +231,8 @@ class Ordered(Threads):
     # A drained node.
 
     def test_a_drained_node(self) -> None:
-        """It leaves in one change, its process stays and does nothing, and comes back as another life once that is over."""
+        """It leaves in one change, its process stays and does nothing, and comes back as another life once that is
+        over."""
         self.begin_members(1, 2, 3)
         self.rest(1, 2, 3)
         before, plans, (member, told, thread) = self.log.presences['2'].life, self.plans(), self.members[2]
@@ -298,7 +301,8 @@ class Ordered(Threads):
     # A pause.
 
     def test_a_death_in_a_pause(self) -> None:
-        """The others work on by the same token, nothing is appended, and its partitions wait. Behind the pause all comes to rest."""
+        """The others work on by the same token, nothing is appended, and its partitions wait. Behind the pause all
+        comes to rest."""
         self.begin_members(1, 2, 3)
         self.rest(1, 2, 3)
         rows, told = self.log.rows[:], [len(self.members[node][1]) for node in (1, 2)]
@@ -366,7 +370,8 @@ class Ordered(Threads):
         wait_until(member.assignment)
 
     def test_a_change_under_way(self) -> None:
-        """Who has promised to be idle when the pause begins can't go on, so that change is finished first, and the next one waits."""
+        """Who has promised to be idle when the pause begins can't go on, so that change is finished first, and the next
+        one waits."""
         is_over = threading.Event()
         self.addCleanup(is_over.set)
         is_over.set()

@@ -1,4 +1,5 @@
-"""Tests of the package as a whole: what it says of itself, what of `include/bully.h` it has, and how the library is found."""
+"""Tests of the package as a whole: what it says of itself, what of `include/bully.h` it has, and how the library is
+found."""
 from __future__ import annotations
 
 import os
@@ -143,7 +144,8 @@ class Loading(unittest.TestCase):
                 self.assertIn('OSError', ran.stderr)
 
     def test_a_package_alone(self) -> None:
-        """One that was copied out of its tree takes the header that lies with the library, and says so if there is none."""
+        """One that was copied out of its tree takes the header that lies with the library, and says so if there is
+        none."""
         name = 'import bully; print(bully.status_name(0))'
         with tempfile.TemporaryDirectory() as room:
             shutil.copytree(PYTHON / 'bully', Path(room) / 'bully', ignore=shutil.ignore_patterns('__pycache__'))

@@ -150,7 +150,8 @@ class Pages(unittest.TestCase):
         wait_until(lambda: threading.active_count() == threads)
 
     def test_slow_readers(self) -> None:
-        """Whoever asks, and doesn't take the answer, counts up to the end of its time: of more of them all are closed."""
+        """Whoever asks, and doesn't take the answer, counts up to the end of its time: of more of them all are
+        closed."""
         big = 200, 'text/plain', 'x' * 20_000_000
         threads = threading.active_count()
         with contextlib.ExitStack() as opened:

@@ -39,7 +39,8 @@ class Processes(InFolder):
     def begin(
         self, worker: str, writer: Callable[[], None] | None = None, *more: str, said: BinaryIO | None = None
     ) -> MemberProcess:  # fmt: skip
-        """A member for the only node of a group, with a worker in shell; once the writer, if any, has the file's lock."""
+        """A member for the only node of a group, with a worker in shell; once the writer, if any, has the file's
+        lock."""
         config = self.folder / 'group.toml'
         config.write_bytes(toml({**TOP, 'nodes': 1, 'names': ['the only'], 'weights': [3]}))
         self.assertEqual(command.main(['init', '--config', str(config), '--log', f'sqlite:{self.path}']), 0)
@@ -108,7 +109,8 @@ class Processes(InFolder):
         self.assertEqual(member.end(), 0)
 
     def test_told_to_end_before_it_takes_part(self) -> None:
-        """It waits for a store, and ends in order all the same: as the first process of a container no signal ends it by itself."""
+        """It waits for a store, and ends in order all the same: as the first process of a container no signal ends it
+        by itself."""
         with socket.create_server(('127.0.0.1', 0)) as silent:
             words = ['--log', f'etcd://127.0.0.1:{silent.getsockname()[1]}/x', '--node', 'a']
             member = MemberProcess(self.folder, words, ['true'])
@@ -131,7 +133,8 @@ class Processes(InFolder):
         self.assertEqual(member.end(), 0)
 
     def test_a_stopped_writer(self) -> None:
-        """While one is stopped in the middle of a write no other renews. It is killed before the work of the others is over."""
+        """While one is stopped in the middle of a write no other renews. It is killed before the work of the others is
+        over."""
         member = self.begin(BEGINS, None, '--ttl', '8')
         worker = member.worker()
         words = f'''
@@ -245,7 +248,8 @@ os.kill(os.getpid(), signal.SIGSTOP)
         self.assertEqual(self.left(), ('crash,1', {}))
 
     def test_a_worker_that_does_not_end(self) -> None:
-        """All wait for it, and are told so, until SIGTERM ends its member. That gives nothing back: its presence ends by itself."""
+        """All wait for it, and are told so, until SIGTERM ends its member. That gives nothing back: its presence ends
+        by itself."""
         member = self.begin(BEGINS, None, '--stop-seconds', '0.1')
         worker, log = member.worker(), self.opened()
         freeze(self, worker)
@@ -265,7 +269,8 @@ os.kill(os.getpid(), signal.SIGSTOP)
         wait_until(lambda: not is_running(worker))
 
     def test_a_service(self) -> None:
-        """What started it hears that it is ready, how it stands, and that it goes on. Its worker has no part in that."""
+        """What started it hears that it is ready, how it stands, and that it goes on. Its worker has no part in
+        that."""
         with socket.socket(socket.AF_UNIX, socket.SOCK_DGRAM) as manager:
             manager.bind(str(self.folder / 'manager'))
             manager.settimeout(PATIENCE)
@@ -284,7 +289,8 @@ os.kill(os.getpid(), signal.SIGSTOP)
         self.assertEqual(member.wait(), 0)
 
     def test_drained(self) -> None:
-        """Its worker ends and its process stays, is well, and says so to all that ask. It works again once that is over, and ends in order."""
+        """Its worker ends and its process stays, is well, and says so to all that ask. It works again once that is
+        over, and ends in order."""
         with socket.create_server(('127.0.0.1', 0)) as free:
             port = free.getsockname()[1]
 
@@ -413,7 +419,8 @@ os.kill(os.getpid(), signal.SIGSTOP)
         self.assertEqual(member.end(), 0)
 
     def test_killed_with_its_guard_in_a_container(self) -> None:
-        """There what the worker began ends, too: the first process of a container, which waits for the member, is its end."""
+        """There what the worker began ends, too: the first process of a container, which waits for the member, is its
+        end."""
         if os.getuid() != 0:
             self.skipTest('only root can have processes of its own numbers')
         begun = self.begin(STARTS)

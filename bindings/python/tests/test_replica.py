@@ -1,4 +1,5 @@
-"""Tests of replicas. What is wanted comes from `docs/FORMATS.md`, `docs/ALGORITHM.md`, `docs/NODE.md` and `include/bully.h`."""
+"""Tests of replicas. What is wanted comes from `docs/FORMATS.md`, `docs/ALGORITHM.md`, `docs/NODE.md` and
+`include/bully.h`."""
 from __future__ import annotations
 
 import copy
@@ -82,8 +83,8 @@ class Elections(unittest.TestCase):
         self.expect(first, ELECTION_OF_TWO + dies, 31, 1, (1, 1, 1), [1])
 
     def test_forgotten_task(self) -> None:
-        """A coordinator that comes back without its task plans from the last plan's table: nothing moves. Without that table it
-        would be 1 1 2."""
+        """A coordinator that comes back without its task plans from the last plan's table: nothing moves. Without that
+        table it would be 1 1 2."""
         log: list[str] = []
         first, second = (Member('bully,1,2,3', log, node) for node in (1, 2))
         second.append(second.read().recover(2))

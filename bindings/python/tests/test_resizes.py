@@ -182,7 +182,8 @@ class Resizes(InFolder):
         self.assertEqual(dict(self.opened().look(1, 0).presences), {})
 
     def test_an_idle_stranger(self) -> None:
-        """While one is present who has promised the end of the log, as `resize` has, members wait, and don't ask again and again."""
+        """While one is present who has promised the end of the log, as `resize` has, members wait, and don't ask again
+        and again."""
         self.make(1, 3)
         log, life = self.opened(), Life(9, 1)
         self.assertTrue(log.take('stranger', life, Promise(1, 0), LONG))

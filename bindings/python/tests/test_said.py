@@ -27,8 +27,8 @@ class Said(unittest.TestCase):
             logger.info('number %d', number)
 
     def test_left_out(self) -> None:
-        """While nobody reads it finds some room, and what finds none is counted: that is told with the next message, or at the end. All else is
-        written, also if the pipe is one that doesn't block."""
+        """While nobody reads it finds some room, and what finds none is counted: that is told with the next message, or
+        at the end. All else is written, also if the pipe is one that doesn't block."""
         for blocks, ends in ((True, False), (False, False), (True, True)):
             with self.subTest(blocks=blocks, ends=ends):
                 self.leave_out(blocks, ends)

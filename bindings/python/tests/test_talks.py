@@ -18,7 +18,8 @@ from .places import ROOT
 from .processes import children, descriptors_of, is_running
 from .waiting import PATIENCE, wait_until
 
-# One that stays, and writes what it is told. It is `silent`, or answers too often, or ends in place of an answer, or at its second begin.
+# One that stays, and writes what it is told. It is `silent`, or answers too often, or ends in place of an answer, or at
+# its second begin.
 TALKING = """
 import json, os, sys
 folder, way = sys.argv[1:]

@@ -1,4 +1,5 @@
-"""Traces that many tests take. What is wanted comes from `docs/FORMATS.md`, `docs/ALGORITHM.md` and the files of `examples/`."""
+"""Traces that many tests take. What is wanted comes from `docs/FORMATS.md`, `docs/ALGORITHM.md` and the files of
+`examples/`."""
 from __future__ import annotations
 
 from collections.abc import Iterable, Sequence
@@ -49,7 +50,8 @@ def end_of(state: State, task: Sequence[int] | None) -> str:
 
 
 def log_of(*steps: str) -> list[str]:
-    """Rows of a log. `call,i` stands for those of a call of node i that runs, and `fail,i` for those of one that is lost."""
+    """Rows of a log. `call,i` stands for those of a call of node i that runs, and `fail,i` for those of one that is
+    lost."""
     whole = {'call': ('start', 'run', 'return'), 'fail': ('start', 'lose', 'return')}
     rows: list[str] = []
     for step in steps:

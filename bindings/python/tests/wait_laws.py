@@ -151,7 +151,8 @@ class Waits(Tests):
             )
 
     def test_what_was_there(self) -> None:
-        """Nothing is awaited that is there already, also if it came before an earlier wait began, and whoever told of these lives."""
+        """Nothing is awaited that is there already, also if it came before an earlier wait began, and whoever told of
+        these lives."""
         log, other = self.pair()
         begun = time.monotonic()
         log.wait(1, 0, {'1': A}, Until.NEWS, PATIENCE)
