@@ -16,8 +16,8 @@ class Agent(Opened):
     loop of a process, and what the program has to keep.
 
     Each call that changes it is refused, by an exception, and changes nothing; or it is an event of the group, two
-    where a call failed, and `rows` has them for the log. An agent holds memory of the library until it is closed:
-    `with` closes it."""
+    where a call failed; `rows` has them for the log. It holds memory of the library until it is closed, as by
+    `with`."""
 
     _kind = 'bully_agent'
     _single = 'an agent is not copied: two of them would be two agents of one node'
@@ -47,8 +47,7 @@ class Agent(Opened):
         self._call('crash')
 
     def check(self) -> None:
-        """The idle node begins to check the others, where it is their coordinator. Raises Closed, Full, IsDown,
-        Busy."""
+        """The idle node, their coordinator, begins to check the others. Raises Closed, Full, IsDown, Busy."""
         self._call('check')
 
     def timeout(self) -> None:
@@ -89,8 +88,7 @@ class Agent(Opened):
     # What comes from other nodes, or goes to them. Lines have no line end.
 
     def request(self) -> str | None:
-        """The line of the request of the node's call, while that is under way; to be sent to its callee, once. No
-        event.
+        """The request of the node's call, while that is under way; to be sent to its callee, once. No event.
 
         Raises Closed, OutOfMemory."""
         return self._room.text(self._function('request')) or None
@@ -183,8 +181,7 @@ class Agent(Opened):
         return int(self._show().generation)
 
     def rows(self) -> list[str]:
-        """The rows of the node's last step, for the log, without their line ends, as `docs/FORMATS.md` has them of
-        version 3.
+        """The rows of the node's last step, for the log, of version 3, without their line ends.
 
         Raises Closed, OutOfMemory."""
         return self._room.text(self._function('rows')).splitlines()

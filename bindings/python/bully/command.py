@@ -358,10 +358,9 @@ STATUSES: tuple[tuple[type[Exception], int], ...] = (
 
 
 def main(words: list[str] | None = None) -> int:
-    """Runs the command by these words. Its status: 0; 1, if the worker ended by itself or its guard did, or it doesn't
-    end, or the epoch didn't, or the group isn't well; 2 of bad words; 3 of a fault of the configuration, or a log of
-    another group, or damaged; 4, if the log or a file can't be used; 5, if the group has no such node, or none any
-    more."""
+    """Runs the command by these words. Its status: 0; 1, if the worker or its guard ended by itself, the worker or the
+    epoch didn't end, or the group isn't well; 2 of bad words; 3 of a bad configuration, or a log that is another
+    group's, or damaged; 4, if the log or a file can't be used; 5, if the group has no such node."""
     options = parser().parse_args(words)
     try:
         return COMMANDS[options.command](options)

@@ -57,8 +57,7 @@ def room_of(nodes: int, limit: int) -> int:
 @dataclass(frozen=True)
 class Opening:
     """What an epoch begins with: its header, and the names of its nodes; how many rows it may have; the last table of
-    the epoch before, by this one's numbers of nodes, with 0 where the owner is none of them; and the ttl of all
-    members, if the log has one."""
+    the epoch before, by this one's numbers, 0 where the owner is none of its nodes; and the ttl, if the log has one."""
 
     epoch: int
     header: str
@@ -119,8 +118,7 @@ class Opening:
         return (wish or dataclasses.replace(self, epoch=self.epoch + 1)).bare
 
     def next(self, wish: Opening | None, table: Sequence[int]) -> Opening:
-        """The opening of the next epoch: with what is wished for, or else as this one; and with this epoch's last
-        table, if it has one."""
+        """The opening of the next epoch: with what is wished for, or else as this one; and with this last table."""
         after = self.after(wish)
         there = {name: number for number, name in enumerate(after.names, 1)}
         numbers = {number: there.get(name, 0) for number, name in enumerate(self.names, 1)}

@@ -10,8 +10,7 @@ Below a log's prefix stand
 - `next`, what the next epoch is to begin with, if something is wished for; and `orders`, if some are given;
 - `presence/life/NAME` and `presence/promise/NAME`, EPOCH/PLACE, under one lease of etcd's.
 
-EPOCH and PLACE have ten digits, so what is later is greater. What a call finds is of one revision, and no read is
-`serializable`.
+EPOCH and PLACE have ten digits, so what is later is greater. A call finds one revision; no read is `serializable`.
 
 A presence is renewed by its lease, without a write, while etcd has the leader under which the lease was granted. A
 leader of an earlier term that was paused may tell of renewals that no other knows, and may end a lease that was renewed
@@ -109,8 +108,7 @@ class Keys:
         return range_from(begin, behind(self.rows(epoch)), limit=PAGE)
 
     def standing(self, since: int) -> list[Json]:
-        """The ranges of all that isn't a row: the end of the log, the wish, the orders, and the lives and promises that
-        were put behind a revision."""
+        """The ranges of all but rows: end of the log, wish, orders, and lives and promises put behind a revision."""
         newer = {'min_mod_revision': str(since + 1)}
         return [range_at(self.place), range_at(self.next), range_at(self.orders), range_below(self.lives, **newer), range_below(self.promises, **newer)]
 
@@ -120,8 +118,7 @@ class Keys:
 
 
 class Held(NamedTuple):
-    """The lease under which a life holds its presence, for how many seconds, and a term of etcd's that had begun when
-    it was granted."""
+    """The lease under which a life holds its presence, for how many seconds, and etcd's term when it was granted."""
 
     life: Life
     lease: int
@@ -191,8 +188,7 @@ class EtcdLog:
         return self._there(self._look(range_at(self._keys.place), range_at(self._keys.first)))
 
     def _there(self, answer: Answer) -> range:
-        """The same, by an answer with the end of the log and the first epoch. (Rows of earlier ones may be left, in
-        part.)"""
+        """The same, by an answer with the end of the log and the first epoch. (Rows of earlier ones may be left.)"""
         return range(int(value_of(answer.ranges[1]) or FIRST), self._end_of(answer.ranges[0]).epoch + 1)
 
     def opening(self, epoch: int | None = None) -> Opening:
@@ -311,8 +307,7 @@ class EtcdLog:
         return int(answer['header']['raft_term']) if int(answer.get('TTL', 0)) > 0 else None
 
     def _counts(self, held: Held, before: int | None, behind: int) -> bool:
-        """Whether a renewal counts, with etcd's terms before and behind it: no other leader than that of the grant has
-        done it."""
+        """Whether a renewal counts, by etcd's terms before and behind it: the leader of the grant has done it."""
         return held.term == before == behind
 
     def _granted(self, life: Life, ttl: int, term: int) -> Held:
@@ -324,8 +319,7 @@ class EtcdLog:
         return Held(life, int(granted['ID']), seconds, term)
 
     def _move(self, name: str, found: Pair, held: Held) -> bool:
-        """Puts a presence under a new lease, if nothing has been done to it since it was found. What was promised, also
-        meanwhile, stays."""
+        """Puts a presence under a new lease, if nothing was done to it since it was found. What is promised stays."""
         key, under = self._keys.life(name), str(held.lease)
         is_same = number_is(key, 'mod_revision', found.modified)
         moved = [put_at(key, life_text(held.life), lease=under), same(self._keys.promise(name), lease=under, ignore_value=True)]
@@ -396,8 +390,7 @@ class EtcdLog:
         raise Unanswered(f'{self.address}: each revision was compacted while it was read: {cause}') from cause
 
     def _rows(self, epoch: int, place: int, answer: Answer) -> Rows:
-        """The rows of an epoch behind that place: the first appends were found, as the last range, and the others are
-        read."""
+        """The rows of an epoch behind that place: the first appends were found as the last range, others are read."""
         keys, end = self._keys, self._end_of(answer.ranges[0])
         last = end.place if end.epoch == epoch else None  # of an epoch that is over it isn't known
         if last is not None and place >= last:
@@ -416,8 +409,7 @@ class EtcdLog:
         return rows_of(self.address, epoch, place, b''.join(texts))
 
     def _pages(self, epoch: int, found: Json, revision: int) -> Iterator[Pair]:
-        """The appends of an epoch, part by part, as they stand at one revision; the first part was found. Raises
-        Compacted."""
+        """The appends of an epoch as they stand at one revision; the first part was found. Raises Compacted."""
         while True:
             pairs = pairs_of(found)
             yield from pairs
@@ -462,8 +454,7 @@ class EtcdLog:
     # Looks and waits.
 
     def look(self, epoch: int, place: int) -> Found:
-        """Of lives and promises only those are read that are newer than the last look. If others are gone of which
-        nothing was told, all are."""
+        """Only lives and promises newer than the last look are read; all, if one is gone of which nothing told."""
         for since in (self._news.known, 0):
             answer, rows = self._read_with(epoch, place, lambda answer: self._end_of(answer.ranges[0]).epoch == epoch, *self._keys.standing(since))
             end = self._end_of(answer.ranges[0])
@@ -483,8 +474,7 @@ class EtcdLog:
             raise BadPresence(f'{self.address}: a presence is none: {fault}') from fault
 
     def wait(self, epoch: int, place: int, lives: Mapping[str, Life], until: Until, seconds: float, woken: int | None = None) -> None:
-        """By a watch. While many are present it tells of promises only where they are waited for: else each of them
-        would be told to all."""
+        """By a watch. While many are present it tells of promises only who waits for them."""
         end = seconds_of_boot() + seconds
         known, idle = self._seen_idle
         here = Promise(epoch, place)
@@ -551,8 +541,7 @@ class EtcdLog:
         return answer if answer.is_done else self._checked(answer)
 
     def _checked(self, answer: Answer) -> Answer:
-        """The answer, without the range of the name. Raises NoLog, OtherLog, if the log isn't the one that was
-        opened."""
+        """The answer, without the range of the name. Raises NoLog, OtherLog, if it isn't the log that was opened."""
         named, *others = answer.ranges
         name = value_of(named)
         if name is None:

@@ -10,8 +10,7 @@ FAULTS: dict[int, type[BullyError]] = {}  # by their statuses
 
 
 class BullyError(Exception):
-    """A call that the library refused, for the cause that its status names. Nothing has changed, but as NotLearned
-    says."""
+    """A call that the library refused, for the cause that its status names. Nothing has changed, but see NotLearned."""
 
     status: int = 0
 
@@ -47,8 +46,8 @@ class TraceFault(BullyError):
 class NotLearned(BullyError):
     """A row of a log isn't learned, nor are those behind it. `cause` is the exception that names why: one below
     Refused, if the row's event is refused; RowDiffers; BadRow or TooManyRows; or OutOfMemory. `taken` is how many rows
-    were learned before it, and stay so; `row` is its number in the log, whose header is row 1. The status is that of
-    the cause."""
+    were learned before it, and stay so; `row` is its number in the log, whose header is row 1; `status` is the
+    cause's."""
 
     taken: int = 0
     row: int = 0

@@ -57,8 +57,7 @@ class Address(NamedTuple):
 
 
 def read_address(words: str) -> Address:
-    """The address `etcd://HOST:PORT,HOST:PORT/PREFIX`, or with `etcds`. The prefix is taken as it is spelled, without
-    slashes at its end.
+    """The address `etcd://HOST:PORT,HOST:PORT/PREFIX`, or with `etcds`. The prefix has no slash at its end.
 
     Raises ValueError."""
     kind, mark, rest = words.partition('://')
@@ -240,8 +239,7 @@ def is_over(connection: http.client.HTTPConnection) -> bool:
 
 
 class Answer(NamedTuple):
-    """What a transaction came to: whether its conditions were so; what its ranges found; and the revision and the term
-    of etcd."""
+    """What a transaction came to: whether its conditions were so; what its ranges found; etcd's revision and term."""
 
     is_done: bool
     ranges: Sequence[Json]
@@ -340,8 +338,8 @@ class Client:
         return Answer(bool(answer.get('succeeded')), found, revision, term)
 
     def ask(self, path: str, request: Json, repeats: bool = False) -> Json:
-        """What etcd answers. If a server doesn't answer, the next one is asked: also of what may have been done, if
-        that `repeats`.
+        """What etcd answers. If a server doesn't, the next one is asked; for what may have been done only if it
+        `repeats`.
 
         Raises Unanswered, Denied and other LogErrors, Compacted."""
         causes: list[Silent] = []
@@ -458,8 +456,7 @@ class Client:
 
 
 class Subscription:
-    """What a server tells of changes, as it comes, over a connection of its own. (In HTTP/1.0 an answer isn't cut into
-    chunks.)"""
+    """What a server tells of changes, over a connection of its own. (In HTTP/1.0 an answer isn't cut into chunks.)"""
 
     def __init__(self, endpoint: Endpoint, connection: http.client.HTTPConnection) -> None:
         self.endpoint = endpoint
@@ -468,8 +465,7 @@ class Subscription:
         self._has_begun = False
 
     def events(self, seconds: float, woken: int | None = None) -> list[Json]:
-        """The next events, for which it waits so long at most, and until the descriptor has something to read. Raises
-        Silent, Denied."""
+        """The next events, once some come, the time is over, or the descriptor can be read. Raises Silent, Denied."""
         try:
             there = self._connection.sock
             is_left = isinstance(there, ssl.SSLSocket) and there.pending() > 0
@@ -516,7 +512,6 @@ class Subscription:
 
 
 def limit(connection: http.client.HTTPConnection, end: float) -> None:
-    """What is done next over the connection takes no longer than up to then. (Who is told that it ends with an answer
-    has no socket.)"""
+    """What is done next over the connection ends by then. (If it is to end with its answer it has no socket.)"""
     if connection.sock is not None:
         connection.sock.settimeout(max(LEAST_LIMIT, end - seconds_of_boot()))

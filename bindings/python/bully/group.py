@@ -64,8 +64,7 @@ def check(trace: str | bytes | bytearray | memoryview) -> Verdict:
 
 
 def plan_table(setup: Setup, members: Iterable[int], old: Sequence[int] | None = None) -> TablePlan:
-    """Plans the table over these members, balanced by weight, with the fewest moves from the old table; without one all
-    move.
+    """Plans the table over these members, balanced by weight, with the fewest moves from the old one, if any.
 
     Raises BadNodes, BadPartitions, BadLimit, BadWeights; BadNode of a member; TableLength or TableOwner of the old
     table; NoMember; OutOfMemory."""

@@ -1,5 +1,4 @@
-"""The guard: the one small process beside a member, for as long as that is there. It starts, ends and kills the
-member's workers.
+"""The guard: one small process beside a member, as long as that is there. It starts, ends and kills its workers.
 
     guard.py CHANNEL PATIENCE KIND FILE TTL WORKER ARGS..
 
@@ -13,12 +12,10 @@ CHANNEL is a socket to the member, by its number. The member says
 and the guard says `begun`; `stopped` behind a stop, once nothing of the worker is left; `lost`, if it has killed the
 worker since its time was over; `ended STATUS`, if that ended by itself; and before these `held PROCESSES`, if these are
 still there a twentieth of the ttl behind SIGKILL, as one of another user is. It kills a worker with all that it
-started, also while the member is stopped or dead, and behind a sleep of the machine. If the member is gone, that is as
-if it had said stop.
+started, also while the member is stopped or dead, and behind a sleep of the machine. One that is gone has said stop.
 
 If KIND is `talks`, a worker stays over changes: WORDS is then a line for its standard input, and so is {"stop": true}.
-It answers such a stop by a line `stopped` on the descriptor BULLY_ANSWERS, or it ends. What it answered before isn't
-heard.
+It answers such a stop by a line `stopped` on the descriptor BULLY_ANSWERS, or it ends. Earlier answers aren't heard.
 
 The guard also kills a member that stays stopped in the middle of a write to FILE, the one with the end `-shm` of a file
 of SQLite, on which whoever writes has a lock, within two fifths of the ttl: else others couldn't renew before theirs is
@@ -122,8 +119,7 @@ def may_kill(process: int) -> bool:
 
 
 def writer_of(file: str) -> int | None:
-    """The process that writes, if that can be told. (To open and close the file itself would lose the locks of this
-    process on it.)"""
+    """The process that writes, if that can be told. (To open and close the file itself would lose the locks on it.)"""
     with contextlib.suppress(OSError):
         inode = str(os.stat(file).st_ino)
         found = (writer_in(inode, Path('/proc/locks').read_text(encoding='ascii')) for _ in range(TIMES))
@@ -237,8 +233,7 @@ class Worker:
         self.tell(STOP)
 
     def end_all(self, seconds: float, tell: Callable[[list[int]], object]) -> int:
-        """Kills all that is left of it, and waits for that. Which processes are still there in so many seconds is told.
-        Its status."""
+        """Kills what is left of it, and waits for that. Its status. What is there still in so many seconds is told."""
         closed(self.end)
         closed(self.answers)
         if self.lines is not None:

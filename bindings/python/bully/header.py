@@ -36,8 +36,7 @@ def top_of_tree() -> Iterator[str]:
 
 
 def _places() -> Iterator[str]:
-    """Where the header may stand: beside this file, where a wheel has it; in this tree; or with the library that the
-    environment names."""
+    """Where the header may stand: beside this file, as in a wheel; in this tree; or beside the library."""
     yield HERE
     yield from (os.path.join(top, 'include') for top in top_of_tree())
     library = os.environ.get('BULLY_LIBRARY')
@@ -96,8 +95,7 @@ def _parted(declared: str) -> tuple[str, str]:
 
 
 def type_of(kind: str, structures: Mapping[str, Any]) -> Any:
-    """The type of ctypes for one of the header. These structures are known; what points to another one is handed on as
-    it is."""
+    """The type of ctypes for one of the header, by the structures that are known; a pointer to others as it is."""
     target, is_pointer, _ = kind.partition(' *')
     if not is_pointer:
         return _NUMBERS[target]

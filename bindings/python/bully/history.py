@@ -31,8 +31,7 @@ def traced(log: Callable[[], Log], older: Sequence[str] | None, epoch: int | Non
 
 
 def timed(rows: Sequence[str], times: Mapping[int, int | None]) -> list[str]:
-    """The rows of a trace, each behind the time of its append and a comma; behind the comma alone, if that isn't
-    kept."""
+    """The rows of a trace, each behind the time of its append, if that is kept, and a comma."""
     lines, told = [], ''
     for place, row in enumerate(rows, -1):
         told = time_text(times[place]) if place in times else told

@@ -54,8 +54,7 @@ class Learned(Opened):
 
     @property
     def rows(self) -> int:
-        """How many rows were learned, claims too: so the next one of a list of them, without the header, has this
-        index."""
+        """How many rows were learned, claims too: the index of the next one in a list without the header."""
         return int(self._group().rows)
 
     @property

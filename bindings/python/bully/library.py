@@ -79,8 +79,7 @@ def _declared(library: ctypes.CDLL, prototypes: list[tuple[str, Any, list[Any]]]
 
 
 def _own_places() -> Iterator[str]:
-    """Where the library stands that came with this package: beside it, in an archive, or at the top of the
-    repository."""
+    """Where the library stands that came with this package: beside it, in an archive, or in the repository."""
     yield HERE
     for top in top_of_tree():
         yield os.path.join(top, 'lib')
@@ -135,8 +134,7 @@ def numbers_of(what: str, values: Iterable[int]) -> tuple[ctypes.Array[ctypes.c_
 
 
 def owners_of(values: Iterable[int] | None) -> tuple[ctypes.Array[ctypes.c_uint16], int]:
-    """The same of the owners of a table, or none. To the library no owners are no table, but an empty table is one that
-    is too short."""
+    """The same of the owners of a table, if any. To the library none are no table, but an empty one is too short."""
     numbers, count = numbers_of('an owner', () if values is None else values)
     if values is not None and not count:
         raise TableLength()
@@ -201,8 +199,7 @@ class Room:
 
 
 def list_of(room: int, function: Callable[..., int], *arguments: Any) -> tuple[int, ...]:
-    """The numbers that the function writes, called with these arguments and so much room behind them, which holds them
-    all."""
+    """The numbers that the function writes, called with these arguments and room for so many behind them."""
     numbers, count = (ctypes.c_uint16 * room)(), ctypes.c_size_t()
     expect_ok(function(*arguments, numbers, room, ctypes.byref(count)))
     return tuple(numbers[: count.value])

@@ -106,37 +106,32 @@ class Found(NamedTuple):
 
     def is_frozen(self, end: Promise) -> bool:
         """Whether the group is paused, and nobody settles. Not yet, if one that was present when it was paused has
-        promised the end of the log since or before: it can't work by the last plan any more, so that change is finished
-        first."""
+        promised the end of the log since or before: it can't work by the last plan any more, and is settled first."""
         lives = self.orders.lives
         return lives is not None and not any(lives.get(name) == self.presences[name].life for name in self.idle(end))
 
 
 class Log(Protocol):
-    """A store that keeps one order in each epoch. Each call is done at one moment, or not at all; one call at a time. A
-    ttl is in whole nanoseconds."""
+    """A store with one order in each epoch. Each call is done at one moment, or not at all. A ttl is in nanoseconds."""
 
     def epochs(self) -> range:
         """The epochs whose rows are there. The last one is the current one."""
 
     def opening(self, epoch: int | None = None) -> Opening:
-        """What an epoch began with, also if its rows were taken away since; without a number that of the current one.
-        Raises NoEpoch."""
+        """What an epoch began with, also if its rows were taken away; else the current one. Raises NoEpoch."""
 
     def take(self, name: str, life: Life, promise: Promise, ttl: int) -> bool:
         """The life holds the presence of that name from now on for the ttl, with this promise, if nobody holds it, the
         promise's epoch is the current one, and its log ends at the promise's place. Whether it does."""
 
     def renew(self, name: str, life: Life, ttl: int) -> bool:
-        """The life holds the presence for the ttl from now on, if it held it up to now without a gap. Whether it
-        does."""
+        """The life holds the presence for the ttl from now on, if it has held it without a gap. Whether it does."""
 
     def release(self, name: str, life: Life) -> None:
         """The life doesn't hold the presence any more, if it did."""
 
     def promise(self, name: str, life: Life, promise: Promise) -> bool:
-        """The life has promised this from now on, or what it had, if that is later, if it holds the presence. Whether
-        it does."""
+        """The life has promised this, or what it had, if that is later, if it holds the presence. Whether it does."""
 
     def append(self, epoch: int, place: int, rows: Sequence[str]) -> bool:
         """All rows, of which there is one at least, stand behind this place from now on, if the epoch is the current
@@ -149,7 +144,7 @@ class Log(Protocol):
 
     def look(self, epoch: int, place: int) -> Found:
         """The rows of that epoch behind that place, if it is the current one, and what else is found at the same
-        moment. Who asks has read up to there, so a log that ends before is damaged; likewise of a read, an append and a
+        moment. Who asks has read up to there, so one that ends before is damaged; likewise in read, append and
         finish."""
 
     def wait(self, epoch: int, place: int, lives: Mapping[str, Life], until: Until, seconds: float, woken: int | None = None) -> None:
@@ -160,8 +155,7 @@ class Log(Protocol):
         sooner. What was so before the call is never missed."""
 
     def ask(self, wish: Opening, epoch: int) -> bool:
-        """That is wished for from now on, and nothing else, if the epoch is the current one, and the wish is one for
-        the next. Whether it is."""
+        """That alone is wished for, if the epoch is the current one, and the wish is for the next. Whether it is."""
 
     def cancel(self, epoch: int) -> None:
         """Nothing is wished for any more, if the epoch is the current one."""
@@ -190,8 +184,7 @@ def found_in(log: Log) -> Found:
 
 
 def openings_of(log: Log) -> Iterator[Opening]:
-    """What the epochs of the log began with, the current one first, each read once it is asked for. An earlier log may
-    have had those before."""
+    """What the epochs of the log began with, the current one first. An earlier log may have had those before."""
     with suppress(NoEpoch):
         for epoch in range(log.epochs()[-1], 0, -1):
             yield log.opening(epoch)

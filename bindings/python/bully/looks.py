@@ -1,5 +1,4 @@
-"""What a member is told of a look. While its group is paused it is told that all is as the log has it, so that it goes
-on, and settles nothing."""
+"""What a member is told of a look. In a pause it is told that all is as the log has it, so that it settles nothing."""
 from __future__ import annotations
 
 from collections.abc import Callable, Iterable, Mapping
@@ -10,8 +9,8 @@ from .member import Life, Presence, Promise, Seen, Until
 
 def seen_of(found: Found, end: Promise, name: str, numbers: Mapping[str, int], is_up: Callable[[int], bool]) -> Seen:
     """What the rules are told of a look, behind which the log ends there for them: for the node of this name, by the
-    numbers of all names, and by which numbers are up in the log. In a pause a stranger is told of, for whom all that
-    settle wait."""
+    numbers of all names, and by which numbers are up in the log. In a pause it tells of a stranger, who is waited
+    for."""
     is_frozen = found.is_frozen(end)
     presences = frozen(found, name, [each for each, number in numbers.items() if is_up(number)]) if is_frozen else found.presences
     there = sorted(Presence(numbers[each], holder.life, holder.promise) for each, holder in presences.items() if each in numbers)

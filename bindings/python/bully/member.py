@@ -36,8 +36,7 @@ class Promise:
 
 @dataclass(frozen=True, order=True)
 class Life:
-    """A try of a process to be present: no other process of the group ever has its number, and the process counts its
-    tries."""
+    """A try of a process to be present. No other process of the group ever has its number; it counts its tries."""
 
     process: int
     number: int
@@ -78,8 +77,7 @@ class Seen:
 
 
 class StoreAnswer(enum.Enum):
-    """What became of a request: it was done; it wasn't, and won't be; or it may be done later, or never, or was done
-    already."""
+    """What became of a request: it was done; it won't be; or it was done already, may be later, or never."""
 
     DONE, REFUSED, UNANSWERED = 'done', 'refused', 'unanswered'
 
@@ -258,15 +256,14 @@ class Core(Learned):
         return _STEPS[raw.kind](raw)
 
     def settlement(self) -> list[str]:
-        """The rows of an Append, without line ends: they bring the group to rest among those present, or, if the member
-        ends, among nobody.
+        """The rows of an Append, without line ends: they bring the group to rest among those present; at its end, with
+        nobody.
 
         Raises Full, if the log has no room for them; OutOfMemory."""
         return texts_of(self._room.text(self._function('settlement')))
 
     def owned(self) -> Owned | None:
-        """By which token the node may work, by a plan behind all that the life has promised, and on which partitions,
-        if on any.
+        """By which token the node may work, by a plan behind what the life has promised, and on what, if on any.
 
         Raises OutOfMemory."""
         return owned_of(self._partitions, self._function('owned'))
@@ -281,8 +278,7 @@ class Core(Learned):
         """The rows that a look found behind its place, before `looked`. A row that isn't learned, or that tells no
         event, ends the member as BROKEN; if it isn't learned, `fault` tells why.
 
-        Raises a NotLearned whose cause is OutOfMemory, and then the member doesn't end; and as `Replica.learn` a
-        ValueError or a TypeError."""
+        Raises a NotLearned of OutOfMemory, and then doesn't end; and as `Replica.learn` a ValueError or a TypeError."""
         try:
             self._learn(rows)
         except NotLearned as fault:
@@ -304,8 +300,7 @@ class Core(Learned):
         self._call('passed')
 
     def followed(self, now: int, opening: Opening | None) -> None:
-        """With what the current epoch begins; none, if the member's name isn't in it. Nothing changes if no follow is
-        awaited.
+        """With what the current epoch begins, if the member's name is in it. Nothing changes if none is awaited.
 
         Raises as `Core` does, but for BadTtl; then nothing changes."""
         if opening is None:

@@ -171,8 +171,7 @@ class MemoryLog:
                 self._changed.wait(max(0, min([end, *ends]) - self.clock()) / SECOND)
 
     def has_news(self, epoch: int, place: int, lives: Mapping[str, Life], wanted: Wanted, until: Until, before: AbstractSet[str]) -> bool:
-        """Whether a wait is over before its time behind a look that found this wish and these orders, and these idle up
-        to that place."""
+        """Whether a wait is over behind a look that found this wish, these orders, and these idle up to that place."""
         with self._changed:
             if Promise(epoch, place) != self._end() or wanted != (self.wish, self.orders):
                 return True

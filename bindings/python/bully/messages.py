@@ -1,5 +1,4 @@
-"""What a member says on standard error. A thread of its own writes that, so that a reader who hangs keeps nobody from
-work."""
+"""What a member says on standard error. A thread of its own writes that, so that no reader keeps it from work."""
 from __future__ import annotations
 
 import json
@@ -31,8 +30,7 @@ class JsonLines(logging.Formatter):
 
 
 def write(text: bytes) -> None:
-    """Writes it on standard error, however long that takes: also where others, as a worker, made that one which doesn't
-    block. Raises OSError."""
+    """Writes it on standard error, however long that takes, also if others made it not block. Raises OSError."""
     poll = select.poll()
     poll.register(STANDARD_ERROR, select.POLLOUT)
     while text:

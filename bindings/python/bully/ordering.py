@@ -29,8 +29,7 @@ def order(log: Log, change: Change) -> Orders:
 
 
 def drain(log: Log, name: str, takes_last: bool) -> Orders:
-    """The node of this name is drained. Raises NotInGroup; BadWords, if nobody would work then, unless that is what is
-    meant."""
+    """The node of this name is drained. Raises NotInGroup; BadWords, if nobody would work, unless that is meant."""
 
     def change(opening: Opening, found: Found) -> Orders:
         number_of(opening, name)

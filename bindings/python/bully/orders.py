@@ -1,5 +1,4 @@
-"""What an operator orders beside settings: nodes that are drained, and a pause of the group. Orders stand in the store,
-over all epochs.
+"""What an operator orders beside settings, over all epochs: nodes that are drained, and a pause of the group.
 
 A drained node takes no part. While a group is paused who works goes on, and nobody settles.
 """
@@ -22,8 +21,7 @@ class Orders:
 
     @staticmethod
     def parse(text: str) -> Orders:
-        """Those that `text` told. A ValueError, a KeyError, a TypeError or an AttributeError tells that these are
-        none."""
+        """Those that `text` told. Of what are none it raises ValueError, KeyError, TypeError or AttributeError."""
         document = json.loads(text or '{"drained": []}')
         lives = {str(name): Life(*map(int, life)) for name, life in document['paused'].items()} if 'paused' in document else None
         return Orders(frozenset(map(str, document['drained'])), lives)

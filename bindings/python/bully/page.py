@@ -1,5 +1,4 @@
-"""What a member tells over HTTP: a page for people, and its group for programs. It only tells: nothing can be changed
-through it."""
+"""What a member tells over HTTP: a page for people, and its group for programs. Nothing can be changed by it."""
 from __future__ import annotations
 
 import base64
@@ -300,8 +299,7 @@ class Page:
         return (200, 'text/plain', 'present\n') if self._sure_seconds() > 0 else (503, 'text/plain', 'not present\n')
 
     def _waited(self, events: int, epoch: int | None) -> bool:
-        """Waits for more events than these of this epoch, or else of the one that is current now. Those of another one
-        are more. Or too many wait."""
+        """Waits for more events than these of this epoch, or of the current one; or in another. Or too many wait."""
         if not self._polls.acquire(blocking=False):
             return False
         try:

@@ -1,5 +1,4 @@
-"""How a log is repaired in which something stands that is no row, or that its group refuses: all members end at it, so
-all have stopped.
+"""How a log is repaired in which something is no row, or is refused by its group: all members have ended at it.
 
 What is lawful stays, and what stands behind that is cut. The epoch ends there, and the next one begins, so that no
 token is used again.
@@ -21,8 +20,7 @@ NOWHERE = 2**63  # behind all places: where something stands that is no append
 
 
 class Kept(NamedTuple):
-    """What a store has of the current epoch, whatever it is: where its log ends, and the appends, by the places that
-    they stand behind."""
+    """What a store has of the current epoch, whatever it is: where its log ends, and the appends, by their places."""
 
     end: Promise
     appends: Sequence[tuple[int, bytes]]
@@ -57,8 +55,7 @@ class Damage(NamedTuple):
 
 
 def damage_of(log: Repairable) -> Damage | None:
-    """What is wrong with the rows of the log, if anything is. Raises DamagedLog, if not even its opening can be
-    read."""
+    """What is wrong with the rows of the log, if anything. Raises DamagedLog, if its opening can't be read."""
     opening, kept = log.opening(), log.kept()
     count = whole(kept.appends)
     all_rows = [row for _, text in kept.appends[:count] for row in lines_of(text)]

@@ -26,8 +26,7 @@ class Replica(Learned):
     _single = 'a replica is not copied: open one more of the same header, and have it learn the rows'
 
     def __init__(self, header: Line) -> None:
-        """The replica of a log that begins with this header, with its line end or without, before any other row.
-        `Setup.header` makes one.
+        """The replica of a log with this header, as `Setup.header` makes one, with its line end or without, and no row.
 
         Raises BadHeader, also if rows stand behind it; OutOfMemory."""
         super().__init__()
@@ -63,8 +62,7 @@ class Replica(Learned):
         return self._event(node, Event.CRASH)
 
     def recover(self, node: int) -> str:
-        """The row by which the node recovers, and stands for election. Raises Closed, BadNode, Full, IsUp,
-        OutOfMemory."""
+        """The row by which the node recovers. Raises Closed, BadNode, Full, IsUp, OutOfMemory."""
         return self._event(node, Event.RECOVER)
 
     def check(self, node: int) -> str:
@@ -74,8 +72,7 @@ class Replica(Learned):
         return self._event(node, Event.CHECK)
 
     def timeout(self, node: int) -> str:
-        """The row by which the idle node heard nothing for too long. Raises Closed, BadNode, Full, IsDown, Busy,
-        OutOfMemory."""
+        """The row by which the idle node heard nothing. Raises Closed, BadNode, Full, IsDown, Busy, OutOfMemory."""
         return self._event(node, Event.TIMEOUT)
 
     def drop(self, node: int) -> str:
@@ -96,14 +93,13 @@ class Replica(Learned):
         has no plan, it plans from the old table, the last one of an epoch before: there 0 is an owner that the group
         hasn't. They are at most 11 for each node of the group.
 
-        Raises Closed; BadNode, of one that is present; TableLength, TableOwner; Full, if the log has no room for them;
-        OutOfMemory."""
+        Raises Closed; BadNode, of one present; TableLength, TableOwner; Full, if the log has no room; OutOfMemory."""
         return texts_of(self._room.text(self._function('settle'), *numbers_of('a node', present), *owners_of(old)))
 
     def is_at_rest(self, present: Iterable[int], place: int = 0) -> bool:
         """Whether the group is at rest among the nodes that are present: all of these are Normal under the highest of
-        them, all others are Down, and if any is present, there is a last plan, its token is above this place, and all
-        its owners are present.
+        them, all others are Down; and if any is present, the last plan has a token above this place, and present
+        owners.
 
         Raises Closed, BadNode."""
         nodes, at = numbers_of('a node', present), number_of('a place', place, UINT32_MAX)

@@ -33,8 +33,7 @@ def resize(log: Log, settings: Settings, seconds: float) -> Opening:
     """The current epoch ends, and the next one begins with these settings, if the group hasn't got them already. The
     opening of the epoch that has them. If that takes longer than so many seconds, the wish stays.
 
-    Raises NotEnded, also if the group is paused, what the log raises, and what a replica raises; Unanswered only once
-    the time is over."""
+    Raises NotEnded, also if the group is paused, and what the log and a replica raise; Unanswered at the end alone."""
     end = seconds_of_boot() + seconds
     while True:
         try:
@@ -96,8 +95,7 @@ class Pruning(threading.Thread):
 
 
 def lead(log: Log, name: str, seconds: float) -> Opening:
-    """The node of this name leads in the next epoch: it gets the highest number, by which the coordinator is found, and
-    all else stays.
+    """The node of this name leads in the next epoch: it gets the highest number, and all else stays.
 
     Raises NotEnded, also if it has no member, and what `resize` does."""
     opening = log.opening()

@@ -234,8 +234,7 @@ class Member:
                 return
 
     def _comes_back(self, ending: Ending) -> bool:
-        """It has ended. Whether it takes part again: if it did so since its node was drained, and that is over before
-        it is told to end."""
+        """It has ended. Whether it takes part again: if its node was drained, and isn't before it is told to end."""
         self.is_drained = ending is Ending.LEFT and not self._is_leaving
         level = logging.WARNING if ending is Ending.NOT_THERE else logging.INFO
         _logger.log(level, 'node %s: %s', shown_name(self.name), 'it is drained, and does nothing' if self.is_drained else ENDINGS[ending])

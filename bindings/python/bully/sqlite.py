@@ -162,8 +162,7 @@ def holder_of(where: str, name: str, life: str, epoch: int, place: int, until: i
 
 
 class Standing(NamedTuple):
-    """How a log stands: its end, and what is wished for and ordered; its name, and which boot has used it last; and the
-    counts of changes."""
+    """How a log stands: its end, what is wished for and ordered, its name, its last boot, and counts of changes."""
 
     end: Promise
     wish: str | None
@@ -179,12 +178,10 @@ class Standing(NamedTuple):
 
 
 class SqliteLog:
-    """A log in a file of SQLite: no file of a network. One thread at a time uses it, and no process that this one
-    forks."""
+    """A log in a file of SQLite: no file of a network. One thread at a time uses it, and no child by fork."""
 
     def __init__(self, path: os.PathLike[str] | str, patience: float = 1.0, reads: bool = False) -> None:
-        """The log of this file, which `create` made. Each call waits this many seconds for others at most. Who only
-        reads waits for nobody.
+        """The log of this file, which `create` made. Each call waits so many seconds for others; a reader for nobody.
 
         Raises NoLog, ForeignLog, DamagedLog, ReadOnlyLog, Unanswered."""
         self.path = os.fspath(path)
@@ -316,8 +313,7 @@ class SqliteLog:
         self._file.execute('insert into boots (boot) values (?)', (self._boot,))
 
     def _are_elsewhere(self, now: int) -> bool:
-        """Whether another boot may hold presences, by this clock: those of an earlier boot of this machine are mostly
-        of other times."""
+        """Whether another boot may hold presences, by this clock: those of earlier boots are mostly of other times."""
         return self._one('select count(*) from presence where boot != ? and since <= ? and until > ?', self._boot, now, now) > 0
 
     def renew(self, name: str, life: Life, ttl: int) -> bool:
@@ -440,8 +436,7 @@ class SqliteLog:
         return presences
 
     def wait(self, epoch: int, place: int, lives: Mapping[str, Life], until: Until, seconds: float, woken: int | None = None) -> None:
-        """If the time is over without news, the next wait goes on at the pace of this one: else what comes is often
-        soon followed by more."""
+        """Without news the next wait goes on at the pace of this one: what comes is often soon followed by more."""
         end = nanoseconds_of_boot() + int(seconds * SECOND)
         self._version = self._promises = -1
         while not self._is_news(Promise(epoch, place), lives, until):
@@ -505,8 +500,7 @@ class SqliteLog:
 
     @contextmanager
     def _transaction(self, kind: str = 'immediate') -> Iterator[Standing]:
-        """One transaction, and how the log stands in it. What is returned out of it is kept, and what is raised undoes
-        it."""
+        """One transaction, and how the log stands in it. A return out of it keeps it, and what is raised undoes it."""
         self._see_files()
         with calls(self.path):
             self._file.execute(f'begin {kind}')

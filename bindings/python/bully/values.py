@@ -17,8 +17,7 @@ Line = Union[str, bytes]
 
 
 class Rows(Sequence[str]):
-    """Rows of a log that came as one text, and are cut only where they are looked at. A log of a million rows is
-    learned sooner so."""
+    """Rows of a log that came as one text, and are cut only if they are looked at: a long log is learned sooner."""
 
     def __init__(self, text: str) -> None:
         """The rows of this text, each with its line end."""
@@ -53,8 +52,7 @@ class Rows(Sequence[str]):
 
 
 class Named(enum.IntEnum):
-    """Numbers of the library that are shown by their names, as the rows of traces spell them: `normal`,
-    `are-you-up`."""
+    """Numbers of the library, shown by their names as traces spell them: `normal`, `are-you-up`."""
 
     def __str__(self) -> str:
         return self.name.lower().replace('_', '-')
@@ -96,8 +94,8 @@ class VerdictKind(Named):
 @dataclass(frozen=True)
 class Verdict:
     """The verdict on a trace. Of a lawful one `number` is how many events were counted, and else the row that is
-    refused or differs, from 1; `cause` is the exception that names why an event is refused. As text it is the first
-    line of `bully check`."""
+    refused or differs, from 1; `cause` is the exception that names why it is refused. Its text is that of `bully
+    check`."""
 
     kind: VerdictKind
     number: int

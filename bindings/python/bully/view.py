@@ -19,16 +19,14 @@ LAST_ROWS = 20
 
 
 class Behind:
-    """Who isn't idle up to the end of a log, though its group isn't at rest, and since when, as far as was looked.
-    Threads may share it."""
+    """Who isn't idle up to the end of a log, though its group isn't at rest, and since when. Threads may share it."""
 
     def __init__(self) -> None:
         self._end = Promise()
         self._since: dict[tuple[str, Life], float] = {}
 
     def see(self, end: Promise, presences: Mapping[str, Holder], rests: bool) -> dict[str, float]:
-        """What a look found, and whether the group is at rest. For how many seconds each of these has kept the others
-        waiting."""
+        """What a look found, and whether the group rests. For how many seconds each of these keeps others waiting."""
         before, now = self._since if end == self._end else {}, seconds_of_boot()
         late = [(name, holder.life) for name, holder in presences.items() if holder.promise != end and not rests]
         since = {each: before.get(each, now) for each in late}
@@ -159,8 +157,7 @@ class LogView:
         )  # fmt: skip
 
     def _is_at_rest(self, found: Found, nodes: tuple[NodeView, ...]) -> bool:
-        """Whether nothing is to be done in the group but to work. In a pause who came, and what is wished for, waits
-        for its end."""
+        """Whether nothing is to be done but to work. In a pause who came, and what is wished for, waits for its end."""
         is_paused = found.orders.is_paused
         counted = {node.name: node.node for node in nodes if node.is_present and not (is_paused and node.status is Status.DOWN)}
         promises = [holder.promise for name, holder in found.presences.items() if name in counted or not is_paused]

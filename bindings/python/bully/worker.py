@@ -32,8 +32,7 @@ class GuardLost(Exception):
 
 
 class WorkerStuck(Exception):
-    """A worker didn't end, though it was killed, and its member is to leave. Nothing is given back before the presence
-    has ended."""
+    """A worker didn't end, though it was killed, and its member is to leave. Its presence ends by itself."""
 
 
 class WorkerEnded(Exception):
@@ -45,8 +44,7 @@ class WorkerEnded(Exception):
 
 
 class Workers:
-    """The callbacks of a member whose worker is a process: they have it begin and stop, by a guard that is there as
-    long as the member."""
+    """The callbacks of a member whose worker is a process, which begins and stops by a guard beside the member."""
 
     def __init__(self, words: Sequence[str], node: str, patience: float, talks: bool = False) -> None:
         """The words of its command, the name of its node, how long it may take to stop, and whether it stays over
@@ -65,8 +63,7 @@ class Workers:
 
     def begin(self, member: Member, file: str = '') -> None:
         """The guard begins, before the member does. If its log is a file, the guard kills this process, too, if that
-        stays stopped in the middle of a write. What a guard leaves that died is left to this process, which kills
-        it."""
+        stays stopped in the middle of a write. What a guard that died leaves is this process's to kill."""
         self._member, self._others = member, children()
         adopt()
         self._channel, given = socket.socketpair(socket.AF_UNIX, socket.SOCK_SEQPACKET)
@@ -107,8 +104,7 @@ class Workers:
         self._assignment = None
 
     def _wait_for_stop(self) -> None:
-        """Waits for that. A member that is to leave doesn't wait for what was killed and hasn't ended: that does
-        nothing any more."""
+        """Waits for that. A member that is to leave doesn't wait for what was killed, and so does nothing any more."""
         while True:
             with suppress(queue.Empty):
                 return self._stopped.get(timeout=PART)
@@ -202,8 +198,7 @@ class Workers:
             self._begin_later(self._assignment)
 
     def _begin_later(self, assignment: Assignment) -> None:
-        """Once the rest is over, the work of this assignment is lost, so that it is begun again, if the node still owns
-        it."""
+        """Once the rest is over this assignment's work is lost, and so begun again, if the node still owns it."""
         later = threading.Timer(max(0.0, self._rest_end - seconds_of_boot()), self._member.lose, [assignment])
         later.daemon = True
         later.start()
@@ -229,8 +224,8 @@ class Workers:
         return max(self._member.ttl / BEATS, min(left, self._member.ttl / 4))
 
     def _is_silent(self) -> bool:
-        """Whether the guard should have killed the worker for a twentieth of the ttl, or told that it has begun, or has
-        stopped, for a ttl."""
+        """Whether the guard is a twentieth of the ttl late to kill the worker, or a ttl to tell that it began or
+        stopped."""
         stop_begun, now, ttl = self._stop_begun, seconds_of_boot(), self._member.ttl
         is_late = self._may_work and now > max(self._begun, self._until / SECOND) + ttl / BEATS
         is_deaf = self._is_unheard and now > self._begun + ttl + STARTS
