@@ -42,17 +42,13 @@ from __future__ import annotations
 from typing import TYPE_CHECKING, Any
 
 # What is imported by its own name, or by a star, is the package's for a type checker, too.
-from . import faults
+from . import faults, group, values
 from .agent import Agent as Agent
 from .faults import *
-from .group import Setup as Setup, check as check, plan_table as plan_table, status_name as status_name, version as version
+from .group import *
 from .library import load as load
 from .replica import Replica as Replica
-from .values import (
-    EVENTS_MAX as EVENTS_MAX, NODES_MAX as NODES_MAX, PARTITIONS_MAX as PARTITIONS_MAX, WEIGHT_MAX as WEIGHT_MAX, Answer as Answer,
-    Call as Call, CallKind as CallKind, Line as Line, Owned as Owned, Rows as Rows, State as State, Status as Status, TablePlan as TablePlan,
-    Verdict as Verdict, VerdictKind as VerdictKind, Want as Want,
-)  # fmt: skip
+from .values import *
 
 if TYPE_CHECKING:
     from .running import Member as Member
@@ -70,8 +66,4 @@ def __getattr__(name: str) -> Any:
 
 
 if not TYPE_CHECKING:
-    __all__ = [
-        *faults.__all__,
-        'Agent', 'Answer', 'Call', 'CallKind', 'EVENTS_MAX', 'Line', 'Member', 'NODES_MAX', 'Owned', 'PARTITIONS_MAX', 'Replica', 'Rows', 'Setup',
-        'State', 'Status', 'TablePlan', 'Verdict', 'VerdictKind', 'WEIGHT_MAX', 'Want', 'check', 'load', 'plan_table', 'status_name', 'version',
-    ]  # fmt: skip
+    __all__ = [*faults.__all__, *group.__all__, *values.__all__, 'Agent', 'Member', 'Replica', 'load']

@@ -61,7 +61,8 @@ _logger = logging.getLogger('bully')
 
 def parser() -> argparse.ArgumentParser:
     """The words that the command takes."""
-    words = argparse.ArgumentParser('bully-member', description=__doc__, formatter_class=argparse.RawDescriptionHelpFormatter)
+    as_it_is = argparse.RawDescriptionHelpFormatter
+    words = argparse.ArgumentParser('bully-member', description=__doc__, formatter_class=as_it_is)
     commands = words.add_subparsers(dest='command', required=True, metavar='COMMAND')
     init = commands.add_parser('init', help='make the log of a group')
     run = commands.add_parser('run', help='take part for a node, and run a worker')
@@ -75,29 +76,29 @@ def parser() -> argparse.ArgumentParser:
         add_words(command)
     for command in (init, run):
         command.add_argument('--config', required=command is init, metavar='FILE')
-        command.add_argument('--ttl', type=seconds, metavar='SECONDS', help='how long a node stays present without a renewal')
-    init.add_argument('--epoch', type=count, default=FIRST, metavar='NUMBER', help='with which it begins: behind those of a log before it')
+        add_seconds(command, '--ttl', 'how long a node stays present without a renewal')
+    add_count(init, '--epoch', 'NUMBER', 'with which it begins: behind those of a log before it', FIRST)
     for command in (run, switchover):
         command.add_argument('--node', required=True, metavar='NAME')
     for command in (resize, switchover):
-        command.add_argument('--seconds', type=seconds, default=60.0, metavar='SECONDS', help='how long to wait until the new epoch has begun')
+        add_seconds(command, '--seconds', 'how long to wait until the new epoch has begun', 60.0)
     add_words_of_run(run)
     status.add_argument('--json', action='store_true')
-    history.add_argument('--epoch', type=count, metavar='NUMBER', help='which one; else the current one')
-    history.add_argument('--times', action='store_true', help='write TIME,ROW, so no trace, with the time of UTC at which a row was appended')
+    add_count(history, '--epoch', 'NUMBER', 'which one; else the current one')
+    history.add_argument('--times', action='store_true', help='write TIME,ROW, with when it was appended: no trace')
     wanted = resize.add_mutually_exclusive_group(required=True)
     wanted.add_argument('--config', metavar='FILE')
     wanted.add_argument('--cancel', action='store_true', help='nothing is wished for any more')
-    resize.add_argument('--all-new', action='store_true', help='also if no member that is there is in it, so that all end')
-    prune.add_argument('--keep', type=count, required=True, metavar='COUNT', help='how many epochs stay, the current one too')
+    resize.add_argument('--all-new', action='store_true', help='also if nobody who is there is in it, so that all end')
+    prune.add_argument('--keep', type=count, required=True, metavar='COUNT', help='how many epochs stay, with this one')
     add_orders(commands)
-    repair.add_argument('--cut', type=int, metavar='PLACE', help='cut what is told to be damaged from this place on; all members have to have ended')
+    repair.add_argument('--cut', type=int, metavar='PLACE', help='cut what is damaged from there on, if all ended')
     return words
 
 
 def add_orders(commands: argparse._SubParsersAction[argparse.ArgumentParser]) -> None:
     """The command takes the words of an operator's orders."""
-    drain = commands.add_parser('drain', help='have a node take no part, up to undrain, also if its process begins again')
+    drain = commands.add_parser('drain', help='have a node take no part, up to undrain, also if it begins again')
     undrain = commands.add_parser('undrain', help='have it take part again')
     pause = commands.add_parser('pause', help='have nobody settle the group: who works goes on, up to resume')
     resume = commands.add_parser('resume', help='end a pause')
@@ -105,19 +106,27 @@ def add_orders(commands: argparse._SubParsersAction[argparse.ArgumentParser]) ->
         add_words(command)
     for command in (drain, undrain):
         command.add_argument('node', metavar='NODE')
-    drain.add_argument('--seconds', type=seconds, default=60.0, metavar='SECONDS', help='how long to wait until it has left')
+    add_seconds(drain, '--seconds', 'how long to wait until it has left', 60.0)
     drain.add_argument('--all', action='store_true', help='also if nobody would work then')
 
 
 def add_words_of_run(run: argparse.ArgumentParser) -> None:
     """The command takes the words of a member."""
-    run.add_argument('--stop-seconds', type=seconds, default=10.0, metavar='SECONDS', help='from SIGTERM to SIGKILL of the worker')
+    add_seconds(run, '--stop-seconds', 'from SIGTERM to SIGKILL of the worker', 10.0)
     run.add_argument('--talk', action='store_true', help='the worker stays over changes, and is told of them by lines')
     run.add_argument('--listen', metavar='HOST:PORT', help='tell the group over HTTP')
     run.add_argument('--quiet', action='store_true', help='say only what goes wrong')
     run.add_argument('--log-format', choices=FORMATS, default='text', help='of what is said on standard error')
-    run.add_argument('--keep', type=count, metavar='COUNT', help='how many epochs stay: whoever has partition 0 takes older ones away')
+    add_count(run, '--keep', 'COUNT', 'how many epochs stay: whoever has partition 0 takes older ones away')
     run.add_argument('worker', nargs='+', metavar='WORKER ARGS', help='the command of the worker, behind --')
+
+
+def add_seconds(command: argparse.ArgumentParser, word: str, about: str, default: float | None = None) -> None:
+    command.add_argument(word, type=seconds, default=default, metavar='SECONDS', help=about)
+
+
+def add_count(command: argparse.ArgumentParser, word: str, kind: str, about: str, default: int | None = None) -> None:
+    command.add_argument(word, type=count, default=default, metavar=kind, help=about)
 
 
 def seconds(word: str) -> float:
@@ -156,7 +165,8 @@ def init(options: argparse.Namespace) -> int:
     settings = settings_of(options.config)
     if options.epoch > LATEST:
         raise BadWords(f'--epoch is {options.epoch}, and may be {LATEST} at most')
-    store_of(options).create(Opening.first(settings.setup.header(), settings.names, epoch=options.epoch, ttl=options.ttl)).close()
+    opening = Opening.first(settings.setup.header(), settings.names, epoch=options.epoch, ttl=options.ttl)
+    store_of(options).create(opening).close()
     return OK
 
 
@@ -174,7 +184,8 @@ def change(options: argparse.Namespace) -> int:
             return cancel(log)
         present = found_in(log).lives
         if present and not set(present) & set(settings.names) and not options.all_new:
-            raise ConfigFault(f'none of those present ({", ".join(present)}) is in it, so all would end; --all-new takes it')
+            names = ', '.join(present)
+            raise ConfigFault(f'none of those present ({names}) is in it, so all would end; --all-new takes it')
         opening = resize(log, settings, options.seconds)
     print(f'epoch {opening.epoch}: {settings.setup.nodes} nodes, {settings.setup.partitions} partitions')
     return OK
@@ -242,7 +253,8 @@ def mend(options: argparse.Namespace) -> int:
         else:
             print(damage.told, *map(repr, damage.rows), sep='\n')
             if options.cut != damage.place or not repair(log, damage):
-                why = 'somebody is present' if options.cut == damage.place else f'--cut {damage.place} cuts that, once all members have ended'
+                how = f'--cut {damage.place} cuts that, once all members have ended'
+                why = 'somebody is present' if options.cut == damage.place else how
                 print(f'bully-member: nothing is cut: {why}', file=sys.stderr)
                 return FAILED
     return OK
@@ -261,14 +273,15 @@ def status(options: argparse.Namespace) -> int:
 
 def text_of(group: GroupView) -> str:
     """The group, for people."""
-    about = f'epoch {group.epoch}, events {group.events}, token {group.token or "-"}, coordinator {shown_name(group.coordinator)}'
+    about = f'epoch {group.epoch}, events {group.events}, token {group.token or "-"}'
     rows = [('node', 'status', 'present', 'coordinator', 'partitions')]
     for node in group.nodes:
+        name, coordinator = shown_name(node.name), shown_name(node.coordinator)
         partitions = ' '.join(map(str, node.partitions)) or '-'
-        rows.append((shown_name(node.name), str(node.status), node.told_present, shown_name(node.coordinator), partitions))
+        rows.append((name, str(node.status), node.told_present, coordinator, partitions))
     widths = [max(map(len, column)) for column in zip(*rows)]
     table = ['  '.join(word.ljust(width) for word, width in zip(row, widths)).rstrip() for row in rows]
-    return '\n'.join([about + group.told_more, *table])
+    return '\n'.join([f'{about}, coordinator {shown_name(group.coordinator)}{group.told_more}', *table])
 
 
 def address_of(words: str) -> tuple[str, int]:
@@ -318,7 +331,8 @@ def run(options: argparse.Namespace) -> int:
         log = answered(lambda: store.open(patience=min(1.0, ttl / 5)))
         closing.callback(log.close)
         workers = Workers(options.worker, options.node, options.stop_seconds, options.talk)
-        member = answered(lambda: Member(log, options.node, workers.start, workers.stop, ttl, settings, sure=workers.hear_until))
+        works = workers.start, workers.stop
+        member = answered(lambda: Member(log, options.node, *works, ttl, settings, sure=workers.hear_until))
         service = Service(member, workers)  # before anything begins that would take its environment
         workers.begin(member, store.path if isinstance(store, FileStore) else '')
         closing.callback(workers.close)
@@ -345,14 +359,14 @@ def run(options: argparse.Namespace) -> int:
 
 
 COMMANDS = {
-    'init': init, 'run': run, 'status': status, 'history': history, 'resize': change, 'switchover': switch_over, 'prune': prune, 'repair': mend,
-    'drain': take_out, 'undrain': give_order, 'pause': give_order, 'resume': give_order,
+    'init': init, 'run': run, 'status': status, 'history': history, 'resize': change, 'switchover': switch_over,
+    'prune': prune, 'repair': mend, 'drain': take_out, 'undrain': give_order, 'pause': give_order, 'resume': give_order,
 }  # fmt: skip
 
 # What ends a command, and its status.
 STATUSES: tuple[tuple[type[Exception], int], ...] = (
-    (BadWords, BAD_WORDS), (ConfigFault, BAD_INPUT), (OtherGroup, BAD_INPUT), (NotInGroup, NO_NODE), (BullyError, BAD_INPUT),
-    (DamagedLog, BAD_INPUT), (OtherLog, BAD_INPUT), (LogError, NO_STORE), (OSError, NO_STORE),
+    (BadWords, BAD_WORDS), (ConfigFault, BAD_INPUT), (OtherGroup, BAD_INPUT), (NotInGroup, NO_NODE),
+    (BullyError, BAD_INPUT), (DamagedLog, BAD_INPUT), (OtherLog, BAD_INPUT), (LogError, NO_STORE), (OSError, NO_STORE),
     (WorkerEnded, FAILED), (GuardLost, FAILED), (WorkerStuck, FAILED), (NotEnded, FAILED),
 )  # fmt: skip
 
@@ -369,8 +383,8 @@ def main(words: list[str] | None = None) -> int:
         if status is None:
             raise
         said = shown_name(f'config: {fault}' if isinstance(fault, ConfigFault) else str(fault))
-        is_json = getattr(options, 'log_format', '') == 'json'
-        say_last(JsonLines().format(logging.makeLogRecord({'levelname': 'ERROR', 'msg': said})) if is_json else f'bully-member: {said}', status)
+        is_json, record = getattr(options, 'log_format', '') == 'json', {'levelname': 'ERROR', 'msg': said}
+        say_last(JsonLines().format(logging.makeLogRecord(record)) if is_json else f'bully-member: {said}', status)
         return status
 
 

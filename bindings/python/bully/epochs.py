@@ -86,7 +86,8 @@ class Opening:
         setup.header()  # which is refused, if there can be no such group
         if setup.nodes != len(names) or len(table) not in (0, setup.partitions):
             raise ValueError(f'{opening.header} is told of {len(names)} nodes, with a table of {len(table)} partitions')
-        if not all(isinstance(name, str) for name in names) or not set(table) <= set(range(setup.nodes + 1)) or limit != room_of(setup.nodes, limit):
+        are_owners = set(table) <= set(range(setup.nodes + 1))
+        if not all(isinstance(name, str) for name in names) or not are_owners or limit != room_of(setup.nodes, limit):
             raise ValueError(f'names {names}, owners {table} or limit {limit} are none')
         return opening
 
@@ -111,7 +112,8 @@ class Opening:
 
     def wish(self, settings: Settings) -> Opening:
         """The opening of the next epoch with other settings, but for its table, which is known once this one ends."""
-        return Opening(self.epoch + 1, settings.setup.header(), settings.names, room_of(settings.setup.nodes, self.limit), ttl=self.ttl)
+        limit = room_of(settings.setup.nodes, self.limit)
+        return Opening(self.epoch + 1, settings.setup.header(), settings.names, limit, ttl=self.ttl)
 
     def after(self, wish: Opening | None) -> Opening:
         """The opening of the next epoch but for its table: what is wished for, or else as this one."""

@@ -110,7 +110,8 @@ class Keys:
     def standing(self, since: int) -> list[Json]:
         """The ranges of all but rows: end of the log, wish, orders, and lives and promises put behind a revision."""
         newer = {'min_mod_revision': str(since + 1)}
-        return [range_at(self.place), range_at(self.next), range_at(self.orders), range_below(self.lives, **newer), range_below(self.promises, **newer)]
+        whole = map(range_at, (self.place, self.next, self.orders))
+        return [*whole, *(range_below(prefix, **newer) for prefix in (self.lives, self.promises))]
 
     def watched(self, is_wide: bool) -> Json:
         """The range of what changes, with promises or without them; rows aren't told, since they are looked for."""
@@ -129,7 +130,9 @@ class Held(NamedTuple):
 class EtcdLog:
     """A log in etcd. One thread at a time uses it."""
 
-    def __init__(self, address: str, patience: float = 1.0, tls: ssl.SSLContext | None = None, user: str = '', password: str = '') -> None:
+    def __init__(
+        self, address: str, patience: float = 1.0, tls: ssl.SSLContext | None = None, user: str = '', password: str = ''
+    ) -> None:
         """The log at this address, `etcd://HOST:PORT,HOST:PORT/PREFIX`, which `create` made; over TLS if it begins with
         `etcds`. Each call takes this many seconds at most, and a read for each of its parts.
 
@@ -154,7 +157,8 @@ class EtcdLog:
 
     @staticmethod
     def create(
-        address: str, opening: Opening, patience: float = 1.0, tls: ssl.SSLContext | None = None, user: str = '', password: str = ''
+        address: str, opening: Opening, patience: float = 1.0, tls: ssl.SSLContext | None = None, user: str = '',
+        password: str = '',
     ) -> EtcdLog:  # fmt: skip
         """Makes a log at this address that begins so, if there is nothing below its prefix. The log.
 
@@ -169,7 +173,8 @@ class EtcdLog:
         """Sees that there is a log. Its name."""
         self._client.begin()
         keys = self._keys
-        named, older, first = self._client.transact([], ranges(range_at(keys.name), range_at(keys.older), range_below(keys.root, limit=1))).ranges
+        asked = ranges(range_at(keys.name), range_at(keys.older), range_below(keys.root, limit=1))
+        named, older, first = self._client.transact([], asked).ranges
         name, opening = value_of(named), value_of(older) or b''
         if name is not None and name.startswith(NAMED):
             return name
@@ -177,7 +182,8 @@ class EtcdLog:
             raise NoLog(f'{self.address}: there is none; bully-member init makes a log')
         if name is None and opening.startswith(OLDER):
             raise ForeignLog(f'{self.address}: a log by an older version, and not of form {FORM}{BY_HISTORY}')
-        if name is None and (opening.startswith(BEGIN.encode()) or pairs_of(first)[0].key.startswith((keys.first, keys.logs, keys.presences))):
+        is_ours = pairs_of(first)[0].key.startswith((keys.first, keys.logs, keys.presences))
+        if name is None and (opening.startswith(BEGIN.encode()) or is_ours):
             raise DamagedLog(f'{self.address}: the log has no name')
         raise ForeignLog(f'{self.address}: something else than a log of form {FORM} is below its prefix')
 
@@ -240,7 +246,8 @@ class EtcdLog:
         first = min(first, there[-1])
         if first > there[0]:
             self._client.begin()
-            self._change([{**value_is(keys.first, b'%010d' % first), 'result': 'LESS'}], [put_at(keys.first, f'{first:010}')])
+            is_later = {**value_is(keys.first, b'%010d' % first), 'result': 'LESS'}
+            self._change([is_later], [put_at(keys.first, f'{first:010}')])
         while True:
             self._client.begin()
             asked = range_from(keys.logs, keys.rows(first), keys_only=True, limit=PAGE)
@@ -322,13 +329,14 @@ class EtcdLog:
         """Puts a presence under a new lease, if nothing was done to it since it was found. What is promised stays."""
         key, under = self._keys.life(name), str(held.lease)
         is_same = number_is(key, 'mod_revision', found.modified)
-        moved = [put_at(key, life_text(held.life), lease=under), same(self._keys.promise(name), lease=under, ignore_value=True)]
+        promise = same(self._keys.promise(name), lease=under, ignore_value=True)
+        moved = [put_at(key, life_text(held.life), lease=under), promise]
         try:
             answer = self._change([is_same], moved, range_at(key))
             if not answer.is_done and value_of(answer.ranges[0]) == found.value:
                 raise Unanswered(f'{self.address}: an earlier renewal was done just now')
         except Unanswered:
-            self._held = None  # since a move may be done later, which ends with its lease, none counts before another move was done
+            self._held = None  # since a move may be done later, and ends with its lease, none counts before the next
             raise
         if answer.is_done:
             self._held = held
@@ -340,8 +348,8 @@ class EtcdLog:
         """All that are present are in one comparison, which isn't so if nobody is."""
         text = rows_text(rows)
         self._client.begin()
-        keys, behind_them, row = self._keys, Promise(epoch, place + len(rows)), self._keys.row(epoch, place)
-        done = [put_at(row, text), put_at(keys.time(row), str(wall_clock())), put_at(keys.place, place_text(behind_them))]
+        keys, end, row = self._keys, place_text(Promise(epoch, place + len(rows))), self._keys.row(epoch, place)
+        done = [put_at(row, text), put_at(keys.time(row), str(wall_clock())), put_at(keys.place, end)]
         return self._add(epoch, place, done)
 
     def _add(self, epoch: int, place: int, done: Sequence[Json], *more: Json) -> bool:
@@ -358,7 +366,8 @@ class EtcdLog:
 
     def read(self, epoch: int, place: int) -> Rows:
         keys = self._keys
-        answer, rows = self._read_with(epoch, place, lambda answer: epoch in self._there(answer), range_at(keys.place), range_at(keys.first))
+        ends = map(range_at, (keys.place, keys.first))
+        answer, rows = self._read_with(epoch, place, lambda answer: epoch in self._there(answer), *ends)
         if rows is None:
             raise no_epoch(self.address, epoch, self.epochs())
         see_end(self.address, self._end_of(answer.ranges[0]), Promise(epoch, place))
@@ -376,7 +385,9 @@ class EtcdLog:
                 return times
             after = found[-1].key + b'\0'
 
-    def _read_with(self, epoch: int, place: int, is_there: Callable[[Answer], bool], *more: Json) -> tuple[Answer, Rows | None]:
+    def _read_with(
+        self, epoch: int, place: int, is_there: Callable[[Answer], bool], *more: Json
+    ) -> tuple[Answer, Rows | None]:
         """The rows behind that place, if they are there by the answer, and the answer with what more was asked for at
         the same revision: the end of the log first."""
         page = self._keys.page(self._keys.row(epoch, place), epoch)
@@ -431,15 +442,18 @@ class EtcdLog:
         return self._client.ask(KV_RANGE, {**asked, 'revision': str(revision)}, repeats=True)
 
     def _damaged(self, epoch: int, place: int) -> DamagedLog:
-        return DamagedLog(f'{self.address}: rows of epoch {epoch} are missing behind place {place}, or something else is between them')
+        rows = f'rows of epoch {epoch} are missing behind place {place}'
+        return DamagedLog(f'{self.address}: {rows}, or something else is between them')
 
     def kept(self) -> Kept:
         self._client.begin()
         place = self._look(range_at(self._keys.place))
         end, keys = self._end_of(place.ranges[0]), self._keys
-        found = self._pages(end.epoch, self._more(keys.page(keys.row(end.epoch, 0), end.epoch), place.revision), place.revision)
-        begins = [(pair.key[len(keys.rows(end.epoch)) :], pair.value) for pair in found]
-        return Kept(end, [(int(begin) if begin.isdigit() and len(begin) == 10 else NOWHERE, text) for begin, text in begins])
+        page = self._more(keys.page(keys.row(end.epoch, 0), end.epoch), place.revision)
+        pairs = list(self._pages(end.epoch, page, place.revision))
+        begins = [pair.key[len(keys.rows(end.epoch)) :] for pair in pairs]
+        places = [int(begin) if begin.isdigit() and len(begin) == 10 else NOWHERE for begin in begins]
+        return Kept(end, list(zip(places, (pair.value for pair in pairs))))
 
     def cut(self, end: Promise, append: int, text: str, opening: Opening) -> bool:
         self._client.begin()
@@ -455,8 +469,12 @@ class EtcdLog:
 
     def look(self, epoch: int, place: int) -> Found:
         """Only lives and promises newer than the last look are read; all, if one is gone of which nothing told."""
+
+        def is_there(answer: Answer) -> bool:
+            return self._end_of(answer.ranges[0]).epoch == epoch
+
         for since in (self._news.known, 0):
-            answer, rows = self._read_with(epoch, place, lambda answer: self._end_of(answer.ranges[0]).epoch == epoch, *self._keys.standing(since))
+            answer, rows = self._read_with(epoch, place, is_there, *self._keys.standing(since))
             end = self._end_of(answer.ranges[0])
             see_end(self.address, end, Promise(epoch, place))
             if self._see_all(answer, since):
@@ -473,7 +491,9 @@ class EtcdLog:
         except (ValueError, KeyError) as fault:
             raise BadPresence(f'{self.address}: a presence is none: {fault}') from fault
 
-    def wait(self, epoch: int, place: int, lives: Mapping[str, Life], until: Until, seconds: float, woken: int | None = None) -> None:
+    def wait(
+        self, epoch: int, place: int, lives: Mapping[str, Life], until: Until, seconds: float, woken: int | None = None
+    ) -> None:
         """By a watch. While many are present it tells of promises only who waits for them."""
         end = seconds_of_boot() + seconds
         known, idle = self._seen_idle
@@ -509,7 +529,8 @@ class EtcdLog:
             self._see_all(self._look(*self._keys.standing(0)), 0)
         if is_news():
             return True
-        self._watch = self._client.watch({**self._keys.watched(is_wide), 'start_revision': str(self._news.revision + 1)})
+        behind_found = {'start_revision': str(self._news.revision + 1)}
+        self._watch = self._client.watch({**self._keys.watched(is_wide), **behind_found})
         self._is_wide = is_wide
         return False
 
@@ -586,8 +607,10 @@ class News:
         is gone can't be found. Else nothing changes. Raises ValueError, KeyError of what is no presence."""
         keys, (place, wish, orders, *found) = self._keys, answer.ranges[:5]
         lives, promises = (dict(self.lives), dict(self.promises)) if since else ({}, {})
-        lives.update((keys.node(pair.key, keys.lives), life_of(pair.value.decode())) for pair in pairs_of(found[0]))
-        promises.update((keys.node(pair.key, keys.promises), place_of(pair.value.decode())) for pair in pairs_of(found[1]))
+        for pair in pairs_of(found[0]):
+            lives[keys.node(pair.key, keys.lives)] = life_of(pair.value.decode())
+        for pair in pairs_of(found[1]):
+            promises[keys.node(pair.key, keys.promises)] = place_of(pair.value.decode())
         if [len(lives), len(promises)] != [int(each.get('count', 0)) for each in found]:
             return False
         for name in lives:
@@ -628,7 +651,8 @@ class News:
             self._is_odd = True
 
     def awaited(
-        self, here: Promise, lives: Mapping[str, Life], until: Until, wanted: tuple[bytes | None, bytes | None], before: AbstractSet[str],
+        self, here: Promise, lives: Mapping[str, Life], until: Until, wanted: tuple[bytes | None, bytes | None],
+        before: AbstractSet[str],
     ) -> Callable[[], bool]:  # fmt: skip
         """What tells whether there is what is waited for, by what was wanted and who was idle before."""
         end = place_text(here).encode()
@@ -658,12 +682,13 @@ def removed(asked: Json) -> Json:
 
 def make(client: Client, address: str, keys: Keys, opening: Opening) -> None:
     """Makes a log. Raises LogExists, ForeignLog."""
-    there = [range_at(keys.name, keys_only=True), range_at(keys.older, keys_only=True), range_below(keys.root, limit=1, keys_only=True)]
+    named, older = (range_at(key, keys_only=True) for key in (keys.name, keys.older))
+    there = [named, older, range_below(keys.root, limit=1, keys_only=True)]
     answer = client.transact([exists(keys.name)], [], there)  # so that the keys of a long log aren't compared
     if not answer.is_done and not answer.ranges[-1].get('kvs'):
         is_empty = {**range_below(keys.root), **number_is(keys.root, 'version', 0)}
-        named = put_at(keys.name, NAMED.decode() + log_name())
-        answer = client.transact([is_empty], [named, *keys.begin(opening), put_at(keys.first, f'{opening.epoch:010}')], there)
+        begun = [put_at(keys.name, NAMED.decode() + log_name()), put_at(keys.first, f'{opening.epoch:010}')]
+        answer = client.transact([is_empty], [*begun, *keys.begin(opening)], there)
         if answer.is_done:
             return
     if answer.is_done or any(found.get('kvs') for found in answer.ranges[:2]):

@@ -24,7 +24,7 @@ LEASE_GRANT, LEASE_KEEPALIVE = '/v3/lease/grant', '/v3/lease/keepalive'
 
 # Codes of gRPC, by which etcd says why it refuses.
 PERMISSION_DENIED, OUT_OF_RANGE, UNAUTHENTICATED = 7, 11, 16
-MAY_PASS = frozenset({1, 2, 4, 5, 8, 10, 13, 14})  # whether it was done isn't known: also, if etcd is full, or a lease has ended already
+MAY_PASS = frozenset({1, 2, 4, 5, 8, 10, 13, 14})  # it may be done: also if etcd is full, or a lease has ended already
 
 TARGETS = {'version': 'VERSION', 'create_revision': 'CREATE', 'mod_revision': 'MOD'}  # of a condition, by the number
 
@@ -66,7 +66,8 @@ def read_address(words: str) -> Address:
     if kind not in ('etcd', 'etcds') or not mark or not prefix:
         raise ValueError(f'{words} has to be etcd://HOST:PORT,HOST:PORT/PREFIX')
     if not {'log', 'opening', 'presence', 'time'}.isdisjoint(prefix.split('/')):
-        raise ValueError(f'{words}: no part of a prefix may be `log`, `opening`, `presence` or `time`, which stand below another one')
+        parts = '`log`, `opening`, `presence` or `time`, which stand below another one'
+        raise ValueError(f'{words}: no part of a prefix may be {parts}')
     prefix.encode()
     return Address(tuple(map(read_endpoint, servers.split(','))), prefix, kind == 'etcds')
 
@@ -186,7 +187,8 @@ class Refusal(Exception):
     def denies(self) -> bool:
         """Whether it is of the user."""
         said = str(self)
-        return self.code in (PERMISSION_DENIED, UNAUTHENTICATED) or any(part in said for part in ('permission', 'auth', 'user name'))
+        is_told = any(part in said for part in ('permission', 'auth', 'user name'))
+        return is_told or self.code in (PERMISSION_DENIED, UNAUTHENTICATED)
 
 
 class Compacted(Exception):
@@ -257,7 +259,8 @@ class Names:
         """What `getaddrinfo` tells of it. What isn't told in time is waited for by the next call. Raises Silent."""
         if endpoint not in self._asked:
             self._asked[endpoint] = queue.SimpleQueue()
-            threading.Thread(target=look_up, args=[endpoint, self._asked[endpoint]], name='bully names', daemon=True).start()
+            words = endpoint, self._asked[endpoint]
+            threading.Thread(target=look_up, args=words, name='bully names', daemon=True).start()
         try:
             found = self._asked[endpoint].get(timeout=seconds)
         except queue.Empty:
@@ -332,8 +335,9 @@ class Client:
         found = [each['response_range'] for each in answer.get('responses', ()) if 'response_range' in each]
         revision, term = int(answer['header']['revision']), int(answer['header']['raft_term'])
         if revision < self.seen[0] or term < self.seen[1]:
-            raise DamagedLog(f'{self.endpoint}: etcd was at revision {self.seen[0]} and term {self.seen[1]}, and is at {revision} and {term}: '
-                             'it went back, as one does that is restored')  # fmt: skip
+            was, now = 'revision {} and term {}'.format(*self.seen), f'{revision} and {term}'
+            back = 'it went back, as one does that is restored'
+            raise DamagedLog(f'{self.endpoint}: etcd was at {was}, and is at {now}: {back}')
         self.seen = revision, term
         return Answer(bool(answer.get('succeeded')), found, revision, term)
 
@@ -361,9 +365,8 @@ class Client:
         self.begin()
         connection = self._connect(self._end)
         body = json.dumps({'create_request': request}).encode()
-        lines = [f'POST {WATCH} HTTP/1.0', f'Host: {self.endpoint}', f'Content-Length: {len(body)}', 'Grpc-Metadata-hasleader: true']
-        if self._token:
-            lines.append(f'Authorization: {self._token}')
+        lines = [f'POST {WATCH} HTTP/1.0', f'Host: {self.endpoint}', f'Content-Length: {len(body)}']
+        lines += ['Grpc-Metadata-hasleader: true', *([f'Authorization: {self._token}'] if self._token else [])]
         try:
             connection.sock.sendall('\r\n'.join([*lines, '', '']).encode() + body)
         except OSError as error:
@@ -399,7 +402,8 @@ class Client:
 
     def _log_in(self, reached: float, end: float) -> None:
         self._token = ''
-        self._token = str(self._exchange(LOGIN, {'name': self._user, 'password': self._password}, reached, end)['token'])
+        who = {'name': self._user, 'password': self._password}
+        self._token = str(self._exchange(LOGIN, who, reached, end)['token'])
 
     def _exchange(self, path: str, request: Json, reached: float, end: float) -> Json:
         """A request and its answer. Raises Silent, Refusal, ForeignLog, LogError."""
@@ -447,7 +451,8 @@ class Client:
             raise refusal_of(document['error'] if isinstance(document.get('error'), dict) else document)
         answer: Json = document.get('result', document) if isinstance(document, dict) else {}
         if status != 200 or 'raft_term' not in answer.get('header', {}):
-            raise LogError(f'{self.endpoint}: it does not answer as etcd 3.4 does, but with status {status}: {text[:80]!r}')
+            what = f'with status {status}: {text[:80]!r}'
+            raise LogError(f'{self.endpoint}: it does not answer as etcd 3.4 does, but {what}')
         cluster = answer['header'].get('cluster_id')
         if self._cluster not in (None, cluster):
             raise ForeignLog(f'{self.endpoint}: it is a server of another etcd')
@@ -504,9 +509,10 @@ class Subscription:
             raise Silent(self.endpoint, f'no watch, but {line[:80]!r}', may_be_done=False) from error
         result = document.get('result', {})
         if 'error' in document or result.get('canceled'):
-            why = refusal_of(document['error']) if 'error' in document else Refusal(0, result.get('cancel_reason', 'compacted'))
+            why = refusal_of(document['error']) if 'error' in document else result.get('cancel_reason', 'compacted')
             said = f'the watch was ended: {why}'
-            raise Denied(f'{self.endpoint}: {said}') if 'permission' in said else Silent(self.endpoint, said, may_be_done=False)
+            is_denied = 'permission' in said
+            raise Denied(f'{self.endpoint}: {said}') if is_denied else Silent(self.endpoint, said, may_be_done=False)
         events: list[Json] = result.get('events', [])
         return events
 

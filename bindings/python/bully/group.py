@@ -12,6 +12,8 @@ from .library import (
 )  # fmt: skip
 from .values import EVENTS_MAX, PARTITIONS_MAX, TablePlan, Verdict, VerdictKind
 
+__all__ = ['Setup', 'check', 'plan_table', 'status_name', 'version']
+
 
 @dataclass(frozen=True)
 class Setup:
@@ -35,7 +37,8 @@ class Setup:
 def setup_parts(setup: Setup) -> tuple[Any, ...]:
     """A setup, as the three arguments that it is to the library."""
     weights = numbers_of('a weight', setup.weights)
-    nodes, partitions = number_of('nodes', setup.nodes, UINT16_MAX), number_of('partitions', setup.partitions, UINT16_MAX)
+    nodes = number_of('nodes', setup.nodes, UINT16_MAX)
+    partitions = number_of('partitions', setup.partitions, UINT16_MAX)
     raw = RawSetup(nodes, partitions, number_of('events_max', setup.events_max, UINT32_MAX), 1 if setup.keeps else 0)
     return (ctypes.byref(raw), *weights)
 

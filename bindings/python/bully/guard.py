@@ -250,7 +250,7 @@ def has_room(lines: socket.socket, line: bytes) -> bool:
 
 def terminate(process: int) -> None:
     """SIGTERM for the process group of a worker that wasn't waited for; for it alone, if it has left that."""
-    with contextlib.suppress(PermissionError, ProcessLookupError):  # it is another user's, or its group has ended just now
+    with contextlib.suppress(PermissionError, ProcessLookupError):  # it is another user's, or its group has just ended
         (os.killpg if os.getpgid(process) == process else os.kill)(process, signal.SIGTERM)
 
 
@@ -286,7 +286,9 @@ def become(words: list[str], environment: list[bytes], pipes: Sequence[int], par
 class Guard:
     """The guard of a member."""
 
-    def __init__(self, channel: socket.socket, patience: float, talks: bool, ttl: float, watchdog: Watchdog, words: list[str]) -> None:
+    def __init__(
+        self, channel: socket.socket, patience: float, talks: bool, ttl: float, watchdog: Watchdog, words: list[str]
+    ) -> None:
         self.channel, self.watchdog, self.words, self.talks, self.ttl = channel, watchdog, words, talks, ttl
         self.patience = int(patience * NANOSECONDS)
         self.until = 0
@@ -302,7 +304,7 @@ class Guard:
             if self.worker is not None:
                 self.see(self.worker, ready)
             if self.channel.fileno() in ready:
-                with contextlib.suppress(ConnectionResetError):  # comes once, if the member didn't read all that it was told
+                with contextlib.suppress(ConnectionResetError):  # comes once, if the member didn't read all
                     self.hear(self.channel.recv(MESSAGE_MAX))
             self.watchdog.look()
 

@@ -68,7 +68,9 @@ def file_trace(path: str, epoch: int | None) -> Sequence[str] | None:
     return checked(path, number, found, rows[-1][0] + 1 if rows else 0)
 
 
-def etcd_trace(address: str, epoch: int | None, tls: ssl.SSLContext | None, user: str, password: str) -> Sequence[str] | None:
+def etcd_trace(
+    address: str, epoch: int | None, tls: ssl.SSLContext | None, user: str, password: str
+) -> Sequence[str] | None:
     """The trace of an epoch, or of the current one, in an etcd, if the log there is of the older form; else none.
 
     Raises LogError; ValueError of an address that is none."""

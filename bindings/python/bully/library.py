@@ -13,7 +13,8 @@ from .header import HERE, fields, functions, top_of_tree, type_of
 from .values import Call, CallKind, Line, Owned, Rows, State, Status, Want
 
 FILE = 'libbully.so'
-HOW_TO_FIND = f'an archive of Cinnabarloom has {FILE} in lib, or bin/library FOLDER builds it; BULLY_LIBRARY=FOLDER tells where it is'
+WHERE = f'an archive of Cinnabarloom has {FILE} in lib, or bin/library FOLDER builds it'
+HOW_TO_FIND = f'{WHERE}; BULLY_LIBRARY=FOLDER tells where it is'
 ROOM_MIN = 256
 UINT16_MAX = 0xFFFF
 UINT32_MAX = 0xFFFF_FFFF
@@ -55,8 +56,8 @@ class RawMember(ctypes.Structure):
 
 
 _STRUCTURES = {
-    'bully_setup': RawSetup, 'bully_verdict': RawVerdict, 'bully_state': RawState, 'bully_group': RawGroup, 'bully_step': RawStep,
-    'bully_presence': RawPresence, 'bully_member_state': RawMember,
+    'bully_setup': RawSetup, 'bully_verdict': RawVerdict, 'bully_state': RawState, 'bully_group': RawGroup,
+    'bully_step': RawStep, 'bully_presence': RawPresence, 'bully_member_state': RawMember,
     **dict.fromkeys(('bully_agent', 'bully_replica', 'bully_member'), RawHandle),
 }  # fmt: skip
 
@@ -67,7 +68,8 @@ _loaded: list[ctypes.CDLL] = []
 
 def _prototypes() -> list[tuple[str, Any, list[Any]]]:
     """The functions of the library, with the types of what they give and take."""
-    return [(name, type_of(gives, _STRUCTURES), [type_of(kind, _STRUCTURES) for kind in takes]) for name, gives, takes in functions()]
+    typed = functools.partial(type_of, structures=_STRUCTURES)
+    return [(name, typed(gives), list(map(typed, takes))) for name, gives, takes in functions()]
 
 
 def _declared(library: ctypes.CDLL, prototypes: list[tuple[str, Any, list[Any]]]) -> ctypes.CDLL:

@@ -147,7 +147,9 @@ class Log(Protocol):
         moment. Who asks has read up to there, so one that ends before is damaged; likewise in read, append and
         finish."""
 
-    def wait(self, epoch: int, place: int, lives: Mapping[str, Life], until: Until, seconds: float, woken: int | None = None) -> None:
+    def wait(
+        self, epoch: int, place: int, lives: Mapping[str, Life], until: Until, seconds: float, woken: int | None = None
+    ) -> None:
         """Returns once another epoch is the current one, or rows stand behind that place, or others than these lives
         are present, or another wish or other orders stand than the last look found; or also, by `until`, once one of
         those present has promised that place of that epoch that hadn't when the last look found the log to end there,
@@ -195,7 +197,9 @@ def idle_of(promises: Mapping[Name, object], here: object) -> frozenset[Name]:
     return frozenset(name for name, promise in promises.items() if promise == here)
 
 
-def are_idle(until: Until, promises: Mapping[Name, object], here: object, before: AbstractSet[Name] = frozenset()) -> bool:
+def are_idle(
+    until: Until, promises: Mapping[Name, object], here: object, before: AbstractSet[Name] = frozenset()
+) -> bool:
     """Whether, by `until`, the promise of one that isn't among those before is this one, or all are."""
     if until is Until.NEWS:
         return False

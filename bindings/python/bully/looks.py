@@ -12,9 +12,12 @@ def seen_of(found: Found, end: Promise, name: str, numbers: Mapping[str, int], i
     numbers of all names, and by which numbers are up in the log. In a pause it tells of a stranger, who is waited
     for."""
     is_frozen = found.is_frozen(end)
-    presences = frozen(found, name, [each for each, number in numbers.items() if is_up(number)]) if is_frozen else found.presences
-    there = sorted(Presence(numbers[each], holder.life, holder.promise) for each, holder in presences.items() if each in numbers)
-    return Seen(found.epoch, tuple(there), is_frozen or len(there) < len(presences), found.wish is not None and not is_frozen)
+    up = [each for each, number in numbers.items() if is_up(number)] if is_frozen else []
+    presences = frozen(found, name, up) if is_frozen else found.presences
+    known = [(numbers[each], holder) for each, holder in presences.items() if each in numbers]
+    there = sorted(Presence(number, holder.life, holder.promise) for number, holder in known)
+    has_strangers, is_wished = is_frozen or len(there) < len(presences), found.wish is not None and not is_frozen
+    return Seen(found.epoch, tuple(there), has_strangers, is_wished)
 
 
 def frozen(found: Found, name: str, up: Iterable[str]) -> dict[str, Holder]:

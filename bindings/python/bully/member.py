@@ -213,7 +213,8 @@ def _moment(now: int) -> int:
 
 def _raw_presence(presence: Presence) -> RawPresence:
     life, promise, node = presence.life, presence.promise, number_of('a node', presence.node, UINT16_MAX)
-    process, number = number_of('a process', life.process, UINT64_MAX), number_of('a number of a life', life.number, UINT64_MAX)
+    process = number_of('a process', life.process, UINT64_MAX)
+    number = number_of('a number of a life', life.number, UINT64_MAX)
     epoch, place = number_of('an epoch', promise.epoch, UINT32_MAX), number_of('a place', promise.place, UINT32_MAX)
     return RawPresence(process, number, epoch, place, node)
 
@@ -244,9 +245,9 @@ class Core(Learned):
     @staticmethod
     def _epoch_of(opening: Opening) -> tuple[object, ...]:
         """The arguments of the library."""
-        header, owners, node = line_of(opening.header), owners_of(opening.old), number_of('a node', opening.node, UINT16_MAX)
-        epoch, most = number_of('an epoch', opening.epoch, UINT32_MAX), number_of('rows_max', opening.rows_max, UINT32_MAX)
-        return (*header, epoch, node, most, *owners)
+        header, owners = line_of(opening.header), owners_of(opening.old)
+        epoch, node = number_of('an epoch', opening.epoch, UINT32_MAX), number_of('a node', opening.node, UINT16_MAX)
+        return (*header, epoch, node, number_of('rows_max', opening.rows_max, UINT32_MAX), *owners)
 
     # What it does next.
 

@@ -155,11 +155,14 @@ class MemoryLog:
     def look(self, epoch: int, place: int) -> Found:
         with self._changed:
             see_end('the log', self._end(), Promise(epoch, place))
-            found = Found(self.epoch, self.rows[place:] if epoch == self.epoch else [], self.presences, self.wish, self.orders)
+            rows = self.rows[place:] if epoch == self.epoch else []
+            found = Found(self.epoch, rows, self.presences, self.wish, self.orders)
             self._seen.wanted, self._seen.idle = found.wanted, (self._end(), found.idle(self._end()))
             return found
 
-    def wait(self, epoch: int, place: int, lives: Mapping[str, Life], until: Until, seconds: float, woken: int | None = None) -> None:
+    def wait(
+        self, epoch: int, place: int, lives: Mapping[str, Life], until: Until, seconds: float, woken: int | None = None
+    ) -> None:
         if woken is not None:  # it is looked at now and then
             seconds = 0.0 if slept(0.0, woken) else min(seconds, PART)
         end, wanted = self.clock() + int(seconds * SECOND), getattr(self._seen, 'wanted', (None, Orders()))
@@ -170,7 +173,9 @@ class MemoryLog:
                 ends = [lease.until for lease in self.leases.values() if self.clock() < lease.until]
                 self._changed.wait(max(0, min([end, *ends]) - self.clock()) / SECOND)
 
-    def has_news(self, epoch: int, place: int, lives: Mapping[str, Life], wanted: Wanted, until: Until, before: AbstractSet[str]) -> bool:
+    def has_news(
+        self, epoch: int, place: int, lives: Mapping[str, Life], wanted: Wanted, until: Until, before: AbstractSet[str]
+    ) -> bool:
         """Whether a wait is over behind a look that found this wish, these orders, and these idle up to that place."""
         with self._changed:
             if Promise(epoch, place) != self._end() or wanted != (self.wish, self.orders):

@@ -26,7 +26,8 @@ class JsonLines(logging.Formatter):
 
     def format(self, record: logging.LogRecord) -> str:
         text = super().format(record)  # with what was raised, if anything was
-        return json.dumps({'time': round(record.created, 3), 'level': record.levelname.lower(), 'message': text}, ensure_ascii=False)
+        line = {'time': round(record.created, 3), 'level': record.levelname.lower(), 'message': text}
+        return json.dumps(line, ensure_ascii=False)
 
 
 def write(text: bytes) -> None:

@@ -36,7 +36,8 @@ def drain(log: Log, name: str, takes_last: bool) -> Orders:
         drained, names = found.orders.drained | {name}, set(opening.names)
         others = (names & set(found.presences) or names) - drained
         if not others and name not in found.orders.drained and not takes_last:
-            raise BadWords(f'{name} is the last one that is there and not drained, so nobody would work; --all takes it')
+            why = f'{name} is the last one that is there and not drained'
+            raise BadWords(f'{why}, so nobody would work; --all takes it')
         return replace(found.orders, drained=drained)
 
     return order(log, change)
@@ -54,7 +55,11 @@ def undrain(log: Log, name: str) -> Orders:
 
 def pause(log: Log) -> Orders:
     """The group is paused, if it isn't already: it is noted who is present."""
-    return order(log, lambda _, found: found.orders if found.orders.is_paused else replace(found.orders, lives=found.lives))
+
+    def change(_: Opening, found: Found) -> Orders:
+        return found.orders if found.orders.is_paused else replace(found.orders, lives=found.lives)
+
+    return order(log, change)
 
 
 def resume(log: Log) -> Orders:

@@ -23,8 +23,8 @@ class Orders:
     def parse(text: str) -> Orders:
         """Those that `text` told. Of what are none it raises ValueError, KeyError, TypeError or AttributeError."""
         document = json.loads(text or '{"drained": []}')
-        lives = {str(name): Life(*map(int, life)) for name, life in document['paused'].items()} if 'paused' in document else None
-        return Orders(frozenset(map(str, document['drained'])), lives)
+        lives = {str(name): Life(*map(int, life)) for name, life in document.get('paused', {}).items()}
+        return Orders(frozenset(map(str, document['drained'])), lives if 'paused' in document else None)
 
     def text(self) -> str:
         """The same as JSON, for a store; nothing, if there are none."""

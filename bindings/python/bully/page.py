@@ -30,7 +30,7 @@ _logger = logging.getLogger('bully')
 POLL_SECONDS = 25.0  # how long a request waits for news at most
 POLLS_MAX = 64  # requests that wait at one time
 LOOK_SECONDS = 0.1  # the log is looked at no more often, however many ask
-CONNECTIONS_MAX = 100  # at one time; of more the one is closed that hasn't asked for the longest, or the new one, if all have asked
+CONNECTIONS_MAX = 100  # at one time; of more the longest silent one is closed, or the new one, if all have asked
 ASK_SECONDS = 10.0  # that a connection may say nothing, or take nothing
 LOOPBACK = ('127.0.0.1', '::1', 'localhost')  # names of another machine that lead here are refused
 
@@ -67,23 +67,25 @@ async function follow() {
 follow();
 """
 SCRIPT_SUM = base64.b64encode(hashlib.sha256(SCRIPT.encode()).digest()).decode()
-POLICY = f"default-src 'none'; style-src 'unsafe-inline'; script-src 'sha256-{SCRIPT_SUM}'; connect-src 'self'; frame-ancestors 'none'"
+SOURCES = f"default-src 'none'; style-src 'unsafe-inline'; script-src 'sha256-{SCRIPT_SUM}'; connect-src 'self'"
+POLICY = f"{SOURCES}; frame-ancestors 'none'"
 
 Answer = tuple[int, str, str]  # the status, the kind and the text
 
 
 def page_of(name: str, group: GroupView, told_worker: str) -> str:
     """The page of the member of this name, with what is told of its worker."""
+    present = sum(node.is_present for node in group.nodes)
     title = f'{html.escape(name)}: token {group.token or "-"}, coordinator {html.escape(group.coordinator or "-")}'
     return (
-        f'<!doctype html><html lang="en"><meta charset="utf-8"><meta name="viewport" content="width=device-width"><title>{title}</title>'
-        f'<noscript><meta http-equiv="refresh" content="3"></noscript><style>{STYLE}</style>'
+        '<!doctype html><html lang="en"><meta charset="utf-8"><meta name="viewport" content="width=device-width">'
+        f'<title>{title}</title><noscript><meta http-equiv="refresh" content="3"></noscript><style>{STYLE}</style>'
         f'<body data-events="{group.events}" data-epoch="{group.epoch}"><h1>Group, as {html.escape(name)} sees it</h1>'
-        f'<p class="small">coordinator <b>{html.escape(group.coordinator or "none")}</b>, token <b>{group.token or "none"}</b>, '
-        f'{group.events} events in epoch {group.epoch}, '
-        f'{sum(node.is_present for node in group.nodes)} of {len(group.nodes)} nodes present{html.escape(group.told_more + told_worker)}</p>'
-        f'<h2>Nodes</h2>{nodes_of(group)}<h2>Partitions</h2>{partitions_of(group)}<h2>Last events</h2>{last_of(group)}</body>'
-        f'<script>{SCRIPT}</script></html>'
+        f'<p class="small">coordinator <b>{html.escape(group.coordinator or "none")}</b>, '
+        f'token <b>{group.token or "none"}</b>, {group.events} events in epoch {group.epoch}, '
+        f'{present} of {len(group.nodes)} nodes present{html.escape(group.told_more + told_worker)}</p>'
+        f'<h2>Nodes</h2>{nodes_of(group)}<h2>Partitions</h2>{partitions_of(group)}'
+        f'<h2>Last events</h2>{last_of(group)}</body><script>{SCRIPT}</script></html>'
     )
 
 
@@ -114,43 +116,45 @@ def partitions_of(group: GroupView) -> str:
 
 def last_of(group: GroupView) -> str:
     """The last rows, the newest first."""
-    rows = ''.join(f'<tr><td class="small">{number}<td><code>{html.escape(row)}</code></tr>' for number, row in reversed(group.last))
+    last = reversed(group.last)
+    rows = ''.join(f'<tr><td class="small">{number}<td><code>{html.escape(row)}</code></tr>' for number, row in last)
     return f'<table><tr><th>row<th>event</tr>{rows}</table>'
 
 
-def label(text: str) -> str:
-    """The text as a label of Prometheus."""
-    escaped = text.replace('\\', r'\\').replace('"', r'\"').replace('\n', r'\n')
-    return f'"{escaped}"'
+def labels(name: str) -> str:
+    """The label of a node, for Prometheus."""
+    escaped = name.replace('\\', r'\\').replace('"', r'\"').replace('\n', r'\n')
+    return f'{{node="{escaped}"}}'
 
 
 def metrics_of(group: GroupView, name: str, sure_seconds: float, workers: Workers) -> str:
     """The group and the member, for Prometheus."""
     lines: list[str] = []
 
-    def tell(metric: str, kind: str, told: str, values: list[tuple[str, float]]) -> None:
-        lines.extend([f'# HELP {metric} {told}', f'# TYPE {metric} {kind}'])
-        lines.extend(f'{metric}{labels} {value:{"d" if isinstance(value, int) else ".3f"}}' for labels, value in values)
+    def tell(metric: str, about: str, values: list[tuple[str, float]], kind: str = 'gauge') -> None:
+        lines.extend([f'# HELP {metric} {about}', f'# TYPE {metric} {kind}'])
+        lines.extend(f'{metric}{node} {value:{"d" if isinstance(value, int) else ".3f"}}' for node, value in values)
 
-    nodes = [(f'{{node={label(node.name)}}}', node) for node in group.nodes]
-    tell('bully_epoch', 'gauge', 'The current epoch.', [('', group.epoch)])
-    tell('bully_events_total', 'counter', 'Events of the current epoch.', [('', group.events)])
-    tell('bully_token', 'gauge', 'The token of the last plan; 0: there is none.', [('', group.token or 0)])
-    for metric, told, seconds in (
-        ('bully_sure_seconds', 'For how long what this member owns is sure.', sure_seconds),
-        ('bully_stopping_seconds', 'For how long its worker has been told to stop, and has not.', workers.stopping_seconds),
-        ('bully_worker_rest_seconds', 'For how long its worker still rests, since it failed.', workers.rest_seconds),
-    ):  # fmt: skip
-        tell(metric, 'gauge', told, [(f'{{node={label(name)}}}', seconds)])
-    tell('bully_node_present', 'gauge', 'Whether the node holds a presence.', [(labels, node.is_present) for labels, node in nodes])
-    tell('bully_drained', 'gauge', 'Whether the node is drained.', [(labels, node.is_drained) for labels, node in nodes])
-    tell('bully_paused', 'gauge', 'Whether the group is paused.', [('', group.is_paused)])
-    tell('bully_node_normal', 'gauge', 'Whether the node is Normal.', [(labels, node.status is Status.NORMAL) for labels, node in nodes])
-    tell('bully_node_leads', 'gauge', 'Whether the node is the coordinator.', [(labels, group.coordinator == node.name) for labels, node in nodes])
-    tell('bully_node_partitions', 'gauge', 'Partitions that the node owns.', [(labels, len(node.partitions)) for labels, node in nodes])
-    late = [(f'{{node={label(each)}}}', group.behind.get(each, 0.0)) for each in {**dict.fromkeys(node.name for node in group.nodes), **group.behind}]
-    tell('bully_idle_behind_seconds', 'gauge', 'For how long the others wait until the node is idle.', late)
-    tell('bully_partitions_free', 'gauge', 'Partitions that nobody may work on now.', [('', group.owners.count(None))])
+    def nodes(value: Callable[[NodeView], float]) -> list[tuple[str, float]]:
+        return [(labels(node.name), value(node)) for node in group.nodes]
+
+    mine, names = labels(name), dict.fromkeys([*(node.name for node in group.nodes), *group.behind])
+    tell('bully_epoch', 'The current epoch.', [('', group.epoch)])
+    tell('bully_events_total', 'Events of the current epoch.', [('', group.events)], 'counter')
+    tell('bully_token', 'The token of the last plan; 0: there is none.', [('', group.token or 0)])
+    tell('bully_sure_seconds', 'For how long what this member owns is sure.', [(mine, sure_seconds)])
+    stopping, rest = workers.stopping_seconds, workers.rest_seconds
+    tell('bully_stopping_seconds', 'For how long its worker has been told to stop, and has not.', [(mine, stopping)])
+    tell('bully_worker_rest_seconds', 'For how long its worker still rests, since it failed.', [(mine, rest)])
+    tell('bully_node_present', 'Whether the node holds a presence.', nodes(lambda node: node.is_present))
+    tell('bully_drained', 'Whether the node is drained.', nodes(lambda node: node.is_drained))
+    tell('bully_paused', 'Whether the group is paused.', [('', group.is_paused)])
+    tell('bully_node_normal', 'Whether the node is Normal.', nodes(lambda node: node.status is Status.NORMAL))
+    tell('bully_node_leads', 'Whether the node is the coordinator.', nodes(lambda node: node.name == group.coordinator))
+    tell('bully_node_partitions', 'Partitions that the node owns.', nodes(lambda node: len(node.partitions)))
+    behind = [(labels(each), group.behind.get(each, 0.0)) for each in names]
+    tell('bully_idle_behind_seconds', 'For how long the others wait until the node is idle.', behind)
+    tell('bully_partitions_free', 'Partitions that nobody may work on now.', [('', group.owners.count(None))])
     return '\n'.join(lines) + '\n'
 
 
@@ -276,7 +280,8 @@ class Page:
         if parts.path == '/healthz':
             return self._health()
         if parts.path == '/metrics':
-            return 200, 'text/plain; version=0.0.4', metrics_of(self._reader.known(), name, self._sure_seconds(), self._workers)
+            metrics = metrics_of(self._reader.known(), name, self._sure_seconds(), self._workers)
+            return 200, 'text/plain; version=0.0.4', metrics
         asked = parse_qs(parts.query)
         events, epoch = number_of(asked, 'after'), number_of(asked, 'epoch')
         if events is not None and not self._waited(events, epoch):
@@ -319,7 +324,8 @@ class Page:
         """What the member owns now."""
         owned = self._member.assignment()
         document: dict[str, Any] = {
-            'node': self._member.name, 'epoch': group.epoch, 'events': group.events, 'token': None, 'coordinator': None, 'partitions': [],
+            'node': self._member.name, 'epoch': group.epoch, 'events': group.events, 'token': None, 'coordinator': None,
+            'partitions': [],
         }  # fmt: skip
         if owned is not None:
             coordinator = owned.settings.name(owned.coordinator)
@@ -352,8 +358,8 @@ class PageHandler(BaseHTTPRequestHandler):
     def send(self, status: int, kind: str, text: str, *headers: tuple[str, str]) -> None:
         content = text.encode('utf-8', 'replace')
         all_headers = [
-            ('Content-Type', kind if 'version' in kind else f'{kind}; charset=utf-8'), ('Content-Length', str(len(content))),
-            ('Connection', 'close'), ('Cache-Control', 'no-store'),
+            ('Content-Type', kind if 'version' in kind else f'{kind}; charset=utf-8'),
+            ('Content-Length', str(len(content))), ('Connection', 'close'), ('Cache-Control', 'no-store'),
             ('X-Content-Type-Options', 'nosniff'), ('Content-Security-Policy', POLICY), *headers,
         ]  # fmt: skip
         self.send_response(status)

@@ -110,7 +110,8 @@ class Replica(Learned):
         node is Normal, and the last plan's token is above this place.
 
         Raises Closed, BadNode, OutOfMemory."""
-        return owned_of(self._partitions, self._function('owned'), node_of(node), number_of('a place', place, UINT32_MAX))
+        at = number_of('a place', place, UINT32_MAX)
+        return owned_of(self._partitions, self._function('owned'), node_of(node), at)
 
     # How a node stands, behind the rows that were learned. `state` has all. Each raises Closed and BadNode.
 

@@ -77,8 +77,9 @@ class Pruning(threading.Thread):
         done = 0  # up to which epoch
         while not self._ends.wait(self._member.ttl):
             owned = self._member.assignment()
-            if owned is not None and 0 in owned.partitions and owned.token.epoch > done and self._prunes(owned.token.epoch):
-                done = owned.token.epoch
+            epoch = owned.token.epoch if owned is not None and 0 in owned.partitions else 0
+            if epoch > done and self._prunes(epoch):
+                done = epoch
 
     def _prunes(self, epoch: int) -> bool:
         try:
@@ -120,10 +121,12 @@ def end_epoch(log: Log, opening: Opening, end: float) -> None:
             here = Promise(opening.epoch, replica.rows)
             if found.wish is not None and not found.presences:
                 tries += 1
-                end_alone(log, Life(process, tries), here, opening.next(found.wish, replica.last_table or opening.table))
+                after = opening.next(found.wish, replica.last_table or opening.table)
+                end_alone(log, Life(process, tries), here, after)
             elif seconds_of_boot() >= end:
                 late = [name for name, holder in found.presences.items() if holder.promise != here]
-                raise NotEnded(f'epoch {opening.epoch} has not ended yet, but waits for {", ".join(late or found.presences)}')
+                names = ', '.join(late or found.presences)
+                raise NotEnded(f'epoch {opening.epoch} has not ended yet, but waits for {names}')
             else:
                 log.wait(here.epoch, here.place, found.lives, Until.NEWS, max(0.0, min(PART, end - seconds_of_boot())))
 

@@ -92,8 +92,8 @@ class Member:
     """
 
     def __init__(
-        self, log: Log, node: int | str, start: Callback, stop: Callback, ttl: float = 5.0, settings: Settings | None = None,
-        sure: Callable[[float], None] | None = None,
+        self, log: Log, node: int | str, start: Callback, stop: Callback, ttl: float = 5.0,
+        settings: Settings | None = None, sure: Callable[[float], None] | None = None,
     ) -> None:  # fmt: skip
         """A member of the log's group, for the node of this name, or of this number in the current epoch. If the
         group's settings change, it goes on by the name; `run` returns, if the group has no such node any more. With
@@ -237,7 +237,8 @@ class Member:
         """It has ended. Whether it takes part again: if its node was drained, and isn't before it is told to end."""
         self.is_drained = ending is Ending.LEFT and not self._is_leaving
         level = logging.WARNING if ending is Ending.NOT_THERE else logging.INFO
-        _logger.log(level, 'node %s: %s', shown_name(self.name), 'it is drained, and does nothing' if self.is_drained else ENDINGS[ending])
+        why = 'it is drained, and does nothing' if self.is_drained else ENDINGS[ending]
+        _logger.log(level, 'node %s: %s', shown_name(self.name), why)
         if ending is Ending.BROKEN:
             self.failure = self.failure or self.core.fault or DamagedLog('the log has a row that is no event')
         self._show()
@@ -326,7 +327,8 @@ class Member:
             self._sure(self.core.sure_until / SECOND)
 
     def _asker(self) -> Asker:
-        return Asker(self.log, self.name, self.opening, self.core.place, lambda: int(self.ttl * SECOND), self.core.settlement, self._after)
+        ttl = int(self.ttl * SECOND)
+        return Asker(self.log, self.name, self.opening, self.core.place, lambda: ttl, self.core.settlement, self._after)
 
     def _after(self) -> Opening:
         """With what the next epoch is to begin."""
@@ -350,7 +352,8 @@ class Member:
         if life is not None and life.process != self._process and life != self._other:
             self._other = life
             who = shown_name(self.name), life.process, life.number
-            _logger.warning('node %s: another process is present for it, as %d.%d, and this one waits until that ends', *who)
+            said = 'node %s: another process is present for it, as %d.%d, and this one waits until that ends'
+            _logger.warning(said, *who)
 
     def _followed(self, opening: Opening) -> None:
         """With what the current epoch begins."""
@@ -374,7 +377,8 @@ class Member:
         """Calls what it is told to, one after the other."""
         for is_stop, work in iter(self._to_call.get, None):
             words = 'stops' if is_stop else 'begins'
-            _logger.info('node %s: %s partitions %s by token %d', shown_name(self.name), words, list(work.partitions), work.token)
+            who, what = shown_name(self.name), list(work.partitions)
+            _logger.info('node %s: %s partitions %s by token %d', who, words, what, work.token)
             try:
                 (self._stop_work if is_stop else self._start_work)(work)
             except BaseException as failure:

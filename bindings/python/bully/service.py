@@ -30,7 +30,8 @@ class Service(threading.Thread):
         self._tell('READY=1')
         while not self._ends.wait(self._beat):
             leaves, goes_on = self._member.is_leaving, self._goes_on()
-            self._tell(f'STATUS={self._stands()}', *(['STOPPING=1'] if leaves else []), *(['WATCHDOG=1'] if goes_on else []))
+            more = ['STOPPING=1'] * leaves + ['WATCHDOG=1'] * goes_on
+            self._tell(f'STATUS={self._stands()}', *more)
         self._tell('STOPPING=1')
 
     def _goes_on(self) -> bool:

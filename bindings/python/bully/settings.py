@@ -37,8 +37,8 @@ class Settings:
     def text(self, ttl: float, margin: float) -> str:
         """The settings as JSON, for a worker."""
         document = {
-            'names': self.names, 'weights': self.setup.weights or (1,) * self.setup.nodes, 'partitions': self.setup.partitions,
-            'keep': self.setup.keeps, 'ttl': ttl, 'margin': margin,
+            'names': self.names, 'weights': self.setup.weights or (1,) * self.setup.nodes,
+            'partitions': self.setup.partitions, 'keep': self.setup.keeps, 'ttl': ttl, 'margin': margin,
         }  # fmt: skip
         return json.dumps(document, ensure_ascii=False)
 
@@ -55,9 +55,9 @@ class Key:
 
 
 TOP = (
-    Key('nodes', int, 1, 1024), Key('partitions', int, 1, 4096), Key('events', int, 1, 1_000_000), Key('turns', int, 1, 1_000_000),
-    Key('period', int, 2, 65_536, False), Key('names', list), Key('weights', list, 0, 0, False), Key('keep', bool, 0, 0, False),
-    Key('fault', list, 0, 10_000, False),
+    Key('nodes', int, 1, 1024), Key('partitions', int, 1, 4096), Key('events', int, 1, 1_000_000),
+    Key('turns', int, 1, 1_000_000), Key('period', int, 2, 65_536, False), Key('names', list),
+    Key('weights', list, 0, 0, False), Key('keep', bool, 0, 0, False), Key('fault', list, 0, 10_000, False),
 )  # fmt: skip
 FAULT = (Key('at', int, 1), Key('node', str), Key('kind', str))
 MEMBERS = {'names': str, 'weights': int, 'fault': dict}  # the kinds of what is in the arrays
@@ -69,7 +69,8 @@ def read_settings(text: bytes) -> Settings:
     fault = next(faults_in(document), None)
     if fault is not None:
         raise ConfigFault(fault)
-    setup = Setup(document['nodes'], document['partitions'], weights=tuple(document.get('weights', ())), keeps=document.get('keep', False))
+    weights, keeps = tuple(document.get('weights', ())), document.get('keep', False)
+    setup = Setup(document['nodes'], document['partitions'], weights=weights, keeps=keeps)
     return Settings(setup, tuple(document['names']))
 
 
@@ -108,11 +109,13 @@ def faults_in(document: dict[str, Any]) -> Iterator[str]:
     """The faults, in the order of docs/FORMATS.md. None is looked for before the ones before it were handed out."""
     faults = document.get('fault', [])
     tables = [(document, TOP), *((fault, FAULT) for fault in faults)] if is_kind(faults, TOP[-1]) else [(document, TOP)]
-    yield from (f'Missing {key.name}' for table, keys in tables for key in keys if key.is_required and key.name not in table)
-    yield from (f'Kind {key.name}' for table, keys in tables for key in keys if key.name in table and not is_kind(table[key.name], key))
+    each = [(table, key) for table, keys in tables for key in keys]
+    yield from (f'Missing {key.name}' for table, key in each if key.is_required and key.name not in table)
+    yield from (f'Kind {key.name}' for table, key in each if key.name in table and not is_kind(table[key.name], key))
     yield from (f'Range {key.name}' for key in TOP if key.name in document and not is_in_range(document, key))
     for fault in faults:
-        ranges = (1 <= fault['at'] <= document['turns'], fault['node'] in document['names'], fault['kind'] in ('crash', 'recover'))
+        is_at, is_node = 1 <= fault['at'] <= document['turns'], fault['node'] in document['names']
+        ranges = is_at, is_node, fault['kind'] in ('crash', 'recover')
         yield from (f'Range {key.name}' for key, is_in in zip(FAULT, ranges) if not is_in)
     if len(set(document['names'])) < len(document['names']):
         yield 'DoubleName'
@@ -124,7 +127,8 @@ def is_in_range(document: dict[str, Any], key: Key) -> bool:
     """Whether the value of the key at the top is in its range."""
     value = document[key.name]
     if key.name in ('names', 'weights'):
-        return len(value) == document['nodes'] and all(each if key.name == 'names' else 1 <= each <= 1000 for each in value)
+        are_in = (each if key.name == 'names' else 1 <= each <= 1000 for each in value)
+        return len(value) == document['nodes'] and all(are_in)
     if key.name == 'fault':
         return len(value) <= key.most
     return key.kind is bool or key.least <= value <= key.most

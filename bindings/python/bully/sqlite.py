@@ -56,8 +56,8 @@ OTHER_BOOT = 'another boot uses it behind this one: its members have to see one 
 
 # What SQLite says, by a part of its message, and what that means. The first that fits counts.
 MEANINGS = (
-    ('not a database', ForeignLog), ('malformed|no such|decode', DamagedLog), ('read-?only', ReadOnlyLog), ('locked|busy', LogBusy),
-    ('is full', DiskFull), ('unable to open', ReadOnlyLog),
+    ('not a database', ForeignLog), ('malformed|no such|decode', DamagedLog), ('read-?only', ReadOnlyLog),
+    ('locked|busy', LogBusy), ('is full', DiskFull), ('unable to open', ReadOnlyLog),
 )  # fmt: skip
 
 
@@ -108,16 +108,19 @@ def beside(path: str) -> list[tuple[int, int]]:
 def see_alone(path: str) -> None:
     """Raises ForeignLog, if the file may be reached by another path: who does that has other files beside it."""
     if os.stat(path).st_nlink > 1:
-        raise ForeignLog(f'{path}: it has another name, a hard link, by which others would have another log of what is written')
+        others = 'by which others would have another log of what is written'
+        raise ForeignLog(f'{path}: it has another name, a hard link, {others}')
     if mount_of(path) != mount_of(os.path.dirname(os.path.realpath(path))):
-        raise ForeignLog(f'{path}: it is mounted alone, so that others have another log of what is written; mount its folder')
+        others = 'so that others have another log of what is written; mount its folder'
+        raise ForeignLog(f'{path}: it is mounted alone, {others}')
 
 
 def mount_of(path: str) -> str:
     """The mount in which a path is. (To open a file of SQLite's otherwise, and to close it, would lose its locks.)"""
     descriptor = os.open(path, os.O_PATH)
     try:
-        return next(line for line in Path(f'/proc/self/fdinfo/{descriptor}').read_text(encoding='ascii').splitlines() if 'mnt_id' in line)
+        lines = Path(f'/proc/self/fdinfo/{descriptor}').read_text(encoding='ascii').splitlines()
+        return next(line for line in lines if 'mnt_id' in line)
     finally:
         os.close(descriptor)
 
@@ -214,7 +217,8 @@ class SqliteLog:
         room = f'{name}.{log_name()}.new'  # processes of two containers may have one number
         try:
             with calls(room), closing(connection(room, 1.0, 'rwc')) as file:
-                file.executescript(f'pragma journal_mode = wal; pragma application_id = {APPLICATION}; pragma user_version = {FORM}; {TABLES}')
+                kind = f'pragma application_id = {APPLICATION}; pragma user_version = {FORM}'
+                file.executescript(f'pragma journal_mode = wal; {kind}; {TABLES}')
                 file.execute("insert into changes values (?, 0, 0, '')", (log_name(),))
                 open_epoch(file, opening)
             os.link(room, name)
@@ -231,7 +235,8 @@ class SqliteLog:
             form = form_of(self.path, self._file)
             if form != FORM:
                 version, more = ('an older', BY_HISTORY) if form < FORM else ('another', '')
-                raise ForeignLog(f'{self.path}: a log of form {form}, by {version} version, and not of form {FORM}{more}')
+                by = f'{form}, by {version} version'
+                raise ForeignLog(f'{self.path}: a log of form {by}, and not of form {FORM}{more}')
             self._file.execute('pragma journal_mode = wal')
             self._file.execute('pragma synchronous = normal')
         with self._transaction(kind) as standing:
@@ -314,7 +319,8 @@ class SqliteLog:
 
     def _are_elsewhere(self, now: int) -> bool:
         """Whether another boot may hold presences, by this clock: those of earlier boots are mostly of other times."""
-        return self._one('select count(*) from presence where boot != ? and since <= ? and until > ?', self._boot, now, now) > 0
+        asked = 'select count(*) from presence where boot != ? and since <= ? and until > ?'
+        return self._one(asked, self._boot, now, now) > 0
 
     def renew(self, name: str, life: Life, ttl: int) -> bool:
         with self._transaction():
@@ -335,7 +341,8 @@ class SqliteLog:
             if promised is None:
                 return False
             later = max(promise, promised)
-            self._file.execute('update presence set epoch = ?, place = ? where name = ?', (later.epoch, later.place, name))
+            asked = 'update presence set epoch = ?, place = ? where name = ?'
+            self._file.execute(asked, (later.epoch, later.place, name))
             self._file.execute('update changes set promises = promises + 1')
         return True
 
@@ -392,7 +399,8 @@ class SqliteLog:
             return Rows('')
         first = self._one('select coalesce(max(place), 0) from log where epoch = ? and place <= ?', epoch, place)
         asked = 'select rows from log where epoch = ? and place >= ? order by place'
-        rows = rows_of(self.path, epoch, first, ''.join([str(text) for text, in self._file.execute(asked, (epoch, first))]))
+        texts = [str(text) for text, in self._file.execute(asked, (epoch, first))]
+        rows = rows_of(self.path, epoch, first, ''.join(texts))
         if len(rows) != count - first:
             raise DamagedLog(f'{self.path}: rows are missing behind place {place}')
         return rows.behind(place - first)
@@ -410,7 +418,8 @@ class SqliteLog:
                 return False
             self._file.execute('delete from log where epoch = ? and place >= ?', (end.epoch, append + bool(text)))
             self._file.execute('update log set rows = ? where epoch = ? and place = ?', (text, end.epoch, append))
-            self._file.execute('update epochs set count = ?, wish = null where epoch = ?', (append + text.count('\n'), end.epoch))
+            left = append + text.count('\n')
+            self._file.execute('update epochs set count = ?, wish = null where epoch = ?', (left, end.epoch))
             open_epoch(self._file, opening)
         return True
 
@@ -435,7 +444,9 @@ class SqliteLog:
         self._lives, self._earliest = standing.lives, min((until for *_, until in found), default=NEVER)
         return presences
 
-    def wait(self, epoch: int, place: int, lives: Mapping[str, Life], until: Until, seconds: float, woken: int | None = None) -> None:
+    def wait(
+        self, epoch: int, place: int, lives: Mapping[str, Life], until: Until, seconds: float, woken: int | None = None
+    ) -> None:
         """Without news the next wait goes on at the pace of this one: what comes is often soon followed by more."""
         end = nanoseconds_of_boot() + int(seconds * SECOND)
         self._version = self._promises = -1
@@ -443,7 +454,8 @@ class SqliteLog:
             now = nanoseconds_of_boot()
             if now >= end:
                 return
-            if slept(min(self._sleep, (end - now) / SECOND, max(SHORTEST_SLEEP, (self._earliest - now) / SECOND)), woken):
+            presence = max(SHORTEST_SLEEP, (self._earliest - now) / SECOND)
+            if slept(min(self._sleep, (end - now) / SECOND, presence), woken):
                 break
             self._sleep = min(2 * self._sleep, LONGEST_SLEEP)
         self._sleep = SHORTEST_SLEEP
@@ -473,8 +485,8 @@ class SqliteLog:
 
     def _standing(self) -> Standing:
         boot = '(select boot from boots order by number desc limit 1)'
-        asked = f'select epoch, count, wish, orders, name, {boot}, lives, promises from epochs, changes order by epoch desc limit 1'
-        found = self._file.execute(asked).fetchone()
+        asked = f'select epoch, count, wish, orders, name, {boot}, lives, promises from epochs, changes'
+        found = self._file.execute(f'{asked} order by epoch desc limit 1').fetchone()
         if found is None or not all(isinstance(number, int) for number in (*found[:2], *found[-2:])):
             raise DamagedLog(f'{self.path}: the log has no opening, or no end')
         standing = Standing(Promise(*found[:2]), *found[2:])

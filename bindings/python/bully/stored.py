@@ -30,13 +30,15 @@ def log_name() -> str:
 def see_end(where: str, end: Promise, here: Promise) -> None:
     """Raises DamagedLog, if the log was read up to here, and ends before."""
     if here > end:
-        raise DamagedLog(f'{where}: the log was read up to place {here.place} of epoch {here.epoch}, and ends at {end.place} of {end.epoch}: '
-                         'its store went back, as one does that is restored')  # fmt: skip
+        read, ends = f'place {here.place} of epoch {here.epoch}', f'{end.place} of {end.epoch}'
+        back = 'its store went back, as one does that is restored'
+        raise DamagedLog(f'{where}: the log was read up to {read}, and ends at {ends}: {back}')
 
 
 def no_epoch(where: str, epoch: int, there: range) -> NoEpoch:
     """That the epoch isn't there, and which are."""
-    return NoEpoch(f'{where}: epoch {epoch} is not there, but ' + (f'{there[0]} to {there[-1]}' if len(there) > 1 else f'{there[0]}'))
+    are_there = f'{there[0]} to {there[-1]}' if len(there) > 1 else f'{there[0]}'
+    return NoEpoch(f'{where}: epoch {epoch} is not there, but {are_there}')
 
 
 def opening_of(where: str, epoch: int, text: str | bytes) -> Opening:

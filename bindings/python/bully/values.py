@@ -8,6 +8,11 @@ from typing import NamedTuple, Union, overload
 
 from .faults import BullyError
 
+__all__ = [
+    'EVENTS_MAX', 'NODES_MAX', 'PARTITIONS_MAX', 'WEIGHT_MAX', 'Answer', 'Call', 'CallKind', 'Line', 'Owned', 'Rows',
+    'State', 'Status', 'TablePlan', 'Verdict', 'VerdictKind', 'Want',
+]  # fmt: skip
+
 NODES_MAX = 1024
 PARTITIONS_MAX = 4096
 WEIGHT_MAX = 1000

@@ -72,7 +72,7 @@ class GroupView:
     nodes: tuple[NodeView, ...]
     is_at_rest: bool  # whether nothing is to be done but to work
     is_paused: bool
-    behind: dict[str, float]  # who isn't idle up to the end of the log, though the group isn't at rest, and for how many seconds
+    behind: dict[str, float]  # who isn't idle up to the end, though the group isn't at rest, and for how many seconds
     last: tuple[tuple[int, str], ...]  # the last rows, with their numbers in the trace
 
     @property
@@ -84,14 +84,15 @@ class GroupView:
     def told_more(self) -> str:
         """Whether it is paused, and who is behind, for people."""
         late = ', '.join(f'{shown_name(name)} for {seconds:.1f} s' for name, seconds in self.behind.items())
-        return ('; paused: who works goes on, and nobody settles' if self.is_paused else '') + (f'; not idle yet: {late}' if late else '')
+        paused = '; paused: who works goes on, and nobody settles' if self.is_paused else ''
+        return paused + (f'; not idle yet: {late}' if late else '')
 
     def document(self) -> dict[str, Any]:
         """The same for JSON."""
         return {
-            'epoch': self.epoch, 'rows': self.rows, 'events': self.events, 'token': self.token, 'coordinator': self.coordinator,
-            'owners': list(self.owners), 'nodes': [node.document() for node in self.nodes], 'at_rest': self.is_at_rest,
-            'paused': self.is_paused,
+            'epoch': self.epoch, 'rows': self.rows, 'events': self.events, 'token': self.token,
+            'coordinator': self.coordinator, 'owners': list(self.owners),
+            'nodes': [node.document() for node in self.nodes], 'at_rest': self.is_at_rest, 'paused': self.is_paused,
             'behind': {name: round(seconds, 3) for name, seconds in self.behind.items()},
             'last': [{'row': number, 'text': row} for number, row in self.last],
         }  # fmt: skip
@@ -153,13 +154,15 @@ class LogView:
         rests, is_paused = self._is_at_rest(found, nodes), found.orders.is_paused
         behind = self._behind.see(Promise(opening.epoch, replica.rows), found.presences, rests or is_paused)
         return GroupView(
-            opening.epoch, replica.rows, replica.events, token, coordinator, tuple(owners), nodes, rests, is_paused, behind, tuple(self._last)
+            opening.epoch, replica.rows, replica.events, token, coordinator, tuple(owners), nodes, rests, is_paused,
+            behind, tuple(self._last),
         )  # fmt: skip
 
     def _is_at_rest(self, found: Found, nodes: tuple[NodeView, ...]) -> bool:
         """Whether nothing is to be done but to work. In a pause who came, and what is wished for, waits for its end."""
         is_paused = found.orders.is_paused
-        counted = {node.name: node.node for node in nodes if node.is_present and not (is_paused and node.status is Status.DOWN)}
+        here = [node for node in nodes if node.is_present and not (is_paused and node.status is Status.DOWN)]
+        counted = {node.name: node.node for node in here}
         promises = [holder.promise for name, holder in found.presences.items() if name in counted or not is_paused]
         idle = max((promise.place for promise in promises if promise.epoch == found.epoch), default=0)
         has_room = self._replica.rows + SETTLEMENT * len(nodes) <= self._opening.limit
@@ -171,7 +174,8 @@ class LogView:
         task = self._replica.task(node) or () if is_normal else ()
         partitions = tuple(partition for partition, owner in enumerate(task) if owner == node)
         coordinator, name = None if state.coordinator is None else self._name(state.coordinator), self._name(node)
-        return NodeView(node, name, state.status, coordinator, name in found.presences, name in found.orders.drained, partitions)
+        is_present, is_drained = name in found.presences, name in found.orders.drained
+        return NodeView(node, name, state.status, coordinator, is_present, is_drained, partitions)
 
     def _name(self, node: int) -> str:
         return self._opening.names[node - 1]

@@ -23,6 +23,7 @@ STARTS = 5.0  # seconds that a guard takes to begin, at most
 REST_MAX = 60.0  # seconds that a worker rests at most which fails again and again
 PART = 0.1  # seconds for which it waits at once for a worker to stop
 MESSAGE_MAX = 100_000  # bytes of a message to the guard: all sockets have room for so many
+LEFT = 'these processes may work on, since SIGKILL has not ended them; until they are gone nothing is begun here: %s'
 
 _logger = logging.getLogger('bully')
 
@@ -53,7 +54,8 @@ class Workers:
         self._assignment: Assignment | None = None
         self._stopped: queue.SimpleQueue[None] = queue.SimpleQueue()
         self._until = 0  # in nanoseconds of CLOCK_BOOTTIME
-        self._begun = self._rest = self._rest_end = 0.0  # when the worker was told to begin, and how long and until when it rests since it failed
+        self._begun = 0.0  # when the worker was told to begin
+        self._rest = self._rest_end = 0.0  # how long and until when it rests since it failed
         self._may_work = False  # whether the worker was told to begin, and may be at work
         self._is_unheard = False  # whether the guard hasn't answered that yet
         self._stop_begun: float | None = None  # when the worker was told to stop, if it hasn't yet
@@ -71,7 +73,9 @@ class Workers:
         command = [sys.executable, '-I', '-S', GUARD, str(given.fileno()), str(self._patience), *more, *self._words]
         environment = {**os.environ, 'BULLY_NODE': self._node}
         with given:
-            self._guard = subprocess.Popen(command, env=environment, stdin=subprocess.DEVNULL, pass_fds=[given.fileno()], start_new_session=True)
+            self._guard = subprocess.Popen(
+                command, env=environment, stdin=subprocess.DEVNULL, pass_fds=[given.fileno()], start_new_session=True
+            )
         self._listener = threading.Thread(target=self._hear_all, name='bully guard', daemon=True)
         self._listener.start()
 
@@ -87,8 +91,8 @@ class Workers:
             document = {'begin': assignment.token, 'partitions': assignment.partitions, 'coordinator': coordinator}
             words = json.dumps({**document, 'settings': json.loads(settings)})
         else:
-            partitions = ' '.join(map(str, assignment.partitions))
-            named = {'TOKEN': str(assignment.token), 'SETTINGS': settings, 'COORDINATOR': coordinator, 'PARTITIONS': partitions}
+            named = {'TOKEN': str(assignment.token), 'SETTINGS': settings, 'COORDINATOR': coordinator}
+            named['PARTITIONS'] = ' '.join(map(str, assignment.partitions))
             words = '\0'.join(f'BULLY_{name}={value}' for name, value in named.items())
         self._may_work = self._is_unheard = True
         self._tell(f'until {self._until}')
@@ -109,7 +113,10 @@ class Workers:
             with suppress(queue.Empty):
                 return self._stopped.get(timeout=PART)
             if self.is_stuck and self._member.is_leaving and all(map(may_kill, self._left)):
-                raise WorkerStuck(f'the worker has not ended for {self.stopping_seconds:.1f} s, though it was killed; its presence ends by itself')
+                seconds = f'{self.stopping_seconds:.1f} s'
+                raise WorkerStuck(
+                    f'the worker has not ended for {seconds}, though it was killed; its presence ends by itself'
+                )
 
     @property
     def stopping_seconds(self) -> float:
@@ -213,7 +220,7 @@ class Workers:
         silent = 0
         while silent < SILENT or slept(0.0, self._channel.fileno()):
             if slept(self._pause(), self._channel.fileno()):
-                with suppress(ConnectionResetError):  # comes once, and before what it said, if it didn't read all that it was told
+                with suppress(ConnectionResetError):  # comes once, before what it said, if it didn't read all
                     return self._channel.recv(1000)
             silent = silent + 1 if self._is_silent() else 0
         return b''
@@ -229,7 +236,8 @@ class Workers:
         stop_begun, now, ttl = self._stop_begun, seconds_of_boot(), self._member.ttl
         is_late = self._may_work and now > max(self._begun, self._until / SECOND) + ttl / BEATS
         is_deaf = self._is_unheard and now > self._begun + ttl + STARTS
-        return not self._left and (is_late or is_deaf or stop_begun is not None and now > stop_begun + self._patience + ttl)
+        is_stuck = stop_begun is not None and now > stop_begun + self._patience + ttl
+        return not self._left and (is_late or is_deaf or is_stuck)
 
     def _end_all(self) -> None:
         """Returns once nothing is left of the guard, and of what it began."""
@@ -240,4 +248,4 @@ class Workers:
 
     def _tell_left(self, processes: list[int]) -> None:
         self._left = processes
-        _logger.error('these processes may work on, since SIGKILL has not ended them; until they are gone nothing is begun here: %s', processes)
+        _logger.error(LEFT, processes)

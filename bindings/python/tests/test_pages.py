@@ -197,13 +197,13 @@ class Pages(unittest.TestCase):
         """Health, and what is measured of the member, are told all the same."""
         self.make(1000.0)
         self.begin()
-        wait_until(lambda: f'bully_node_present{{node={page.label(self.NAMES[1])}}} 1' in self.get('/metrics')[2])
+        wait_until(lambda: f'bully_node_present{page.labels(self.NAMES[1])} 1' in self.get('/metrics')[2])
         self.log.is_silent = True
         self.addCleanup(setattr, self.log, 'is_silent', False)
         wait_until(lambda: self.get('/group')[0] == 503)
         self.assertEqual(self.get('/healthz')[::2], (200, 'present\n'))
         told = dict(line.rsplit(' ', 1) for line in self.get('/metrics')[2].splitlines() if not line.startswith('#'))
-        self.assertGreater(float(told[f'bully_sure_seconds{{node={page.label(self.NAMES[1])}}}']), 700.0)
+        self.assertGreater(float(told[f'bully_sure_seconds{page.labels(self.NAMES[1])}']), 700.0)
 
     def test_a_worker_that_does_not_end(self) -> None:
         self.begin()
@@ -214,7 +214,7 @@ class Pages(unittest.TestCase):
         self.assertEqual(self.get('/healthz')[::2], (503, 'its worker does not end\n'))
         self.assertRegex(self.get('/')[2], 'nodes present; its worker has not stopped for 1[0-9][.][0-9] s<')
         told = dict(line.rsplit(' ', 1) for line in self.get('/metrics')[2].splitlines() if not line.startswith('#'))
-        self.assertGreaterEqual(float(told[f'bully_stopping_seconds{{node={page.label(self.NAMES[1])}}}']), 10.0)
+        self.assertGreaterEqual(float(told[f'bully_stopping_seconds{page.labels(self.NAMES[1])}']), 10.0)
         self.workers._left, self.workers._stop_begun = [], None
 
     def test_an_epoch_that_is_not_told(self) -> None:
@@ -265,7 +265,7 @@ class Pages(unittest.TestCase):
         self.begin()
         self.assertEqual(json.loads(self.get('/group')[2])['behind'], {})
         name, life = self.NAMES[0], Life(7, 1)
-        self.assertIn(f'bully_idle_behind_seconds{{node={page.label(name)}}} 0.000', self.get('/metrics')[2])
+        self.assertIn(f'bully_idle_behind_seconds{page.labels(name)} 0.000', self.get('/metrics')[2])
         self.assertTrue(self.log.take(name, life, Promise(1, len(self.log.rows)), LONG))
         with self.log._changed:  # it works
             self.log.leases[name] = self.log.leases[name]._replace(holder=Holder(life, Promise()))
