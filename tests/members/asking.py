@@ -149,7 +149,9 @@ class KeptLog(EtcdLog):
         if end != here or (None if wished is None else Opening.parse(wished.decode()), orders) != wanted:
             return True
         told = {name.encode(): life_text(life).encode() for name, life in lives.items()}
-        return self._below(self._keys.lives) != told or are_idle(until, self._below(self._keys.promises), here, {name.encode() for name in before})
+        return self._below(self._keys.lives) != told or are_idle(
+            until, self._below(self._keys.promises), here, {name.encode() for name in before}
+        )
 
     def _below(self, prefix: bytes) -> dict[bytes, bytes | None]:
         """The values of all keys that begin so, by what is behind that."""

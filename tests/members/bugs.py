@@ -16,9 +16,11 @@ from bully.orders import Orders
 from bully.stored import life_text, rows_text
 from . import planted
 from .asking import KeptLog
+from .driven import Maker
 from .over_etcd import OverEtcd
 from .over_memory import MemoryStore, OverMemory
-from .settling import Maker, Ordered, Simulation, Trouble
+from .settling import Simulation
+from .trouble import Ordered, Trouble
 
 
 # ---- Logs in memory.
@@ -94,7 +96,11 @@ class PromisesForAnybody(BrokenLog):
 
     def promise(self, name: str, life: Life, promise: Promise) -> bool:
         holder = self.presences.get(name)
-        return super().promise(name, holder.life if holder else life, promise) and holder is not None and holder.life == life
+        return (
+            super().promise(name, holder.life if holder else life, promise)
+            and holder is not None
+            and holder.life == life
+        )
 
 
 class PromisesFall(BrokenLog):
@@ -219,7 +225,12 @@ class PromisesUnderLease(KeptLog):
         is_held = value_is(keys.life(name), life_text(life).encode())
         is_later = {**value_is(keys.promise(name), told.encode()), 'result': 'LESS'}
         under = {'lease': str(self._held.lease)} if self._held is not None else {}
-        answer = self._change([is_held, is_later], [put_at(keys.promise(name), told, **under)], range_at(keys.life(name)), range_at(keys.promise(name)))
+        answer = self._change(
+            [is_held, is_later],
+            [put_at(keys.promise(name), told, **under)],
+            range_at(keys.life(name)),
+            range_at(keys.promise(name)),
+        )
         if answer.is_done:
             return True
         holder, promised = map(value_of, answer.ranges)
@@ -244,7 +255,10 @@ class MovesPromiseOn(KeptLog):
     def _move(self, name: str, found: Pair, held: Held) -> bool:
         end = value_of(self._look(range_at(self._keys.place)).ranges[0]) or b''
         key, under = self._keys.life(name), str(held.lease)
-        moved = [put_at(key, life_text(held.life), lease=under), put_at(self._keys.promise(name), end.decode(), lease=under)]
+        moved = [
+            put_at(key, life_text(held.life), lease=under),
+            put_at(self._keys.promise(name), end.decode(), lease=under),
+        ]
         answer = self._change([number_is(key, 'mod_revision', found.modified)], moved, range_at(key))
         if answer.is_done:
             self._held = held
@@ -262,7 +276,10 @@ class TakesAnyPlaceThere(KeptLog):
             return False
         held = self._granted(life, ttl, answer.term)
         under = str(held.lease)
-        done = [put_at(keys.life(name), life_text(life), lease=under), put_at(keys.promise(name), place_text(promise), lease=under)]
+        done = [
+            put_at(keys.life(name), life_text(life), lease=under),
+            put_at(keys.promise(name), place_text(promise), lease=under),
+        ]
         is_done = self._change([number_is(keys.life(name), 'version', 0)], done).is_done
         if is_done:
             self._held = held
@@ -317,7 +334,13 @@ class ReleasesAnyLifeThere(KeptLog):
     def release(self, name: str, life: Life) -> None:
         found = pairs_of(self._look(range_at(self._keys.life(name))).ranges[0])
         if found:
-            self._change([], [{'request_delete_range': range_at(self._keys.life(name))}, {'request_delete_range': range_at(self._keys.promise(name))}])
+            self._change(
+                [],
+                [
+                    {'request_delete_range': range_at(self._keys.life(name))},
+                    {'request_delete_range': range_at(self._keys.promise(name))},
+                ],
+            )
 
 
 class PromisesForAnybodyThere(KeptLog):
@@ -327,7 +350,11 @@ class PromisesForAnybodyThere(KeptLog):
         self._client.begin()
         keys, told = self._keys, place_text(promise).encode()
         is_later = {**value_is(keys.promise(name), told), 'result': 'LESS'}
-        kept = same(keys.promise(name), value=put_at(keys.promise(name), told.decode())['request_put']['value'], ignore_lease=True)
+        kept = same(
+            keys.promise(name),
+            value=put_at(keys.promise(name), told.decode())['request_put']['value'],
+            ignore_lease=True,
+        )
         answer = self._change([is_later], [kept], range_at(keys.life(name)), range_at(keys.promise(name)))
         if answer.is_done:
             return True
@@ -412,7 +439,9 @@ class SlowTakes(Trouble):
 
     def __init__(self, choice: random.Random) -> None:
         super().__init__(choice)
-        self.lost = self.unanswered = self.slow = self.cuts = self.pauses = self.ends = self.wishes = self.renewal_pauses = 0.0
+        self.lost = (
+            self.unanswered
+        ) = self.slow = self.cuts = self.pauses = self.ends = self.wishes = self.renewal_pauses = 0.0
         self.deaths, self.leaves, self.joins, self.short = 0.7, 0.0, 0.7, 0.0
         self.nodes, self.slowest, self.trip, self.patience, self.room = 1, Request.TAKE, 0.002, 3.0, 10_000
 
@@ -430,7 +459,14 @@ class SlowPromises(SlowTakes):
 
     def __init__(self, choice: random.Random) -> None:
         super().__init__(choice)
-        self.nodes, self.slowest, self.deaths, self.leaves, self.joins, self.short = 3, Request.BE_IDLE, 0.3, 0.3, 2.0, 0.3
+        self.nodes, self.slowest, self.deaths, self.leaves, self.joins, self.short = (
+            3,
+            Request.BE_IDLE,
+            0.3,
+            0.3,
+            2.0,
+            0.3,
+        )
 
 
 class Bug(NamedTuple):
@@ -453,13 +489,17 @@ BUGS: dict[str, Bug] = {
     'any life is released': Bug(ReleasesAnyLife, 25, 'works on what'),
     'rows are appended at any place': Bug(AppendsAnyPlace, 2, 'works at an append'),
     'rows are appended while not all are idle': Bug(AppendsAnyway, 2, 'is present and works at', planted.AppendsAnyway),
-    'an epoch ends while not all are idle': Bug(FinishesAnyway, 2, 'works at the end of an epoch', planted.FinishesAnyway),
+    'an epoch ends while not all are idle': Bug(
+        FinishesAnyway, 2, 'works at the end of an epoch', planted.FinishesAnyway
+    ),
     'an epoch ends by an old wish': Bug(FinishesByAnyWish, 53, 'no rest: another wish'),
     'a wait is over for who was idle before': Bug(WakesForTheIdle, 1, 'does not let time go on'),
     'a promise comes before work stops': Bug(MemoryLog, 2, 'is present and works at', planted.PromisesFirst),
     'a presence is released before work stops': Bug(MemoryLog, 150, 'works on what', planted.LeavesFirst),
     'sure from the end of a renewal': Bug(MemoryLog, 2, 'works on what', planted.SureFromEnd),
-    'a promise that was not answered is forgotten': Bug(MemoryLog, 366, 'is present and works at', planted.ForgetsPromise),
+    'a promise that was not answered is forgotten': Bug(
+        MemoryLog, 366, 'is present and works at', planted.ForgetsPromise
+    ),
     'at rest whoever is present': Bug(MemoryLog, 3, 'no rest', planted.RestsWithAnybody),
     'always room': Bug(MemoryLog, 1, 'rows of', planted.HasAlwaysRoom),
     'a pause is told to nobody': Bug(TellsNoPause, 1, 'in a pause', trouble=Ordered),
@@ -475,7 +515,9 @@ BUGS: dict[str, Bug] = {
     'etcd: a presence is renewed across a gap': Bug(RenewsAcrossGapThere, 4, 'is present and works at an append'),
     'etcd: any life is released': Bug(ReleasesAnyLifeThere, 15, 'works on what'),
     'etcd: rows are appended at any place': Bug(AppendsAnyPlaceThere, 1, 'rows stand at'),
-    'etcd: rows are appended while not all are idle': Bug(AppendsAnywayThere, 1, 'is present and works at', planted.AppendsAnyway),
+    'etcd: rows are appended while not all are idle': Bug(
+        AppendsAnywayThere, 1, 'is present and works at', planted.AppendsAnyway
+    ),
     'etcd: reads are serializable': Bug(ReadsAlone, 1, 'it went back'),
     'etcd: a renewal counts whoever tells it': Bug(TrustsRenewals, 9, 'and it is sure for'),
     'etcd: a lease is kept under another leader': Bug(KeepsLease, 1, 'and it is sure for'),

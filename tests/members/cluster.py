@@ -14,6 +14,7 @@ from base64 import b64decode, b64encode
 from bisect import bisect_left, bisect_right, insort
 from collections.abc import Callable
 from dataclasses import dataclass, field
+from functools import partial
 from typing import NamedTuple, Union
 
 from bully.gateway import KV_RANGE, KV_TXN, LEASE_GRANT, LEASE_KEEPALIVE, Endpoint, Json, Refusal, Silent
@@ -97,7 +98,9 @@ class Keys:
         is_new = before.value is None
         if key not in self._versions:
             insort(self._names, key)
-        version = Version(value, revision if is_new else before.created, revision, 1 if is_new else before.version + 1, lease)
+        version = Version(
+            value, revision if is_new else before.created, revision, 1 if is_new else before.version + 1, lease
+        )
         self._versions.setdefault(key, []).append(version)
 
     def remove(self, key: bytes, revision: int) -> None:
@@ -135,7 +138,13 @@ class Stale(Leader):
 class Cluster:
     """The servers."""
 
-    def __init__(self, choice: random.Random, weather: Weather, clock: Callable[[], float], after: Callable[[float, Action], None]) -> None:
+    def __init__(
+        self,
+        choice: random.Random,
+        weather: Weather,
+        clock: Callable[[], float],
+        after: Callable[[float, Action], None],
+    ) -> None:
         self.choice, self.weather, self.clock, self.after = choice, weather, clock, after
         self.keys = Keys()
         self.leases: dict[int, Lease] = {}
@@ -225,13 +234,17 @@ class Cluster:
     def transact(self, told: Json, revision: int, term: int | None = None) -> Outcome:
         is_so = all(self.holds(condition, revision) for condition in told['compare'])
         steps = told['success' if is_so else 'failure']
-        refusal = next(filter(None, (self.refusal(step['request_put']) for step in steps if 'request_put' in step)), None)
+        refusal = next(
+            filter(None, (self.refusal(step['request_put']) for step in steps if 'request_put' in step)), None
+        )
         if refusal is not None:
             return refusal
         responses, changed = [], self.change(steps)
         for step in steps:
             ranged = 'request_range' in step
-            responses.append({'response_range': self.found(step['request_range'], revision)} if ranged else {'response_put': {}})
+            responses.append(
+                {'response_range': self.found(step['request_range'], revision)} if ranged else {'response_put': {}}
+            )
         answer = self.answer(term or self.leader.term, succeeded=is_so, responses=responses)
         if changed:
             self.changed(changed)
@@ -254,7 +267,12 @@ class Cluster:
                 changed.append(b64decode(put['key']))
                 before = self.keys.get(changed[-1])
                 value = before.value if put.get('ignore_value') else b64decode(put['value'])
-                self.put(changed[-1], value or b'', before.lease if put.get('ignore_lease') else int(put.get('lease', 0)), revision)
+                self.put(
+                    changed[-1],
+                    value or b'',
+                    before.lease if put.get('ignore_lease') else int(put.get('lease', 0)),
+                    revision,
+                )
             elif 'request_delete_range' in step:
                 for key, _ in self.keys.found(*interval(step['request_delete_range'])):
                     changed.append(key)
@@ -285,7 +303,9 @@ class Cluster:
         target = condition['target']
         if target == 'VALUE':
             value, is_less = b64decode(condition['value']), condition['result'] == 'LESS'
-            return all(each.value is not None and (each.value < value if is_less else each.value == value) for each in versions)
+            return all(
+                each.value is not None and (each.value < value if is_less else each.value == value) for each in versions
+            )
         wanted = int(condition[{'VERSION': 'version', 'CREATE': 'create_revision', 'MOD': 'mod_revision'}[target]])
         numbers = [{'VERSION': each.version, 'CREATE': each.created, 'MOD': each.modified}[target] for each in versions]
         return all(number > wanted if condition['result'] == 'GREATER' else number == wanted for number in numbers)
@@ -350,7 +370,9 @@ class Cluster:
         if kind in ('cut off', 'paused') and self.stale is None:
             seconds = {number: lease.seconds for number, lease in self.leases.items()}
             ends = {number: self.leader.ends[number] for number in seconds}
-            self.stale = Stale(self.leader.term, self.leader.server, ends, seconds, self.keys.revision, kind == 'paused')
+            self.stale = Stale(
+                self.leader.term, self.leader.server, ends, seconds, self.keys.revision, kind == 'paused'
+            )
             self.after(self.choice.uniform(0, self.weather.stale), self.bring_back)
         self.after(self.choice.uniform(0, self.weather.leaderless), self.elect)
 
@@ -390,7 +412,7 @@ class Cluster:
                 self.settle_late(path, told, reply)
         for lease, end in stale.ends.items():
             if end <= self.clock() and self.choice.random() < 0.8:
-                self.after(self.choice.uniform(0, 0.2), lambda lease=lease: self.end_by_word(lease))  # type: ignore[misc]
+                self.after(self.choice.uniform(0, 0.2), partial(self.end_by_word, lease))
 
     def settle_late(self, path: str, told: Json, reply: Reply) -> None:
         if self.choice.random() < 0.5:
@@ -417,7 +439,11 @@ def interval(asked: Json) -> tuple[bytes, bytes | None]:
 
 def pair_told(key: bytes, version: Version, asked: Json) -> Json:
     """A key, as etcd tells it in JSON."""
-    told = {'key': b64encode(key).decode(), 'create_revision': str(version.created), 'mod_revision': str(version.modified)}
+    told = {
+        'key': b64encode(key).decode(),
+        'create_revision': str(version.created),
+        'mod_revision': str(version.modified),
+    }
     if version.lease:
         told['lease'] = str(version.lease)
     if not asked.get('keys_only'):

@@ -51,7 +51,9 @@ class Pair:
     def __init__(self, server: Server, seed: int) -> None:
         self.choice = random.Random(seed)
         self.server = server
-        self.cluster = Cluster(random.Random(seed), weather_of(random.Random(seed)), lambda: 0.0, lambda seconds, action: None)
+        self.cluster = Cluster(
+            random.Random(seed), weather_of(random.Random(seed)), lambda: 0.0, lambda seconds, action: None
+        )
         self.leases: list[tuple[int, int]] = [(4711, 4711)]  # of the server and of the simulated one; the first is none
 
     def ask(self) -> tuple[object, object]:
@@ -69,7 +71,9 @@ class Pair:
 
     def both(self, path: str, real: Json, simulated: Json) -> tuple[object, object]:
         answer = self.cluster.do(path, simulated)
-        return plain(path, self.answer(path, real)), plain(path, answer if isinstance(answer, dict) else {'refused': True})
+        return plain(path, self.answer(path, real)), plain(
+            path, answer if isinstance(answer, dict) else {'refused': True}
+        )
 
     def answer(self, path: str, told: Json) -> Json:
         try:
@@ -89,16 +93,38 @@ class Pair:
         told = []
         for number in (0, 1):
             under = lease[number] if lease else None
-            changes = [{'request_delete_range': range_at(puts[0])}] if removes else [put_by(kind, key, value, under) for key in puts]
-            told.append({'compare': compare, 'success': changes if writes else ranges(*self.asked(0)), 'failure': ranges(*self.asked(1))})
+            changes = (
+                [{'request_delete_range': range_at(puts[0])}]
+                if removes
+                else [put_by(kind, key, value, under) for key in puts]
+            )
+            told.append(
+                {
+                    'compare': compare,
+                    'success': changes if writes else ranges(*self.asked(0)),
+                    'failure': ranges(*self.asked(1)),
+                }
+            )
         return self.both(KV_TXN, told[0], told[1])
 
     def asked(self, seed: int) -> list[Json]:
         """Ranges, the same ones for both."""
         choice = random.Random(f'{self.cluster.keys.revision} {seed}')
-        options: list[Json] = [{}, {'keys_only': True}, {'limit': 2}, {'count_only': True}, {'sort_order': 'DESCEND', 'sort_target': 'KEY'}]
+        options: list[Json] = [
+            {},
+            {'keys_only': True},
+            {'limit': 2},
+            {'count_only': True},
+            {'sort_order': 'DESCEND', 'sort_target': 'KEY'},
+        ]
         options.append({'min_mod_revision': str(max(0, self.cluster.keys.revision - choice.randint(-1, 9)))})
-        return [{**choice.choice([range_at(choice.choice(KEYS)), range_below(b'g/'), range_below(b'g/b/')]), **choice.choice(options)} for _ in range(2)]
+        return [
+            {
+                **choice.choice([range_at(choice.choice(KEYS)), range_below(b'g/'), range_below(b'g/b/')]),
+                **choice.choice(options),
+            }
+            for _ in range(2)
+        ]
 
     def interval(self) -> Json:
         return self.choice.choice([range_at(self.choice.choice(KEYS)), range_below(b'g/'), range_below(b'g/a/')])
@@ -106,10 +132,13 @@ class Pair:
     def condition(self) -> Json:
         key, revision = self.choice.choice(KEYS), self.choice.randint(0, self.cluster.keys.revision)
         return self.choice.choice([
-            exists(key), number_is(key, 'version', self.choice.randint(0, 3)), number_is(key, 'create_revision', revision),
-            number_is(key, 'mod_revision', self.cluster.keys.get(key).modified), value_is(key, b'%d' % self.choice.randint(0, 3)),
+            exists(key), number_is(key, 'version', self.choice.randint(0, 3)),
+            number_is(key, 'create_revision', revision),
+            number_is(key, 'mod_revision', self.cluster.keys.get(key).modified),
+            value_is(key, b'%d' % self.choice.randint(0, 3)),
             {**range_below(b'g/b/'), **number_is(b'g/b/', 'version', 0)}, {**self.value(key), 'result': 'LESS'},
-            {**self.value(b'g/a/'), **range_below(b'g/a/')}, {**self.value(b'g/b/'), **range_below(b'g/b/')}, {**self.value(b'g/c/'), **range_below(b'g/c/')},
+            {**self.value(b'g/a/'), **range_below(b'g/a/')}, {**self.value(b'g/b/'), **range_below(b'g/b/')},
+            {**self.value(b'g/c/'), **range_below(b'g/c/')},
         ])  # fmt: skip
 
     def value(self, key: bytes) -> Json:
@@ -147,12 +176,20 @@ def plain(path: str, answer: dict[str, Any]) -> object:
     if 'refused' in answer:
         return 'refused'
     found = [answer] if path == KV_RANGE else [each.get('response_range') for each in answer.get('responses', ())]
-    return bool(answer.get('succeeded')), int(answer['header']['revision']), [each if each is None else plain_range(each) for each in found]
+    return (
+        bool(answer.get('succeeded')),
+        int(answer['header']['revision']),
+        [each if each is None else plain_range(each) for each in found],
+    )
 
 
 def plain_range(found: dict[str, Any]) -> object:
     pairs = [tuple(pair.get(field, '') for field in FIELDS) for pair in found.get('kvs', ())]
-    return int(found.get('count', 0)), [(b64decode(key), *more) for key, *more in pairs], ['lease' in pair for pair in found.get('kvs', ())]
+    return (
+        int(found.get('count', 0)),
+        [(b64decode(key), *more) for key, *more in pairs],
+        ['lease' in pair for pair in found.get('kvs', ())],
+    )
 
 
 def compare(server: Server, requests: int, seed: int) -> tuple[int, int]:
@@ -180,7 +217,8 @@ def compare_log(servers: Servers, seed: int, done: dict[str, int]) -> str | None
             logs: list[Log] = [real[which], simulated[which], calls.memory]
             answers = [answer_of(ask, log) for log in logs]
             if answers[1:] != answers[:1] * 2:
-                return f'{name}: etcd answers {answers[0]}, the simulated one {answers[1]}, and a log in memory {answers[2]}'
+                by_etcd, by_simulated, by_memory = answers
+                return f'{name}: etcd answers {by_etcd}, the simulated one {by_simulated}, a log in memory {by_memory}'
     finally:
         for log in (*real, *simulated):
             log.close()
@@ -212,7 +250,9 @@ def main() -> int:
         return 0
     servers = Servers()
     try:
-        requests, logs = compare(servers.each[0], options.requests, options.seed), compare_logs(servers, options.logs, options.seed)
+        requests, logs = compare(servers.each[0], options.requests, options.seed), compare_logs(
+            servers, options.logs, options.seed
+        )
     finally:
         servers.close()
     passed, failed = requests[0] + logs[0], requests[1] + logs[1]

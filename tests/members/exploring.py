@@ -18,8 +18,8 @@ FIRST = EPOCH + 1  # the end of a log of the first epoch with its header alone
 
 # Conditions that may be left out, one at a time. Each has to lead to what is wrong.
 CONDITIONS = (
-    'append while not idle', 'append anywhere', 'finish while not idle', 'finish anywhere', 'take anywhere', 'take promises nothing',
-    'promise forgotten', 'promises while it works', 'promise lost',
+    'append while not idle', 'append anywhere', 'finish while not idle', 'finish anywhere', 'take anywhere',
+    'take promises nothing', 'promise forgotten', 'promises while it works', 'promise lost',
 )  # fmt: skip
 
 
@@ -92,13 +92,16 @@ class Explorer:
         node, end = state.nodes[number], state.end
 
         def to(more: Request | None = None, **changes: object) -> State:
-            nodes = (*state.nodes[:number], node._replace(**changes), *state.nodes[number + 1 :])  # type: ignore[arg-type]
+            changed = node._replace(**changes)  # type: ignore[arg-type]
+            nodes = (*state.nodes[:number], changed, *state.nodes[number + 1 :])
             return state._replace(nodes=nodes, asked=state.asked | ({more} if more else frozenset()))
 
         has_room = len(state.asked) < self.bounds.under_way
         if not node.life and not node.asking and node.lives < self.bounds.lives and has_room:
             life, promised = node.lives + 1, 0 if self.without == 'take promises nothing' else node.learned
-            yield 'asks for a presence', to(Request('take', number, life, node.learned), asking=life, lives=life, promised=promised)
+            yield 'asks for a presence', to(
+                Request('take', number, life, node.learned), asking=life, lives=life, promised=promised
+            )
         if node.asking:
             yield 'gives up', to(asking=0)
         if node.learned != end:
@@ -133,7 +136,8 @@ class Explorer:
         node = state.nodes[request.node]
 
         def to(**changes: object) -> State:
-            nodes = (*state.nodes[: request.node], node._replace(**changes), *state.nodes[request.node + 1 :])  # type: ignore[arg-type]
+            changed = node._replace(**changes)  # type: ignore[arg-type]
+            nodes = (*state.nodes[: request.node], changed, *state.nodes[request.node + 1 :])
             return state._replace(nodes=nodes)
 
         if request.kind == 'promise':
@@ -177,6 +181,8 @@ def wrong_with(before: State, after: State) -> str | None:
     for old, new in zip(before.nodes, after.nodes):
         if new.work and new.work != last:
             return f'a node works by {new.work}, and the last plan is {last}'
-        if new.used != old.used and (new.used[0] < old.used[0] or new.used[0] == old.used[0] and new.used[1] != old.used[1]):
+        if new.used != old.used and (
+            new.used[0] < old.used[0] or new.used[0] == old.used[0] and new.used[1] != old.used[1]
+        ):
             return f'a node uses {new.used} behind {old.used}'
     return None

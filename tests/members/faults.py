@@ -24,7 +24,11 @@ Fault = Callable[[], None]
 def places(network: Network) -> list[Place]:
     """Where the servers listen."""
     return [
-        Place(Endpoint(network.address(name, CLIENTS), CLIENT_PORT), Endpoint(network.address(name, PEERS), PEER_PORT), network.within(name))
+        Place(
+            Endpoint(network.address(name, CLIENTS), CLIENT_PORT),
+            Endpoint(network.address(name, PEERS), PEER_PORT),
+            network.within(name),
+        )
         for name in SERVERS
     ]
 
@@ -32,7 +36,9 @@ def places(network: Network) -> list[Place]:
 def addresses(servers: Servers, prefix: str) -> dict[str, str]:
     """The address of the log for each member, which asks another server first, and for who looks at them."""
     turned = {name: number % len(servers.each) for number, name in enumerate(('', *NAMES))}
-    return {name: servers.address(prefix, *servers.each[first:], *servers.each[:first]) for name, first in turned.items()}
+    return {
+        name: servers.address(prefix, *servers.each[first:], *servers.each[:first]) for name, first in turned.items()
+    }
 
 
 class Faults:
@@ -53,13 +59,18 @@ class Faults:
         network, both = self.network, (CLIENTS, PEERS)
         return [
             partial(self.cut_member_shortly, network), partial(self.cut_member, network),
-            partial(self.cut_server, network, False, 'the others', (PEERS,)), partial(self.cut_server, network, True, 'the others', (PEERS,)),
+            partial(self.cut_server, network, False, 'the others', (PEERS,)),
+            partial(self.cut_server, network, True, 'the others', (PEERS,)),
             partial(self.cut_server, network, True, 'all', both),
         ]  # fmt: skip
 
     def of_processes(self) -> list[Fault]:
         """One of each kind; a few of deaths."""
-        pauses = [partial(self.pause, whom, length) for whom in ('member', 'worker', 'member and its worker') for length in (0.5, 2.0)]
+        pauses = [
+            partial(self.pause, whom, length)
+            for whom in ('member', 'worker', 'member and its worker')
+            for length in (0.5, 2.0)
+        ]
         servers = [partial(self.kill_server, leads) for leads in (False, True)]
         return [*[self.kill] * KILLS, *pauses, *servers, self.pause_servers, self.begin_unanswered]
 
@@ -137,7 +148,9 @@ class Faults:
         member.wait(PATIENCE)
         self.group.begin(name)
         wait_until(lambda: 'in time' in said.read_text()[before:])
-        self.come_to_rest('the end of a pause of all servers, in which a member began', partial(self.send_servers, Server.resume))
+        self.come_to_rest(
+            'the end of a pause of all servers, in which a member began', partial(self.send_servers, Server.resume)
+        )
 
     def send_servers(self, call: Callable[[Server], None]) -> None:
         for server in self.servers.each:

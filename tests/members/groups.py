@@ -100,7 +100,8 @@ class Group:
 
     def __init__(
         self, folder: Path, stores: dict[str, str], ttl: float, within: Callable[[str], Sequence[str]] = lambda _: (),
-        names: Sequence[str] = NAMES, partitions: int = PARTITIONS, words: Sequence[str] = (), work: Callable[[Path, int], Work] = Work,
+        names: Sequence[str] = NAMES, partitions: int = PARTITIONS, words: Sequence[str] = (),
+        work: Callable[[Path, int], Work] = Work,
     ) -> None:  # fmt: skip
         """A new group. The store is told for each member, and for who looks at them (''). `within` has the words by
         which a process is begun where a member is; `words` are more ones for each member; and `work` makes what has the
@@ -134,7 +135,18 @@ class Group:
         """Starts `bully-member`, where the member is, if one is named."""
         environment = {**os.environ, 'PYTHONPATH': str(ROOT / 'bindings' / 'python')}
         within = self.within(member) if member else ()
-        words = [*within, sys.executable, '-W', 'error', '-m', 'bully.command', name, '--log', self.stores[member], *more]
+        words = [
+            *within,
+            sys.executable,
+            '-W',
+            'error',
+            '-m',
+            'bully.command',
+            name,
+            '--log',
+            self.stores[member],
+            *more,
+        ]
         with open(self.said(member or name), 'ab') as said:
             return subprocess.Popen(words, env=environment, stdout=said, stderr=said)
 
@@ -144,7 +156,17 @@ class Group:
 
     def begin(self, name: str) -> None:
         """A process for the node."""
-        more = ['--config', str(self.config), '--node', name, '--ttl', str(self.ttl), *self.words, '--', *self.work.worker]
+        more = [
+            '--config',
+            str(self.config),
+            '--node',
+            name,
+            '--ttl',
+            str(self.ttl),
+            *self.words,
+            '--',
+            *self.work.worker,
+        ]
         self.members[name] = self.command('run', *more, member=name)
 
     def begin_all(self, names: Sequence[str] = NAMES) -> None:
@@ -210,7 +232,9 @@ class Group:
         before = self.work.sizes()
         while time.monotonic() < end:
             shown, sizes, tokens = self.look(), self.work.sizes(), self.work.last_tokens()
-            others = [partition for partition, owner in enumerate(shown.owners) if owner != but] if shown is not None else []
+            others = (
+                [partition for partition, owner in enumerate(shown.owners) if owner != but] if shown is not None else []
+            )
             are_done = all(sizes[partition] > before[partition] for partition in others)
             if shown is not None and are_done and {tokens[partition] for partition in others} == {shown.token}:
                 return time.monotonic()
@@ -289,7 +313,9 @@ class Group:
                 self.begin(name)
             self.count(self.sees(name, is_present), f'{name} is {"not " if is_present else ""}present')
             for _ in range(3):
-                self.count(self.goes_on(time.monotonic() + PATIENCE, name) is not None, 'the others do not work on in a pause')
+                self.count(
+                    self.goes_on(time.monotonic() + PATIENCE, name) is not None, 'the others do not work on in a pause'
+                )
             after = self.show()
             same = (after.epoch, after.rows, after.token) == (before.epoch, before.rows, before.token)
             self.count(same and after.is_paused, f'in a pause the group has {after.rows} rows, and had {before.rows}')
@@ -351,8 +377,10 @@ class Group:
         self.count(shares[-1] < most, f'an idle member took {shares[-1]:.2f} % of a processor')
         memory = sorted(sum(map(own_memory, each)) for each in processes.values())
         self.count(memory[-1] < MEMORY, f'an idle member has {memory[-1]:.1f} MiB of its own')
-        print(f'idle for {length:.0f} s: no row, and {shares[0]:.2f} to {shares[-1]:.2f} % of a processor for a member; '
-              f'{memory[0]:.1f} to {memory[-1]:.1f} MiB of its own')
+        print(
+            f'idle for {length:.0f} s: no row, and {shares[0]:.2f} to {shares[-1]:.2f} % of a processor for a member; '
+            f'{memory[0]:.1f} to {memory[-1]:.1f} MiB of its own'
+        )
 
     def end(self, program: Path | None = None) -> None:
         """All leave in order, one of them behind the others, and what they left is judged; also with everything said,
@@ -362,7 +390,9 @@ class Group:
             for name in names:
                 self.members[name].terminate()
             for name in names:
-                self.count(self.members[name].wait(PATIENCE) == 0, f'{name} ended with status {self.members[name].returncode}')
+                self.count(
+                    self.members[name].wait(PATIENCE) == 0, f'{name} ended with status {self.members[name].returncode}'
+                )
         shown = self.show()
         self.count(not any(node.is_present for node in shown.nodes), 'a member is still present')
         self.count(all(node.status is Status.DOWN for node in shown.nodes), 'a node is still up')
@@ -376,9 +406,13 @@ class Group:
             trace = '\n'.join([log.opening(epoch).header, *log.read(epoch, 0), '']).encode()
             self.judge_trace(trace, f'the log of epoch {epoch}')
             if program is not None:
-                annotated = subprocess.run([program, 'annotate'], input=trace, stdout=subprocess.PIPE, timeout=PATIENCE, check=False)
+                annotated = subprocess.run(
+                    [program, 'annotate'], input=trace, stdout=subprocess.PIPE, timeout=PATIENCE, check=False
+                )
                 self.count(annotated.returncode == 0, f'`bully annotate` ends with status {annotated.returncode}')
-                self.judge_trace(annotated.stdout, f'the same with everything said, {annotated.stdout.count(10) - 1} rows')
+                self.judge_trace(
+                    annotated.stdout, f'the same with everything said, {annotated.stdout.count(10) - 1} rows'
+                )
         log.close()
 
     def judge_moves(self, log: Log) -> None:
@@ -389,7 +423,8 @@ class Group:
             stayed, could = kept(before, first), most_kept(before, first)
             self.count(stayed == could, f'epoch {epoch}: {stayed} partitions stayed, and {could} could')
             if before:
-                print(f'from epoch {epoch - 1} to {epoch}, {len(before)} to {len(first)} partitions: {stayed} stayed, as many as could')
+                change = f'from epoch {epoch - 1} to {epoch}, {len(before)} to {len(first)} partitions'
+                print(f'{change}: {stayed} stayed, as many as could')
             before = last
 
     def judge_trace(self, trace: bytes, what: str) -> None:
@@ -408,7 +443,9 @@ class Group:
             self.count(tokens == sorted(tokens), f'a token fell on partition {partition}')
             is_single = len(set(tokens)) == len({(token, node) for token, node in done})
             self.count(is_single, f'partition {partition}: two nodes by one token')
-        print(f'{units} units of work, {len(self.work.faults("old"))} refused by their tokens, {len(overlaps)} overlaps')
+        print(
+            f'{units} units of work, {len(self.work.faults("old"))} refused by their tokens, {len(overlaps)} overlaps'
+        )
 
     def tell(self) -> None:
         print(f'the ttl is {self.ttl:g} s')

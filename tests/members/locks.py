@@ -21,7 +21,9 @@ class Contender:
     def __init__(self, within: Sequence[str], servers: Servers, name: str, ttl: float) -> None:
         endpoints = ','.join(str(server.place.client) for server in servers.each)
         words = [*within, 'etcdctl', '--endpoints', endpoints, 'lock', name, '--ttl', f'{ttl:.0f}']
-        self.process = subprocess.Popen(words, stdin=subprocess.DEVNULL, stdout=subprocess.PIPE, env={**os.environ, 'ETCDCTL_API': '3'})
+        self.process = subprocess.Popen(
+            words, stdin=subprocess.DEVNULL, stdout=subprocess.PIPE, env={**os.environ, 'ETCDCTL_API': '3'}
+        )
 
     def await_lock(self) -> None:
         """Returns once it holds the lock, which it says. Raises TimeoutError, ValueError."""

@@ -11,8 +11,9 @@ from bully.member import (
     Ask, Begin, End, Life, Opening, Presence, Present, Promise, Request, Rest, Seen, Step, StoreAnswer, Unknown, Wait,
 )  # fmt: skip
 from . import proved
+from .driven import Maker, Rules, Wrong
 from .plain import SETTLEMENT, Plain, is_at_rest, settle
-from .settling import TTL, Maker, Rules, Wrong
+from .trouble import TTL
 
 Told = TypeVar('Told')
 
@@ -34,7 +35,9 @@ class Both:
 
     def _same(self, what: str, plain: Told, other: Told) -> Told:
         if plain != other:
-            raise Differ(f'{what} is {plain} and {other}, behind {self.told}; of {self.plain.state()} and {words_of(self.other)}')
+            raise Differ(
+                f'{what} is {plain} and {other}, behind {self.told}; of {self.plain.state()} and {words_of(self.other)}'
+            )
         return plain
 
     def _note(self, *told: object) -> None:
@@ -80,7 +83,9 @@ class Both:
 
     def followed(self, now: int, opening: Opening | None) -> None:
         self._note(now, opening)
-        self._same('what is refused', *(refused(lambda: rules.followed(now, opening)) for rules in (self.plain, self.other)))
+        self._same(
+            'what is refused', *(refused(lambda: rules.followed(now, opening)) for rules in (self.plain, self.other))
+        )
 
     def woke(self) -> None:
         self._note('woke')
@@ -109,7 +114,10 @@ class Both:
 
 def words_of(rules: Rules) -> dict[str, object]:
     """What is shown of it, for people."""
-    return {name: getattr(rules, name, None) for name in ('life', 'work', 'ending', 'promised', 'place', 'epoch', 'is_wished')}
+    return {
+        name: getattr(rules, name, None)
+        for name in ('life', 'work', 'ending', 'promised', 'place', 'epoch', 'is_wished')
+    }
 
 
 # ---- Members that are told whatever may be, in any order. A driver wouldn't.
@@ -121,7 +129,9 @@ class Anything:
     def __init__(self, seed: int, other: Maker) -> None:
         self.choice = random.Random(seed)
         nodes = self.choice.randint(1, 4)
-        self.setup = Setup(nodes, self.choice.randint(1, 6), weights=tuple(self.choice.randint(1, 3) for _ in range(nodes)))
+        self.setup = Setup(
+            nodes, self.choice.randint(1, 6), weights=tuple(self.choice.randint(1, 3) for _ in range(nodes))
+        )
         self.process, self.now = self.choice.randint(1, 3), self.choice.choice([0, 5 * TTL])
         self.both = Both(self.opening(1), self.process, TTL, other)
 
@@ -129,17 +139,23 @@ class Anything:
         nodes = self.setup.nodes
         old = tuple(self.choice.randint(0, nodes) for _ in range(self.setup.partitions))
         rows_max = self.choice.choice([22, 40]) * nodes
-        return Opening(self.setup.header(), epoch, self.choice.randint(1, nodes), rows_max, self.choice.choice([None, old]))
+        return Opening(
+            self.setup.header(), epoch, self.choice.randint(1, nodes), rows_max, self.choice.choice([None, old])
+        )
 
     def bad_opening(self, epoch: int) -> Opening:
         opening = self.opening(epoch)
-        changes = self.choice.choice([{'node': self.setup.nodes + 1}, {'rows_max': 22 * self.setup.nodes - 1}, {'old': (1,) * 7}])
+        changes = self.choice.choice(
+            [{'node': self.setup.nodes + 1}, {'rows_max': 22 * self.setup.nodes - 1}, {'old': (1,) * 7}]
+        )
         return replace(opening, **changes)  # type: ignore[arg-type]
 
     def tell(self, step: Step) -> None:
         """Mostly what fits the step."""
         if self.choice.random() < 0.15:
-            self.tell_kind(self.choice.choice(['answer', 'look', 'woke', 'stopped', 'lost', 'follow', 'pass', 'leave', 'nothing']))
+            self.tell_kind(
+                self.choice.choice(['answer', 'look', 'woke', 'stopped', 'lost', 'follow', 'pass', 'leave', 'nothing'])
+            )
         elif isinstance(step, Ask):
             self.tell_kind({Request.LOOK: 'look', Request.FOLLOW: 'follow'}.get(step.request, 'answer'))
         elif not isinstance(step, Begin):
@@ -149,7 +165,9 @@ class Anything:
         choice, both, plain = self.choice, self.both, self.both.plain
         is_rare = choice.random() < 0.1
         if kind == 'answer':
-            both.answered(self.now, choice.choice([StoreAnswer.DONE] * 6 + [StoreAnswer.REFUSED, StoreAnswer.UNANSWERED]))
+            both.answered(
+                self.now, choice.choice([StoreAnswer.DONE] * 6 + [StoreAnswer.REFUSED, StoreAnswer.UNANSWERED])
+            )
         elif kind == 'look':
             both.learn(self.rows())
             both.looked(self.now, self.seen())
@@ -183,9 +201,19 @@ class Anything:
     def seen(self) -> Seen:
         """Mostly that those are present that are up, and its own life."""
         choice, plain = self.choice, self.both.plain
-        up = plain.world.up if choice.random() < 0.8 else {node for node in range(1, self.setup.nodes + 1) if choice.random() < 0.5}
-        life = plain.life.life if isinstance(plain.life, (Present, Unknown)) and choice.random() < 0.95 else Life(choice.choice([self.process, 9]), 0)
-        lives = {node: life if node == plain.node else Life(10 + node, choice.choice([1, 1, 1, 2])) for node in sorted(up)}
+        up = (
+            plain.world.up
+            if choice.random() < 0.8
+            else {node for node in range(1, self.setup.nodes + 1) if choice.random() < 0.5}
+        )
+        life = (
+            plain.life.life
+            if isinstance(plain.life, (Present, Unknown)) and choice.random() < 0.95
+            else Life(choice.choice([self.process, 9]), 0)
+        )
+        lives = {
+            node: life if node == plain.node else Life(10 + node, choice.choice([1, 1, 1, 2])) for node in sorted(up)
+        }
         presences = tuple(Presence(node, life, self.promise()) for node, life in lives.items())
         epoch = plain.opening.epoch + (choice.random() < 0.02)
         return Seen(epoch, presences, choice.random() < 0.05, choice.random() < 0.05)
@@ -214,7 +242,11 @@ class Anything:
         plain = self.both.plain
         present = [presence.node for presence in plain.presences if plain.stay_left(self.now, presence) == 0]
         promised = max(plain.promised, plain.own.place if plain.own.epoch == plain.opening.epoch else 0)
-        is_free = not (plain.work or plain.ending or plain.is_past) and isinstance(plain.life, Present) and self.now < plain.sure_until
+        is_free = (
+            not (plain.work or plain.ending or plain.is_past)
+            and isinstance(plain.life, Present)
+            and self.now < plain.sure_until
+        )
         return is_free and is_at_rest(plain.world, present, promised) and plain.node in plain.world.table
 
 

@@ -9,7 +9,7 @@ from pathlib import Path
 from bully.learned import Learned
 from bully.member import Core
 from .over_memory import OverMemory
-from .settling import Trouble
+from .trouble import Trouble
 
 NODES = 5
 ROWS = 600  # of an epoch, for each node
@@ -88,6 +88,8 @@ class Long:
 
     def __str__(self) -> str:
         simulation = self.simulation
-        return (f'{self.processes + len(simulation.members)} processes, {simulation.store.epoch.number} epochs, '
-                f'{self.rows + len(simulation.store.epoch.rows)} rows, {simulation.now // simulation.ttl} ttl; '
-                f'{" ".join(f"{each:.1f}" for each in self.memory)} MB, {self.open} members open')
+        return (
+            f'{self.processes + len(simulation.members)} processes, {simulation.store.epoch.number} epochs, '
+            f'{self.rows + len(simulation.store.epoch.rows)} rows, {simulation.now // simulation.ttl} ttl; '
+            f'{" ".join(f"{each:.1f}" for each in self.memory)} MB, {self.open} members open'
+        )

@@ -28,7 +28,9 @@ def call(*words: str) -> None:
     """Runs a program. Raises NoNetwork."""
     if shutil.which(words[0]) is None:
         raise NoNetwork(f'there is no program `{words[0]}`')
-    ended = subprocess.run(words, stdin=subprocess.DEVNULL, stdout=subprocess.PIPE, stderr=subprocess.STDOUT, check=False)
+    ended = subprocess.run(
+        words, stdin=subprocess.DEVNULL, stdout=subprocess.PIPE, stderr=subprocess.STDOUT, check=False
+    )
     if ended.returncode != 0:
         raise NoNetwork(f'`{" ".join(words)}`: {ended.stdout.decode(errors="replace").strip()}')
 

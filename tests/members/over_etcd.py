@@ -22,9 +22,10 @@ from bully.settings import Settings
 from bully.stored import life_of, orders_of
 from .asking import KeptLog, Pending, Request, made, opened
 from .cluster import SERVERS, Cluster, Outcome, Version, Weather, interval, pair_told, weather_of
+from .driven import GONE, Maker, Member, Wrong
 from .over_memory import FoundInLog, LogMember, LogStore, OverMemory, epoch_of
-from .settling import GONE, Maker, Member, Trouble, Wrong
 from .store import Epoch, Lease
+from .trouble import Trouble
 
 SHORTEST = 10_000_000  # nanoseconds until somebody asks again
 TROUBLES_OF_ETCD = ('a leader is lost', 'a presence ends with its lease', 'a watch tells nothing')
@@ -67,13 +68,15 @@ class EtcdStore(LogStore):
             elif key.startswith(keys.logs):
                 here, what = place_of(key[len(keys.logs) :].decode()), 'an append'
                 if here != Promise(self.epoch.number, len(self.epoch.rows)):
-                    raise Wrong(f'rows stand at {here}, and the log ends at place {len(self.epoch.rows)} of epoch {self.epoch.number}')
+                    end = f'place {len(self.epoch.rows)} of epoch {self.epoch.number}'
+                    raise Wrong(f'rows stand at {here}, and the log ends at {end}')
                 self.epoch.rows.extend(value.decode().splitlines())
         if any(key.startswith(keys.presences) for key in changed):
             lives, promises = self.below(keys.lives), self.below(keys.promises)
             none = b'%010d/%010d' % (0, 0)
             self.leases = {
-                name: Lease(life_of(life.decode()), place_of(promises.get(name, none).decode()), 0) for name, life in lives.items()
+                name: Lease(life_of(life.decode()), place_of(promises.get(name, none).decode()), 0)
+                for name, life in lives.items()
             }
         return what
 
@@ -134,12 +137,16 @@ class Call:
 
     def arrive(self, request: Request) -> None:
         self.simulation.happened['a request comes behind its time'] += self.awaited is not request
-        self.simulation.cluster.receive(request.server, request.path, request.told, lambda outcome: self.answer(request, outcome))
+        self.simulation.cluster.receive(
+            request.server, request.path, request.told, lambda outcome: self.answer(request, outcome)
+        )
 
     def answer(self, request: Request, outcome: Outcome) -> None:
         """The server answers."""
         simulation = self.simulation
-        if simulation.now < self.member.cut_until or simulation.happens('an answer is lost', simulation.trouble.unanswered):
+        if simulation.now < self.member.cut_until or simulation.happens(
+            'an answer is lost', simulation.trouble.unanswered
+        ):
             if simulation.choice.random() < 0.5:
                 return
             outcome = Silent(SERVERS[request.server], 'the connection was ended', may_be_done=True)
@@ -184,7 +191,9 @@ class EtcdMember(LogMember):
             self.go()
 
         self.call_type(self, call, answer).go_on()
-        if ask.request is Asked.RENEW and self.simulation.happens('a pause with a renewal', self.simulation.trouble.renewal_pauses):
+        if ask.request is Asked.RENEW and self.simulation.happens(
+            'a pause with a renewal', self.simulation.trouble.renewal_pauses
+        ):
             self.simulation.pause(self)
 
 
@@ -193,7 +202,9 @@ class OverEtcd(OverMemory):
 
     member: type[Member] = EtcdMember
 
-    def __init__(self, seed: int, make: Maker, log_type: type[KeptLog] = KeptLog, trouble: type[Trouble] = Trouble) -> None:
+    def __init__(
+        self, seed: int, make: Maker, log_type: type[KeptLog] = KeptLog, trouble: type[Trouble] = Trouble
+    ) -> None:
         self.of_etcd = random.Random(f'{seed} etcd')
         self.weather = self.new_weather()
         self.log_type = log_type
@@ -330,7 +341,12 @@ class Watching(OverEtcd):
         """What has happened to these keys behind a revision, in order."""
         there = self.cluster.keys
         names = [name for name in there._names if begin <= name < end]
-        found = [(version.modified, name, version) for name in names for version in there._versions[name] if version.modified > revision]
+        found = [
+            (version.modified, name, version)
+            for name in names
+            for version in there._versions[name]
+            if version.modified > revision
+        ]
         return [event_of(name, version) for _, name, version in sorted(found)]
 
     def see_change(self, changed: list[bytes]) -> None:

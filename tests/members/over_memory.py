@@ -20,16 +20,18 @@ from bully.memory import MemoryLog
 from bully.orders import Orders
 from bully.settings import Settings
 from bully.stores import BadWords
+from .driven import Maker, Member, StoreMaker, Wrong
 from .plain import Plain
-from .settling import Maker, Member, Simulation, StoreMaker, Trouble, Wrong
+from .settling import Simulation
 from .store import Epoch, Found, Lease, Standing, table_of
+from .trouble import Trouble
 
 
 CHANGES = {Request.APPEND: 'an append', Request.FINISH: 'the end of an epoch'}
 NEVER = 2**63  # nanoseconds
 TROUBLES_OF_ORDERS = [
-    'a node is drained', 'a drained node comes back', 'a group is paused', 'members work on in a pause beside one that is gone',
-    'a change is finished in a pause',
+    'a node is drained', 'a drained node comes back', 'a group is paused',
+    'members work on in a pause beside one that is gone', 'a change is finished in a pause',
 ]  # fmt: skip
 
 
@@ -60,7 +62,15 @@ def terms_of(opening: Opening, name: str) -> Terms | None:
 class Watchable(logs.Log, Protocol):
     """A log that tells whether a wait is over."""
 
-    def has_news(self, epoch: int, place: int, lives: Mapping[str, Life], wanted: logs.Wanted, until: Until, before: AbstractSet[str]) -> bool:
+    def has_news(
+        self,
+        epoch: int,
+        place: int,
+        lives: Mapping[str, Life],
+        wanted: logs.Wanted,
+        until: Until,
+        before: AbstractSet[str],
+    ) -> bool:
         """Behind a look that found this to be wanted, and these idle up to that place."""
 
 
@@ -126,7 +136,9 @@ class MemoryStore(LogStore):
     log_type: type[MemoryLog] = MemoryLog
 
     def __init__(self, settings: Settings, limit: Callable[[int], int], clock: Callable[[], int]) -> None:
-        self.log = self.log_type(Opening.first(settings.setup.header(), settings.names, limit(settings.setup.nodes)), clock)
+        self.log = self.log_type(
+            Opening.first(settings.setup.header(), settings.names, limit(settings.setup.nodes)), clock
+        )
         self._epochs: list[Epoch] = []
 
     @property
@@ -159,7 +171,13 @@ class LogMember(Member):
     def __init__(self, simulation: Simulation, name: str, number: int, terms: Terms) -> None:
         super().__init__(simulation, name, number, terms)
         self.log = self.opened()
-        self.opening = Opening(terms.epoch, simulation.store.epoch.header, simulation.store.epoch.settings.names, terms.rows_max, terms.old or ())
+        self.opening = Opening(
+            terms.epoch,
+            simulation.store.epoch.header,
+            simulation.store.epoch.settings.names,
+            terms.rows_max,
+            terms.old or (),
+        )
 
     def opened(self) -> logs.Log:
         """The log that it asks."""
@@ -173,7 +191,9 @@ class LogMember(Member):
     def called(self, ask: Ask) -> Callable[[], object]:
         """The call of the package's own driver, and what is noted of it here."""
         self.note(ask)
-        asker = Asker(self.log, self.name, self.opening, self.place, self.simulation.lease, self.rules.settlement, self.after)
+        asker = Asker(
+            self.log, self.name, self.opening, self.place, self.simulation.lease, self.rules.settlement, self.after
+        )
         call, place = asker.call(ask), self.place
 
         def done() -> object:
@@ -210,7 +230,9 @@ class LogMember(Member):
     def found_of(self, place: int, found: logs.Found) -> Found:
         """What a look found."""
         rows = tuple(found.rows)
-        standing = Standing(found.epoch, place + len(rows), frozenset(found.lives.items()), found.wish.settings if found.wish else None)
+        standing = Standing(
+            found.epoch, place + len(rows), frozenset(found.lives.items()), found.wish.settings if found.wish else None
+        )
         idle = found.idle(Promise(found.epoch, standing.place))
         return FoundInLog(rows, Seen(found.epoch), standing, idle, found._replace(rows=()))
 
@@ -260,7 +282,9 @@ class OverMemory(Simulation):
 
     member: type[Member] = LogMember
 
-    def __init__(self, seed: int, make: Maker, store: StoreMaker = MemoryStore, trouble: type[Trouble] = Trouble) -> None:
+    def __init__(
+        self, seed: int, make: Maker, store: StoreMaker = MemoryStore, trouble: type[Trouble] = Trouble
+    ) -> None:
         self.promised: set[tuple[Life, Promise]] = set()  # what lives have asked to promise
         self.asked: set[Promise] = set()  # where somebody who couldn't know of a pause has asked to append
         self.halted_at = NEVER  # when the pause began
@@ -277,7 +301,11 @@ class OverMemory(Simulation):
         """In a pause a group is settled only if one that was there before has promised to be idle, and can't go on; or
         if that was asked for before, and comes late."""
         lives = self.given.orders.lives if done else None
-        if lives is not None and self.end not in self.asked and not any((life, self.end) in self.promised for life in lives.values()):
+        if (
+            lives is not None
+            and self.end not in self.asked
+            and not any((life, self.end) in self.promised for life in lives.values())
+        ):
             raise Wrong(f'{what} in a pause')
         self.happened['a change is finished in a pause'] += lives is not None
         if done:
@@ -301,7 +329,9 @@ class OverMemory(Simulation):
 
     def drain(self) -> None:
         with suppress(BadWords):  # nobody would work
-            self.ordered = ordering.drain(self.given.log, self.choice.choice(self.store.epoch.settings.names), takes_last=False)
+            self.ordered = ordering.drain(
+                self.given.log, self.choice.choice(self.store.epoch.settings.names), takes_last=False
+            )
         self.tell_all()
 
     def undrain(self) -> None:

@@ -62,7 +62,9 @@ def is_at_rest(world: World, present: Sequence[int], promised: int) -> bool:
 def owned(world: World, node: int, promised: int) -> Owned | None:
     """By which token the node may work behind the place that was promised, and on which partitions, if on any."""
     partitions = tuple(partition for partition, owner in enumerate(world.table) if owner == node)
-    return Owned(world.token, partitions) if node in world.coordinators and partitions and promised < world.token else None
+    return (
+        Owned(world.token, partitions) if node in world.coordinators and partitions and promised < world.token else None
+    )
 
 
 def planned(setup: Setup, members: Sequence[int], old: Sequence[int] | None) -> tuple[int, ...]:
@@ -230,7 +232,9 @@ class Plain:
 
     def _rests(self, now: int) -> bool:
         is_free = self.promised < self.world.token and not self.is_wished and self._has_room()
-        return is_free and is_at_rest(self.world, [presence.node for presence in self._counted(now)], self._most_idle(now))
+        return is_free and is_at_rest(
+            self.world, [presence.node for presence in self._counted(now)], self._most_idle(now)
+        )
 
     def owned(self) -> Owned | None:
         """By which token it may work, and on which partitions, if on any."""
@@ -246,7 +250,11 @@ class Plain:
 
     def _are_all_idle(self) -> bool:
         others = [presence for presence in self.presences if presence.node != self.node]
-        return not self.has_strangers and self.own == self.here and all(presence.promise == self.here for presence in others)
+        return (
+            not self.has_strangers
+            and self.own == self.here
+            and all(presence.promise == self.here for presence in others)
+        )
 
     def _is_alone(self) -> bool:
         return self._present() == [self.node] and not self.has_strangers
@@ -260,7 +268,9 @@ class Plain:
 
     def next(self, now: int) -> Step:
         """What is to be done now: by the first rule that applies."""
-        step = self._step_of_work(now) or self._step_of_life(now) or self._step_of_leaving(now) or self._step_of_group(now)
+        step = (
+            self._step_of_work(now) or self._step_of_life(now) or self._step_of_leaving(now) or self._step_of_group(now)
+        )
         if isinstance(step, Ask):
             self.asked = (step, now)
             if step.request is Request.TAKE:
@@ -330,7 +340,9 @@ class Plain:
             return None
         if self._is_alone() and self.world.up and self._has_room() and not self.has_closed:
             is_idle = self.own == self.here
-            return Ask(Request.APPEND, place=self.place) if is_idle else Ask(Request.BE_IDLE, self.life.life, self.place)
+            return (
+                Ask(Request.APPEND, place=self.place) if is_idle else Ask(Request.BE_IDLE, self.life.life, self.place)
+            )
         return release
 
     def _step_of_group(self, now: int) -> Step:
@@ -339,7 +351,11 @@ class Plain:
         renewal = left(self.renewal, self.life.since, now)
         if self._rests(now):
             token = self._may_work()
-            return Begin(token) if self.work is None and token is not None else Wait(self._rest_left(now, renewal), Until.ANY_IDLE)
+            return (
+                Begin(token)
+                if self.work is None and token is not None
+                else Wait(self._rest_left(now, renewal), Until.ANY_IDLE)
+            )
         if self.own != self.here:
             return Ask(Request.BE_IDLE, self.life.life, self.place)
         turns = self.turn * sum(node > self.node for node in self._present())
@@ -426,7 +442,11 @@ class Plain:
         self.presences, self.has_strangers, self.is_wished = seen.presences, seen.has_strangers, seen.is_wished
         self.must_look = False
         if isinstance(self.life, Present):
-            own = [presence for presence in seen.presences if presence.node == self.node and presence.life == self.life.life]
+            own = [
+                presence
+                for presence in seen.presences
+                if presence.node == self.node and presence.life == self.life.life
+            ]
             if own:
                 self.own = own[0].promise
             else:
@@ -493,18 +513,23 @@ def left(span: int, since: int, now: int) -> int:
 Settler = Callable[[str, Sequence[str], Sequence[int], Optional[Sequence[int]]], list[str]]
 
 
-def settle_behind(header: str, rows: Sequence[str], present: Sequence[int], old: Sequence[int] | None = None) -> list[str]:
+def settle_behind(
+    header: str, rows: Sequence[str], present: Sequence[int], old: Sequence[int] | None = None
+) -> list[str]:
     """The plain settler."""
     with Replica(header) as replica:
         replica.learn(rows)
         return settle(world_of(replica), setup_of(header), present, old)
 
 
-def rests_behind(header: str, rows: Sequence[str], present: Sequence[int], promised: int) -> tuple[bool, list[Owned | None]]:
+def rests_behind(
+    header: str, rows: Sequence[str], present: Sequence[int], promised: int
+) -> tuple[bool, list[Owned | None]]:
     """Whether the group is at rest behind a log among those present, and by what each node may work, if that place was
     promised."""
     with Replica(header) as replica:
         replica.learn(rows)
         world = world_of(replica)
-        return is_at_rest(world, present, promised), [owned(world, node, promised) for node in range(1, world.nodes + 1)]
-
+        return is_at_rest(world, present, promised), [
+            owned(world, node, promised) for node in range(1, world.nodes + 1)
+        ]

@@ -79,7 +79,11 @@ class PromisesFirst(Plain):
 
     def _step_of_work(self, now: int) -> Step | None:
         is_working = self.work is not None and self.work.way is Way.WORKING and self.ending is None
-        if is_working and not (self._is_quiet(now) or self._is_due(now) or self.must_look or self.is_past) and isinstance(self.life, Present):
+        if (
+            is_working
+            and not (self._is_quiet(now) or self._is_due(now) or self.must_look or self.is_past)
+            and isinstance(self.life, Present)
+        ):
             if not self._rests(now) and self.own != self.here:
                 return Ask(Request.BE_IDLE, self.life.life, self.place)
         return super()._step_of_work(now)
@@ -218,7 +222,11 @@ class OverlooksPromises(Plain):
     """Its turn counts from when the log's end and the lives have been as they are."""
 
     def looked(self, now: int, seen: Seen) -> None:
-        before = self.unrest_at, self.place == self.unrest_place, [(presence.node, presence.life) for presence in self.presences]
+        before = (
+            self.unrest_at,
+            self.place == self.unrest_place,
+            [(presence.node, presence.life) for presence in self.presences],
+        )
         super().looked(now, seen)
         if before[1:] == (True, [(presence.node, presence.life) for presence in self.presences]):
             self.unrest_at = before[0]
@@ -242,7 +250,9 @@ class Bug(NamedTuple):
 # What is harmless stands in README.md.
 BUGS: dict[str, Bug] = {
     'appends while not all are idle': Bug(AppendsAnyway, ForgetsIdle, 1, 'is present and works at'),
-    'finishes while not all are idle': Bug(FinishesAnyway, FinishesForAnybody, 2, 'is present and works at the end of an epoch'),
+    'finishes while not all are idle': Bug(
+        FinishesAnyway, FinishesForAnybody, 2, 'is present and works at the end of an epoch'
+    ),
     'a new life works by the old plan': Bug(WorksAtOnce, TakesWithoutPromise, 1, 'by the token'),
     'promises before its work stops': Bug(PromisesFirst, Store, 2, 'is present and works at'),
     'leaves before its work stops': Bug(LeavesFirst, Store, 150, 'works on what'),

@@ -42,7 +42,9 @@ class Process(NamedTuple):
 
 def workers_of(member: int) -> list[Process]:
     """The workers of a member."""
-    found = [(guard, Process(worker, os.pidfd_open(worker))) for guard in children(member) for worker in children(guard)]
+    found = [
+        (guard, Process(worker, os.pidfd_open(worker))) for guard in children(member) for worker in children(guard)
+    ]
     return [worker for guard, worker in found if worker.number in children(guard)]
 
 

@@ -17,8 +17,12 @@ def settle(header: str, rows: Sequence[str], present: Sequence[int], old: Sequen
         return replica.settle(present, old)
 
 
-def rests_behind(header: str, rows: Sequence[str], present: Sequence[int], promised: int) -> tuple[bool, list[Owned | None]]:
+def rests_behind(
+    header: str, rows: Sequence[str], present: Sequence[int], promised: int
+) -> tuple[bool, list[Owned | None]]:
     """Whether the group is at rest, and by what each node may work."""
     with Replica(header) as replica:
         replica.learn(rows)
-        return replica.is_at_rest(present, promised), [replica.owned(node, promised) for node in range(1, replica.nodes + 1)]
+        return replica.is_at_rest(present, promised), [
+            replica.owned(node, promised) for node in range(1, replica.nodes + 1)
+        ]

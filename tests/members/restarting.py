@@ -14,11 +14,15 @@ from __future__ import annotations
 import random
 from collections import Counter
 
-from .settling import TTL, Maker, Member, Simulation, Trouble, Wrong
+from .driven import Maker, Member, Wrong
+from .settling import Simulation
 from .store import Store
+from .trouble import TTL, Trouble
 
 FOR = 60  # ttl
-MOST = 6  # times a member stops work since the node has come; it counts five times, and one may see it later than others
+MOST = (
+    6  # times a member stops work since the node has come; it counts five times, and one may see it later than others
+)
 
 
 class Restarts(Trouble):
@@ -28,7 +32,11 @@ class Restarts(Trouble):
     def __init__(self, choice: random.Random) -> None:
         super().__init__(choice)
         self.room, self.nodes_least, self.nodes, self.patience = 10_000, 2, 6, 3.0
-        self.length, self.gap, self.leaving = choice.choice([0.05, 0.3, 1.0, 5.0]), choice.choice([0.0, 0.2, 3.0]), choice.choice([0.0, 0.5, 1.0])
+        self.length, self.gap, self.leaving = (
+            choice.choice([0.05, 0.3, 1.0, 5.0]),
+            choice.choice([0.0, 0.2, 3.0]),
+            choice.choice([0.0, 0.5, 1.0]),
+        )
 
 
 class Restarting(Simulation):

@@ -1,6 +1,7 @@
 """Compares the proved rules of a member, and its settlements, with plain ones, and tries both.
 
-    tests/members/rules LIBRARY_FOLDER [--seeds FIRST LAST] [--restarts COUNT] [--settle COUNT] [--any COUNT] [--bugs] [--explore MOST]
+    tests/members/rules LIBRARY_FOLDER [--seeds FIRST LAST] [--restarts COUNT] [--settle COUNT] [--any COUNT] [--bugs]
+        [--explore MOST]
     tests/members/rules LIBRARY_FOLDER --find LAST
 
 LIBRARY_FOLDER is what `bin/library` wrote. If nothing more is said all of this is tried, in sizes for each day:
@@ -37,7 +38,8 @@ from .plain import Plain, settle_behind
 from .planted import BUGS, OTHERS, first_seed, shown
 from .restarting import Restarting
 from .settled import BROKEN, prefix_cases, random_cases, rest_differs, try_case
-from .settling import TROUBLES, Simulation
+from .settling import Simulation
+from .trouble import TROUBLES
 
 ROOT = Path(__file__).resolve().parents[2]
 
@@ -76,7 +78,8 @@ class Tally:
             wrong = simulation.tried()
             happened.update(simulation.happened)
             self.count(None if wrong is None else f'{group.__name__}, seed {seed}: {wrong}')
-        print(f'{group.__name__}: {Both.steps - before[0]} steps and {Both.settlements - before[1]} settlements in lockstep')
+        steps, settlements = Both.steps - before[0], Both.settlements - before[1]
+        print(f'{group.__name__}: {steps} steps and {settlements} settlements in lockstep')
         print('\n'.join(f'  {what}: {times}' for what, times in sorted(happened.items())))
         return happened
 
@@ -104,7 +107,9 @@ class Tally:
             self.count(None if is_shown else f'{name}: seed {bug.seed} shows {wrong}')
             print(f'{name}: seed {bug.seed}: {wrong}')
         for name, settler in BROKEN.items():
-            first = next((wrong for wrong in (try_case(case, [settler]) for case in random_cases(20)) if wrong is not None), None)
+            first = next(
+                (wrong for wrong in (try_case(case, [settler]) for case in random_cases(20)) if wrong is not None), None
+            )
             self.count(None if first else f'a settler that {name} is not seen')
             print(f'a settler that {name}: {first}'[:200])
         self.try_lockstep()
@@ -155,7 +160,15 @@ def words() -> argparse.Namespace:
 def main() -> int:
     options, tally = words(), Tally()
     os.environ['BULLY_LIBRARY'] = str(options.library.resolve())
-    is_all = not (options.seeds or options.restarts or options.settle or options.any or options.bugs or options.explore or options.find)
+    is_all = not (
+        options.seeds
+        or options.restarts
+        or options.settle
+        or options.any
+        or options.bugs
+        or options.explore
+        or options.find
+    )
     if is_all or options.any:
         tally.try_any(options.any or ANY)
     if is_all or options.settle:

@@ -105,7 +105,9 @@ def random_cases(count: int) -> Iterator[Case]:
             rows: list[str] = []
             for _ in range(choice.choice([0, 1, 1, 1]) * choice.randint(0, 40 * nodes)):
                 rows += random_row(choice, replica, choice.randint(1, nodes))
-        yield Case(f'seed {seed}', setup.header(), tuple(rows), random_present(choice, nodes), random_old(choice, setup))
+        yield Case(
+            f'seed {seed}', setup.header(), tuple(rows), random_present(choice, nodes), random_old(choice, setup)
+        )
 
 
 def random_row(choice: random.Random, replica: Replica, node: int) -> list[str]:
@@ -153,7 +155,9 @@ def prefix_cases(traces: Sequence[Path], sets: int) -> Iterator[Case]:
 def changed(change: Callable[[list[str], Case], list[str]]) -> Settler:
     """The plain settler, whose rows are changed."""
 
-    def settler(header: str, rows: Sequence[str], present: Sequence[int], old: Sequence[int] | None = None) -> list[str]:
+    def settler(
+        header: str, rows: Sequence[str], present: Sequence[int], old: Sequence[int] | None = None
+    ) -> list[str]:
         case = Case('', header, tuple(rows), tuple(present), None if old is None else tuple(old))
         return change(settle_behind(header, rows, present, old), case)
 
@@ -184,7 +188,9 @@ def without_old_tables(settled: list[str], case: Case) -> list[str]:
     if not case.present:
         return settled
     table = plan_table(setup_of(case.header), case.present).owners
-    return [f'plan,{max(case.present)},{" ".join(map(str, table))}' if row.startswith('plan,') else row for row in settled]
+    return [
+        f'plan,{max(case.present)},{" ".join(map(str, table))}' if row.startswith('plan,') else row for row in settled
+    ]
 
 
 def with_an_owner_that_is_gone(settled: list[str], case: Case) -> list[str]:
@@ -193,10 +199,14 @@ def with_an_owner_that_is_gone(settled: list[str], case: Case) -> list[str]:
         return settled
     setup = setup_of(case.header)
     table = plan_table(setup, range(1, setup.nodes + 1)).owners
-    return [f'plan,{max(case.present)},{" ".join(map(str, table))}' if row.startswith('plan,') else row for row in settled]
+    return [
+        f'plan,{max(case.present)},{" ".join(map(str, table))}' if row.startswith('plan,') else row for row in settled
+    ]
 
 
-def among_others(header: str, rows: Sequence[str], present: Sequence[int], old: Sequence[int] | None = None) -> list[str]:
+def among_others(
+    header: str, rows: Sequence[str], present: Sequence[int], old: Sequence[int] | None = None
+) -> list[str]:
     """It takes who is up as present."""
     with Replica(header) as replica:
         replica.learn(rows)

@@ -1,6 +1,7 @@
 """Simulates groups of members by the proved rules, one for each seed, over the stores of the package.
 
-    tests/members/simulate LIBRARY_FOLDER [--from SEED] [--to SEED] [--over-etcd | --told] [--epochs | --orders] [--bug NAME]
+    tests/members/simulate LIBRARY_FOLDER [--from SEED] [--to SEED] [--over-etcd | --told] [--epochs | --orders]
+        [--bug NAME]
     tests/members/simulate LIBRARY_FOLDER --bugs
     tests/members/simulate LIBRARY_FOLDER --find SECONDS [NAME ...]
     tests/members/simulate LIBRARY_FOLDER --long [CHANGES]
@@ -28,10 +29,12 @@ from pathlib import Path
 
 from bully.member import Core
 from .bugs import BUGS, HARMLESS, group_of
+from .driven import Wrong
 from .long import Long
 from .over_etcd import TROUBLES_OF_ETCD, OverEtcd, Watching
 from .over_memory import TROUBLES_OF_ORDERS, OverMemory
-from .settling import TROUBLES, Epochs, Ordered, Simulation, Trouble, Wrong
+from .settling import Simulation
+from .trouble import TROUBLES, Epochs, Ordered, Trouble
 
 ENOUGH = 200  # seeds, among which each kind of trouble has to be
 
@@ -55,7 +58,9 @@ def words() -> argparse.Namespace:
 def group_type(options: argparse.Namespace) -> tuple[Callable[[int], Simulation], list[str]]:
     """The groups that the words ask for, by their seeds, and what has to happen to them."""
     trouble = Epochs if options.epochs else Ordered if options.orders else Trouble
-    there = [what for what in TROUBLES if what != 'an epoch was taken away under a member']  # looks of these logs tell of the current one
+    there = [
+        what for what in TROUBLES if what != 'an epoch was taken away under a member'
+    ]  # looks of these logs tell of the current one
     there += TROUBLES_OF_ORDERS if options.orders else []
     if options.told:
         return lambda seed: Watching(seed, Core, trouble=trouble), [*there, *TROUBLES_OF_ETCD, 'a watch begins anew']

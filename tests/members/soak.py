@@ -1,8 +1,8 @@
 """Tries members for a long time, over a file or over three servers of etcd, while a recorder apart judges what their
 workers do.
 
-    tests/members/soak LIBRARY_FOLDER [--store sqlite|etcd] [--seconds SECONDS] [--seed SEED] [--rests SHARE] [--nodes COUNT]
-        [--ttl SECONDS] [--talk] [--program PATH] [--folder FOLDER]
+    tests/members/soak LIBRARY_FOLDER [--store sqlite|etcd] [--seconds SECONDS] [--seed SEED] [--rests SHARE]
+        [--nodes COUNT] [--ttl SECONDS] [--talk] [--program PATH] [--folder FOLDER]
 
 LIBRARY_FOLDER is what `bin/library` wrote. Members, their guards and their workers are killed and paused, by a seed,
 also a member with its worker and with its guard at one moment; so are the servers, one or all. Who has ended is begun
@@ -40,7 +40,9 @@ def words() -> argparse.Namespace:
     parser.add_argument('--store', choices=['sqlite', 'etcd'], default='sqlite')
     parser.add_argument('--seconds', type=float, default=300.0)
     parser.add_argument('--seed', type=int, default=1)
-    parser.add_argument('--rests', type=float, default=0.7, help='the share of faults behind which the group gets time to come to rest')
+    parser.add_argument(
+        '--rests', type=float, default=0.7, help='the share of faults behind which the group gets time to come to rest'
+    )
     parser.add_argument('--nodes', type=int, choices=range(2, NODES_MAX + 1), default=NODES_MAX)
     parser.add_argument('--ttl', type=float, default=2.0)
     parser.add_argument('--talk', action='store_true', help='the workers stay over changes')
@@ -49,7 +51,9 @@ def words() -> argparse.Namespace:
     return parser.parse_args()
 
 
-def stores_in(closing: contextlib.ExitStack, folder: Path, options: argparse.Namespace) -> tuple[dict[str, str], Servers | None]:
+def stores_in(
+    closing: contextlib.ExitStack, folder: Path, options: argparse.Namespace
+) -> tuple[dict[str, str], Servers | None]:
     """The log's address for each member, and the servers that it is in, if there are any. Each member asks another one
     first."""
     if options.store == 'sqlite':
@@ -59,10 +63,14 @@ def stores_in(closing: contextlib.ExitStack, folder: Path, options: argparse.Nam
     return addresses(servers, 'group'), servers
 
 
-def begun(closing: contextlib.ExitStack, folder: Path, stores: dict[str, str], nodes: int, options: argparse.Namespace) -> Group:
+def begun(
+    closing: contextlib.ExitStack, folder: Path, stores: dict[str, str], nodes: int, options: argparse.Namespace
+) -> Group:
     """A group with a recorder."""
     folder.mkdir(exist_ok=True)
-    group = Group(folder, stores, options.ttl, names=NAMES[:nodes], words=['--talk'] if options.talk else (), work=Recorded)
+    group = Group(
+        folder, stores, options.ttl, names=NAMES[:nodes], words=['--talk'] if options.talk else (), work=Recorded
+    )
     assert isinstance(group.work, Recorded)
     closing.callback(group.work.close)
     closing.callback(group.close)
@@ -99,7 +107,9 @@ def main() -> int:
         print('tests/members/soak: skipped, since no program `etcd` is on the path\n0 passed, 0 failed')
         return 0
     for number in (signal.SIGTERM, signal.SIGHUP):
-        signal.signal(number, lambda number, _: sys.exit(128 + number))  # it ends as a failure does, so that nothing is left
+        signal.signal(
+            number, lambda number, _: sys.exit(128 + number)
+        )  # it ends as a failure does, so that nothing is left
     with tempfile.TemporaryDirectory() as room:
         folder = (options.folder or Path(room)).resolve()
         folder.mkdir(exist_ok=True)

@@ -28,8 +28,8 @@ PART_MAX = 30.0  # seconds in which a fault has to find whom it can happen to, a
 
 # Whom a fault happens to, at one moment.
 WHOM: dict[str, tuple[str, ...]] = {
-    'a member': ('member',), 'a guard': ('guard',), 'a worker': ('worker',), 'a member and its worker': ('member', 'worker'),
-    'a member and its guard': ('member', 'guard'),
+    'a member': ('member',), 'a guard': ('guard',), 'a worker': ('worker',),
+    'a member and its worker': ('member', 'worker'), 'a member and its guard': ('member', 'guard'),
 }  # fmt: skip
 SHORT, LONG = (0.1, 0.4), (1.5, 3.0)  # of the ttl
 Action = Callable[[], object]
@@ -43,7 +43,9 @@ class Recorded(Work):
     def __init__(self, folder: Path, partitions: int) -> None:
         super().__init__(folder, partitions)
         door = folder / 'recorder'
-        self.recorder = subprocess.Popen([sys.executable, '-I', '-S', str(HERE / 'recorder.py'), str(door), str(folder)], stdin=subprocess.PIPE)
+        self.recorder = subprocess.Popen(
+            [sys.executable, '-I', '-S', str(HERE / 'recorder.py'), str(door), str(folder)], stdin=subprocess.PIPE
+        )
         self.worker.append(str(door))
         wait_until(door.exists)
 
@@ -75,7 +77,10 @@ class Soak:
         self.later: list[Later] = []
         self.rests: list[float] = []  # how long it took to come to rest, if the group did
         self.without_rest = 0
-        self.kinds: dict[str, Strike] = {**self.of_processes(), **(self.of_servers(servers) if servers is not None else {})}
+        self.kinds: dict[str, Strike] = {
+            **self.of_processes(),
+            **(self.of_servers(servers) if servers is not None else {}),
+        }
 
     # What happens.
 
@@ -122,7 +127,9 @@ class Soak:
             return {}
         return found
 
-    def strike_server(self, servers: Servers, leads: bool, begin: Callable[[Server], None], end: Callable[[Server], None]) -> bool:
+    def strike_server(
+        self, servers: Servers, leads: bool, begin: Callable[[Server], None], end: Callable[[Server], None]
+    ) -> bool:
         """That happens to the leader, or to another server, for a while."""
         if not self.servers_are_up(servers):
             return False
@@ -183,7 +190,9 @@ class Soak:
         """Faults for so long; each kind once at least."""
         self.group.come_to_rest('the begin', lambda: self.group.begin_all(self.names))
         end, kinds = time.monotonic() + seconds, self.turns()
-        while time.monotonic() < end or time.monotonic() < end + PATIENCE and not all(map(self.happened.get, self.kinds)):
+        while (
+            time.monotonic() < end or time.monotonic() < end + PATIENCE and not all(map(self.happened.get, self.kinds))
+        ):
             kind = next(kinds)
             self.happened[kind] += self.kinds[kind]()
             self.go_on()
@@ -235,7 +244,8 @@ class Soak:
             print(f'{kind}: {self.happened[kind]} times')
         ended = ', '.join(f'{count} with {status}' for status, count in sorted(self.statuses.items()))
         print(f'members that ended and were begun again: {ended}')
-        print(f'at rest behind {len(self.rests)} faults{told_seconds("in", self.rests)}; in {self.without_rest} waits of {REST_MAX:g} s not')
+        rests = f'at rest behind {len(self.rests)} faults{told_seconds("in", self.rests)}'
+        print(f'{rests}; in {self.without_rest} waits of {REST_MAX:g} s not')
 
 
 def waited(is_so: Callable[[], bool]) -> bool:
@@ -261,7 +271,11 @@ CASES: tuple[tuple[str, Sequence[Told], Sequence[str]], ...] = (
     ('two at once', [('begin', 1, 10, 5), ('begin', 2, 20, 6)], ['overlap']),
     ('two at once by one token', [('begin', 1, 10, 5), ('begin', 2, 20, 5)], ['overlap']),
     ('asked for before the other was over', [('begin', 1, 10, 5), ('end', 1, 30, 0), ('begin', 2, 20, 6)], ['overlap']),
-    ('the same of one that ended', [('begin', 1, 10, 5), ('end', 1, 30, 0), ('gone', 1, 0, 0), ('begin', 2, 20, 6)], ['overlap']),
+    (
+        'the same of one that ended',
+        [('begin', 1, 10, 5), ('end', 1, 30, 0), ('gone', 1, 0, 0), ('begin', 2, 20, 6)],
+        ['overlap'],
+    ),
     ('behind a worker that ended', [('begin', 1, 10, 5), ('gone', 1, 0, 0), ('begin', 2, 20, 6)], []),
     ('by an old token', [('begin', 1, 10, 6), ('end', 1, 20, 0), ('begin', 2, 30, 5)], ['old']),
     ('by an old token at once', [('begin', 1, 10, 6), ('begin', 2, 20, 5)], ['old']),

@@ -3,11 +3,11 @@ other settings. Each call is one moment. All times are whole nanoseconds. A prom
 
 | Call | Done, if |
 |---|---|
-| `take` | nobody holds the presence of that name, and the log of this epoch, the current one, has exactly `place` rows. Then it has this promise |
+| `take` | nobody holds that presence, and the current epoch's log has exactly `place` rows. It has this promise |
 | `renew` | the life holds it, without a gap |
 | `release` | always: the presence is gone, if the life holds it |
 | `promise` | the life holds it. Then the promise is this one, or what it was, if that is more |
-| `append` | the log of this epoch, the current one, has exactly `place` rows, somebody is present, and all that are have this promise |
+| `append` | the current epoch's log has exactly `place` rows, somebody is present, and all that are have this promise |
 | `finish` | the same. Then the next epoch is the current one |
 """
 from __future__ import annotations
@@ -97,16 +97,24 @@ class Judged(Protocol):
 
     @property
     def epochs(self) -> list[Epoch]: ...
+
     @property
     def epoch(self) -> Epoch: ...
+
     @property
     def wish(self) -> Settings | None: ...
+
     @wish.setter
     def wish(self, settings: Settings | None) -> None: ...
+
     def wished(self) -> Settings | None: ...
+
     def held(self) -> dict[str, Lease]: ...
+
     def holds(self, name: str, life: Life) -> bool: ...
+
     def has_news(self, epoch: int, found: Found, until: Until) -> bool: ...
+
     def prune(self) -> None: ...
 
 
@@ -211,7 +219,9 @@ class Store:
         if epoch != self.epoch.number:
             return Found((), Seen(self.epoch.number), standing)
         held, names = self.held(), self.epoch.settings.names
-        presences = tuple(Presence(node, held[name].life, held[name].promise) for node, name in enumerate(names, 1) if name in held)
+        presences = tuple(
+            Presence(node, held[name].life, held[name].promise) for node, name in enumerate(names, 1) if name in held
+        )
         seen = Seen(epoch, presences, len(presences) < len(held), standing.wish is not None)
         return Found(tuple(self.epoch.rows[place:]), seen, standing, self.idle(epoch, standing.place))
 
@@ -224,4 +234,10 @@ class Store:
         if self.standing(epoch) != found.standing:
             return True
         idle = self.idle(epoch, found.standing.place)
-        return until is Until.ANY_IDLE and bool(idle - found.idle) or until is Until.ALL_IDLE and bool(idle) and idle == set(self.held())
+        return (
+            until is Until.ANY_IDLE
+            and bool(idle - found.idle)
+            or until is Until.ALL_IDLE
+            and bool(idle)
+            and idle == set(self.held())
+        )

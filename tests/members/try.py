@@ -1,7 +1,7 @@
 """Tries members in processes of their own over a log in a file, or in etcd: kills and pauses them.
 
-    tests/members/try LIBRARY_FOLDER [--kills COUNT] [--pauses COUNT] [--epochs COUNT] [--orders COUNT] [--store etcd] [--ttl SECONDS]
-        [--seed SEED] [--share PERCENT] [--folder FOLDER] [--talk]
+    tests/members/try LIBRARY_FOLDER [--kills COUNT] [--pauses COUNT] [--epochs COUNT] [--orders COUNT] [--store etcd]
+        [--ttl SECONDS] [--seed SEED] [--share PERCENT] [--folder FOLDER] [--talk]
 
 LIBRARY_FOLDER is what `bin/library` wrote. Three members share 12 partitions; while they work the group gets five nodes
 and 24 partitions. These five are killed and come back, and are paused, or their workers, or both, for less and for more
@@ -63,9 +63,16 @@ def run(group: Group, options: argparse.Namespace) -> None:
     choice = random.Random(options.seed)
     grow(group)
     group.idle(options.idle, options.share)
-    changes = ['kill'] * options.kills + ['pause'] * options.pauses + ['resize'] * options.epochs + ['drain', 'halt'] * options.orders
+    changes = (
+        ['kill'] * options.kills
+        + ['pause'] * options.pauses
+        + ['resize'] * options.epochs
+        + ['drain', 'halt'] * options.orders
+    )
     choice.shuffle(changes)
-    pauses: list[tuple[str, float]] = [(whom, length) for whom in ('member', 'worker', 'member and its worker') for length in (0.5, 2.0)]
+    pauses: list[tuple[str, float]] = [
+        (whom, length) for whom in ('member', 'worker', 'member and its worker') for length in (0.5, 2.0)
+    ]
     for number, change in enumerate(changes):
         name = choice.choice(NAMES)
         if change == 'kill':
@@ -97,7 +104,14 @@ def main() -> int:
         folder.mkdir(exist_ok=True)
         store = address_of_etcd(closing) if options.store == 'etcd' else f'sqlite:{folder / "group.db"}'
         stores = dict.fromkeys(['', *NAMES], store)
-        group = Group(folder, stores, options.ttl, names=NAMES[:FEW], partitions=PARTITIONS_OF_FEW, words=['--talk'] if options.talk else ())
+        group = Group(
+            folder,
+            stores,
+            options.ttl,
+            names=NAMES[:FEW],
+            partitions=PARTITIONS_OF_FEW,
+            words=['--talk'] if options.talk else (),
+        )
         closing.callback(group.close)
         run(group, options)
     print(f'{group.passed} passed, {group.failed} failed')

@@ -31,7 +31,8 @@ LONGEST = 400.0  # seconds that a test takes at most, with what it cleans up
 RUN = """
 import sys, unittest
 from tests.counting import CountingResult
-result = unittest.TextTestRunner(resultclass=CountingResult).run(unittest.defaultTestLoader.loadTestsFromName(sys.argv[1]))
+tests = unittest.defaultTestLoader.loadTestsFromName(sys.argv[1])
+result = unittest.TextTestRunner(resultclass=CountingResult).run(tests)
 print('passed' if result.passed and not result.failed else 'failed' if result.failed else 'skipped')
 """
 SIGNS = {'# ': 'told', 'test ': 'test', 'file ': 'file', '- ': 'old', '+ ': 'new'}
@@ -84,21 +85,27 @@ class Room:
         shutil.copytree(PYTHON, self.python, ignore=shutil.ignore_patterns('__pycache__'))
 
     def renew(self) -> None:
-        shutil.copytree(PYTHON / 'bully', self.python / 'bully', dirs_exist_ok=True, ignore=shutil.ignore_patterns('__pycache__'))
+        shutil.copytree(
+            PYTHON / 'bully', self.python / 'bully', dirs_exist_ok=True, ignore=shutil.ignore_patterns('__pycache__')
+        )
 
     def outcome(self, test: str) -> str:
         """What became of a test: `passed`, `failed`, or something else."""
         words = [sys.executable, '-c', RUN, test]
         with tempfile.TemporaryFile('w+') as said:
             try:
-                subprocess.run(words, cwd=self.python, env=self.environment, stdout=said, stderr=subprocess.STDOUT, timeout=LONGEST)
+                subprocess.run(
+                    words, cwd=self.python, env=self.environment, stdout=said, stderr=subprocess.STDOUT, timeout=LONGEST
+                )
             except subprocess.TimeoutExpired:
                 return f'not ended in {LONGEST:.0f} s'
             finally:
                 end_children(frozenset(), LONGEST, print)  # what a bug left
             said.seek(0)
             told = said.read()
-        return 'not run' if re.search('_FailedTest|SyntaxError|ImportError', told) else told.rstrip().rsplit('\n', 1)[-1]
+        return (
+            'not run' if re.search('_FailedTest|SyntaxError|ImportError', told) else told.rstrip().rsplit('\n', 1)[-1]
+        )
 
 
 def main(words: list[str]) -> int:
@@ -115,7 +122,9 @@ def main(words: list[str]) -> int:
             print(f'FAILED: {bug.told}: {why}')
             failed += 1
     if not words[0].startswith('-'):
-        failed += sum(not is_found for is_found in tried([bug for bug in planted if bug.fits and bug.has_test], Path(words[0])))
+        failed += sum(
+            not is_found for is_found in tried([bug for bug in planted if bug.fits and bug.has_test], Path(words[0]))
+        )
     if not planted:
         print('FAILED: there is no such bug')
         failed = 1
@@ -138,7 +147,11 @@ def tried(planted: list[Bug], library: Path) -> list[bool]:
             behind = room.outcome(bug.test)
             found.append((before, behind) == ('passed', 'failed'))
             passing.update([bug.test] if before == 'passed' else [])
-            why = f'found in {time.monotonic() - begun:.1f} s' if found[-1] else f'FAILED: {before} without it, and {behind} with it'
+            why = (
+                f'found in {time.monotonic() - begun:.1f} s'
+                if found[-1]
+                else f'FAILED: {before} without it, and {behind} with it'
+            )
             print(f'{why}: {bug.told}: {bug.test}', flush=True)
     return found
 

@@ -24,8 +24,6 @@ Tables = dict[str, dict[str, str]]
 Settings = Optional[dict[str, object]]
 
 
-
-
 def tables_of(text: str) -> Tables:
     """The tables of a document in TOML that have strings of one line. (The standard library reads all of TOML from
     Python 3.11 on.)"""
@@ -47,7 +45,9 @@ Summary: {PROJECT['description']}
 License: none is chosen yet
 Requires-Python: {PROJECT['requires-python']}
 """
-ENTRY_POINTS = ''.join(['[console_scripts]\n', *(f'{name} = {place}\n' for name, place in TABLES['project.scripts'].items())])
+ENTRY_POINTS = ''.join(
+    ['[console_scripts]\n', *(f'{name} = {place}\n' for name, place in TABLES['project.scripts'].items())]
+)
 
 
 def get_requires_for_build_wheel(config_settings: Settings = None) -> list[str]:
@@ -64,7 +64,9 @@ def build_wheel(wheel_directory: str, config_settings: Settings = None, metadata
     if library:
         files[f'{NAME}/libbully.so'] = library.read_bytes()
     files[f'{SAID}/METADATA'] = METADATA.encode()
-    files[f'{SAID}/WHEEL'] = f'Wheel-Version: 1.0\nGenerator: {NAME}\nRoot-Is-Purelib: {str(not library).lower()}\nTag: {tag}\n'.encode()
+    files[
+        f'{SAID}/WHEEL'
+    ] = f'Wheel-Version: 1.0\nGenerator: {NAME}\nRoot-Is-Purelib: {str(not library).lower()}\nTag: {tag}\n'.encode()
     files[f'{SAID}/entry_points.txt'] = ENTRY_POINTS.encode()
     if config_settings and 'proved' in config_settings:
         files[f'{SAID}/PROVED'] = Path(str(config_settings['proved'])).read_bytes()
@@ -100,7 +102,9 @@ def find_header(library: Path | None) -> Path:
     places = [HERE.parents[1] / 'include', *([library.parent, library.parents[1] / 'include'] if library else [])]
     file = next(filter(Path.is_file, (place / 'bully.h' for place in places)), None)
     if not file:
-        raise SystemExit('there is no bully.h: build the wheel in the archive or in the repository, or set BULLY_LIBRARY')
+        raise SystemExit(
+            'there is no bully.h: build the wheel in the archive or in the repository, or set BULLY_LIBRARY'
+        )
     return file
 
 
@@ -114,7 +118,9 @@ def record(files: dict[str, bytes]) -> str:
 
 
 def write(path: Path, files: dict[str, bytes]) -> None:
-    year, month, day, hour, minute, second = time.gmtime(max(FIRST_TIME, int(os.environ.get('SOURCE_DATE_EPOCH', '0'))))[:6]
+    year, month, day, hour, minute, second = time.gmtime(
+        max(FIRST_TIME, int(os.environ.get('SOURCE_DATE_EPOCH', '0')))
+    )[:6]
     with zipfile.ZipFile(path, 'w', zipfile.ZIP_DEFLATED) as wheel:
         for name, content in files.items():
             entry = zipfile.ZipInfo(name, (year, month, day, hour, minute, second))

@@ -53,9 +53,13 @@ class Calls:
         epoch = max(1, memory.epoch + choice.choice([-1, -1, 0, 1]) * is_odd)
         place = max(0, len(memory.rows) + choice.choice([-2, -1, 0, 1]) * is_odd)
         promise, rows = Promise(epoch, place), [f'{name},{number}' for number in range(choice.randint(1, 4))]
-        wish = Opening(epoch + 1, 'bully,1,3,6', choice.choice([('a', 'b', 'c'), ('c', 'd', 'e')]), choice.choice([66, 500]))
+        wish = Opening(
+            epoch + 1, 'bully,1,3,6', choice.choice([('a', 'b', 'c'), ('c', 'd', 'e')]), choice.choice([66, 500])
+        )
         opening = self._opening().next(choice.choice([memory.wish, memory.wish, None, wish]), (1, 2, 3, 1, 2, 0))
-        orders, before = (Orders(frozenset(choice.sample('abc', 1)), choice.choice([None, {'a': life}])) for _ in range(2))
+        orders, before = (
+            Orders(frozenset(choice.sample('abc', 1)), choice.choice([None, {'a': life}])) for _ in range(2)
+        )
         known = choice.choice([memory.orders, memory.orders, before, None])
         many, some = 8, 4
         asked: list[tuple[int, str, Callable[[Log], object]]] = [
@@ -65,15 +69,20 @@ class Calls:
             (some, f'promise {name} {life} {promise}', lambda log: log.promise(name, life, promise)),
             (many, f'append {promise} {rows}', lambda log: log.append(epoch, place, rows)),
             (some, f'finish {promise} {opening}', lambda log: log.finish(epoch, place, opening)),
-            (some, f'look {promise}', lambda log: looked(log, epoch, place)), (1, f'read {promise}', lambda log: list(log.read(epoch, place))),
-            (1, f'ask {wish} {epoch}', lambda log: log.ask(wish, epoch)), (1, f'cancel {epoch}', lambda log: log.cancel(epoch)),
-            (2, f'order {orders} {known}', lambda log: log.order(orders, known)), (1, f'times {epoch}', lambda log: sorted(log.times(epoch))),
-            (1, 'epochs', lambda log: log.epochs()), (1, f'opening {epoch}', lambda log: log.opening(epoch)),
-            (1, 'opening', lambda log: log.opening()), (1, f'prune {epoch - 1}', lambda log: log.prune(epoch - 1)),
+            (some, f'look {promise}', lambda log: looked(log, epoch, place)),
+            (1, f'read {promise}', lambda log: list(log.read(epoch, place))),
+            (1, f'ask {wish} {epoch}', lambda log: log.ask(wish, epoch)),
+            (1, f'cancel {epoch}', lambda log: log.cancel(epoch)),
+            (2, f'order {orders} {known}', lambda log: log.order(orders, known)),
+            (1, f'times {epoch}', lambda log: sorted(log.times(epoch))), (1, 'epochs', lambda log: log.epochs()),
+            (1, f'opening {epoch}', lambda log: log.opening(epoch)), (1, 'opening', lambda log: log.opening()),
+            (1, f'prune {epoch - 1}', lambda log: log.prune(epoch - 1)),
         ]  # fmt: skip
         if choice.random() < 0.3 and not is_odd:  # all are idle up to the end of the log
             idle = dict(memory.presences)
-            return 'promise of all', lambda log: [log.promise(each, idle[each].life, Promise(epoch, place)) for each in sorted(idle)]
+            return 'promise of all', lambda log: [
+                log.promise(each, idle[each].life, Promise(epoch, place)) for each in sorted(idle)
+            ]
         _, told, ask = choice.choices(asked, [weight for weight, _, _ in asked])[0]
         return told, ask
 

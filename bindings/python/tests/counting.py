@@ -7,7 +7,10 @@ import time
 import unittest
 from types import ModuleType
 
-IDLE_MAX, LEAST_USED = 60, 3.0  # seconds for which a test may wait, and how many of a processor one takes meanwhile that does something
+IDLE_MAX, LEAST_USED = (
+    60,
+    3.0,
+)  # seconds for which a test may wait, and how many of a processor one takes meanwhile that does something
 CLEANUP_MAX = 5  # seconds for each clean-up of a test that hung
 
 

@@ -99,7 +99,10 @@ class EpochLaws(Tests):
         for _ in range(3):
             opening = opening.next(None, ())
             for name, life in (('a', A), ('stranger', C), ('b', B)):
-                for late in (Promise(end.epoch - 1, 10**6), Promise(end.epoch, end.place - 1) if end.place else EMPTY):
+                for late in (
+                    Promise(end.epoch - 1, 10**6),
+                    Promise(end.epoch, end.place - 1) if end.place else EMPTY,
+                ):
                     self.assertTrue(other.promise(name, life, late))
                     self.assertFalse(other.finish(end.epoch, end.place, opening))
                 self.assertTrue(other.promise(name, life, end))
@@ -132,7 +135,9 @@ class EpochLaws(Tests):
         self.assertFalse(log.finish(1, 0, OPENING.next(one, (1, 2, 3, 1, 2, 3))))
         self.assertTrue(log.finish(1, 0, OPENING.next(two, (1, 2, 3, 1, 2, 3))))
         self.assertFalse(other.ask(one, 1), 'the epoch has ended')
-        self.assertEqual((log.opening(), log.look(2, 0).wish, other.look(1, 0).wish), (OPENING.next(two, ()), None, None))
+        self.assertEqual(
+            (log.opening(), log.look(2, 0).wish, other.look(1, 0).wish), (OPENING.next(two, ()), None, None)
+        )
 
     def test_cancelled_wishes(self) -> None:
         log, other = self.two()
@@ -175,7 +180,8 @@ class EpochLaws(Tests):
         other.prune(3)
         self.assertEqual((log.epochs(), log.opening(1), other.opening(2).epoch), (range(3, 5), OPENING, 2))
         calls: list[Callable[[], object]] = [
-            lambda: log.read(2, 0), lambda: log.read(2, 3 * self.APPENDS), lambda: other.read(1, 5), lambda: log.read(5, 0),
+            lambda: log.read(2, 0), lambda: log.read(2, 3 * self.APPENDS), lambda: other.read(1, 5),
+            lambda: log.read(5, 0),
         ]  # fmt: skip
         for call, epoch in zip(calls, (2, 2, 1, 5)):
             with self.assertRaisesRegex(NoEpoch, f'epoch {epoch} is not there, but 3 to 4'):

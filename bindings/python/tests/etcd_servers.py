@@ -73,9 +73,9 @@ class Server:
         self.folder = folder
         client, peer = f'{"https" if "--cert-file" in words else "http"}://{place.client}', f'http://{place.peer}'
         self.words = [
-            *place.within, str(PROGRAM), '--name', name, '--data-dir', str(folder / name), '--listen-client-urls', client,
-            '--advertise-client-urls', client, '--listen-peer-urls', peer, '--initial-advertise-peer-urls', peer,
-            '--initial-cluster', cluster, *words,
+            *place.within, str(PROGRAM), '--name', name, '--data-dir', str(folder / name), '--listen-client-urls',
+            client, '--advertise-client-urls', client, '--listen-peer-urls', peer, '--initial-advertise-peer-urls',
+            peer, '--initial-cluster', cluster, *words,
         ]  # fmt: skip
         self.process: subprocess.Popen[bytes] | None = None
 
@@ -147,7 +147,8 @@ class Servers:
     """Servers that are one etcd."""
 
     def __init__(
-        self, count: int = 1, words: Sequence[str] = QUICK, tls: ssl.SSLContext | None = None, places: Sequence[Place] = ()
+        self, count: int = 1, words: Sequence[str] = QUICK, tls: ssl.SSLContext | None = None,
+        places: Sequence[Place] = (),
     ) -> None:  # fmt: skip
         """As many servers as there are places, or else so many on the loopback."""
         self._folder = tempfile.TemporaryDirectory()
@@ -279,7 +280,12 @@ class WithCertificates(WithEtcd):
 
     def secure(self, certificate: str = 'server', *words: str) -> Servers:
         """Servers with this certificate."""
-        files = ['--cert-file', str(self.certificates / f'{certificate}.pem'), '--key-file', str(self.certificates / f'{certificate}.key')]
+        files = [
+            '--cert-file',
+            str(self.certificates / f'{certificate}.pem'),
+            '--key-file',
+            str(self.certificates / f'{certificate}.key'),
+        ]
         tls = self.tls(client='client')
         tls.check_hostname = False
         return self.servers(1, [*files, *words], tls)
@@ -293,17 +299,32 @@ def make_certificates(folder: Path) -> None:
     """Makes authorities `mine` and `other`; and certificates `server`, `elsewhere` and `client` by the first."""
 
     def openssl(*words: str) -> None:
-        subprocess.run(['openssl', *words], cwd=folder, check=True, stdout=subprocess.DEVNULL, stderr=subprocess.DEVNULL)
+        subprocess.run(
+            ['openssl', *words], cwd=folder, check=True, stdout=subprocess.DEVNULL, stderr=subprocess.DEVNULL
+        )
 
     key = ['-newkey', 'ec', '-pkeyopt', 'ec_paramgen_curve:prime256v1', '-nodes']
     for name in ('mine', 'other'):
-        openssl('req', *key, '-new', '-x509', '-days', '2', '-subj', f'/CN={name}', '-keyout', f'{name}.key', '-out', f'{name}.pem')
+        openssl(
+            'req',
+            *key,
+            '-new',
+            '-x509',
+            '-days',
+            '2',
+            '-subj',
+            f'/CN={name}',
+            '-keyout',
+            f'{name}.key',
+            '-out',
+            f'{name}.pem',
+        )
     for name, place in (('server', 'IP:127.0.0.1'), ('elsewhere', 'DNS:elsewhere.example'), ('client', 'DNS:client')):
         openssl('req', *key, '-new', '-subj', f'/CN={name}', '-keyout', f'{name}.key', '-out', f'{name}.csr')
         (folder / 'more').write_text(f'subjectAltName = {place}\n')
         openssl(
-            'x509', '-req', '-in', f'{name}.csr', '-CA', 'mine.pem', '-CAkey', 'mine.key', '-CAcreateserial', '-days', '2', '-extfile', 'more',
-            '-out', f'{name}.pem',
+            'x509', '-req', '-in', f'{name}.csr', '-CA', 'mine.pem', '-CAkey', 'mine.key', '-CAcreateserial', '-days',
+            '2', '-extfile', 'more', '-out', f'{name}.pem',
         )  # fmt: skip
 
 
@@ -314,7 +335,11 @@ def add_users(server: Server) -> None:
         server.ask('/v3/auth/user/add', {'name': user, 'password': f'{user} password'})
         server.ask('/v3/auth/role/add', {'name': role})
         server.ask('/v3/auth/user/grant', {'user': user, 'role': role})
-    for role, kind, prefix in (('group', 'READWRITE', 'x/'), ('looking', 'READ', 'x/'), ('elsewhere', 'READWRITE', 'y/')):
+    for role, kind, prefix in (
+        ('group', 'READWRITE', 'x/'),
+        ('looking', 'READ', 'x/'),
+        ('elsewhere', 'READWRITE', 'y/'),
+    ):
         permission = {'permType': kind, 'key': coded(prefix), 'range_end': coded(prefix[:-1] + '0')}
         server.ask('/v3/auth/role/grant', {'name': role, 'perm': permission})
     server.ask('/v3/auth/enable', {})
@@ -347,5 +372,7 @@ def prune_in_part(log: EtcdLog, first: int) -> None:
         left.pop()
         return change(conditions, done, *refused)
 
-    with mock.patch.object(etcd, 'PAGE', 2), mock.patch.object(log, '_change', end), contextlib.suppress(KeyboardInterrupt):
+    with mock.patch.object(etcd, 'PAGE', 2), mock.patch.object(log, '_change', end), contextlib.suppress(
+        KeyboardInterrupt
+    ):
         log.prune(first)

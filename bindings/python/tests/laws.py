@@ -108,12 +108,31 @@ class Laws(Tests):
     def test_names(self) -> None:
         """They are told apart, whatever is in them."""
         log, other = self.pair()
-        names = ['a', 'a/b', 'a/', '/', 'life/a', 'promise', 'größer', ' ', 'a\nb', '\U0001f600', "'", '"', '%', 'A', 'x' * 200]
+        names = [
+            'a',
+            'a/b',
+            'a/',
+            '/',
+            'life/a',
+            'promise',
+            'größer',
+            ' ',
+            'a\nb',
+            '\U0001f600',
+            "'",
+            '"',
+            '%',
+            'A',
+            'x' * 200,
+        ]
         for number, name in enumerate(names):
             self.assertTrue(log.take(name, Life(number, number), EMPTY, self.LONG), name)
         for name in names[::2]:
             self.assertTrue(log.promise(name, present(log)[name].life, Promise(1, 7)), name)
-        wanted = {name: Holder(Life(number, number), EMPTY if number % 2 else Promise(1, 7)) for number, name in enumerate(names)}
+        wanted = {
+            name: Holder(Life(number, number), EMPTY if number % 2 else Promise(1, 7))
+            for number, name in enumerate(names)
+        }
         self.assertEqual(present(other), wanted)
 
     # Promises.
@@ -124,7 +143,20 @@ class Laws(Tests):
         self.assertFalse(log.promise('a', A, Promise(1, 3)))
         self.assertTrue(log.take('a', A, EMPTY, self.LONG))
         most = EMPTY
-        told = [(1, 12), (1, 3), (1, 9), (1, 13), (2, 2), (1, 999_999), (2, 1), (2, 10), (2, 9), (10, 0), (9, 5), (3, 100)]
+        told = [
+            (1, 12),
+            (1, 3),
+            (1, 9),
+            (1, 13),
+            (2, 2),
+            (1, 999_999),
+            (2, 1),
+            (2, 10),
+            (2, 9),
+            (10, 0),
+            (9, 5),
+            (3, 100),
+        ]
         for place in told:
             self.assertTrue((log, other)[place[1] % 2].promise('a', A, Promise(*place)))
             most = max(most, Promise(*place))
@@ -183,7 +215,9 @@ class Laws(Tests):
         self.assertTrue(other.promise('a', A, Promise(1, 2)))
         self.assertTrue(other.append(1, 2, ['recover,2']))
         self.assertEqual(list(log.read(1, 0)), ['recover,1', 'start,1', 'recover,2'])
-        self.assertEqual([list(log.read(1, place)) for place in (1, 2, 3)], [['start,1', 'recover,2'], ['recover,2'], []])
+        self.assertEqual(
+            [list(log.read(1, place)) for place in (1, 2, 3)], [['start,1', 'recover,2'], ['recover,2'], []]
+        )
         for epoch in (0, 2):
             with self.assertRaises(NoEpoch):
                 log.read(epoch, 0)
@@ -267,7 +301,10 @@ class Laws(Tests):
         done, refused = self.race(logs, 25)
         rows = list(log.read(1, 0))
         self.assertEqual((done, len(rows)), (25, 3 * 25))
-        self.assertEqual([rows[place : place + 3] for place in range(0, len(rows), 3)], [[rows[place]] * 3 for place in range(0, len(rows), 3)])
+        self.assertEqual(
+            [rows[place : place + 3] for place in range(0, len(rows), 3)],
+            [[rows[place]] * 3 for place in range(0, len(rows), 3)],
+        )
         self.assertGreater(refused, 0, 'no two have met')
 
     def race(self, logs: list[Log], times: int) -> tuple[int, int]:
@@ -316,11 +353,15 @@ class Laws(Tests):
         """When each append was done, by the wall clock, which may be set back."""
         log, other = self.pair()
         self.assertTrue(log.take('a', A, EMPTY, self.LONG))
-        moments = [1_000_000_000_000, 999_999_999_999, 1_700_000_000_123] + [1_700_000_000_123 + number for number in range(self.PAGE)]
+        moments = [1_000_000_000_000, 999_999_999_999, 1_700_000_000_123] + [
+            1_700_000_000_123 + number for number in range(self.PAGE)
+        ]
         for number, moment in enumerate(moments):
             with mock.patch.object(time, 'time_ns', lambda: moment * 1_000_000 + 999_999):
                 add((log, other)[number % 2], ['start,1', 'move,1'])
-        self.assertEqual((log.times(1), other.times(2)), ({2 * number: moment for number, moment in enumerate(moments)}, {}))
+        self.assertEqual(
+            (log.times(1), other.times(2)), ({2 * number: moment for number, moment in enumerate(moments)}, {})
+        )
         here = be_idle(log, ('a', A))
         self.assertTrue(log.finish(1, here.place, OPENING.next(None, ())))
         self.assertEqual(len(other.times(1)), len(moments))

@@ -19,7 +19,9 @@ from .waiting import PATIENCE, wait_until
 
 def call(*words: str) -> tuple[int, str, str]:
     """The status of a command, and what it said. What signals do to this process stays."""
-    with contextlib.redirect_stdout(io.StringIO()) as said, contextlib.redirect_stderr(io.StringIO()) as told, mock.patch('signal.signal'):
+    with contextlib.redirect_stdout(io.StringIO()) as said, contextlib.redirect_stderr(
+        io.StringIO()
+    ) as told, mock.patch('signal.signal'):
         try:
             status = command.main(list(words))
         except SystemExit as ended:
@@ -39,7 +41,9 @@ TALKS = """
 """
 
 
-def started(folder: Path, words: Sequence[str], said: BinaryIO | None = None, /, **more: str) -> subprocess.Popen[bytes]:
+def started(
+    folder: Path, words: Sequence[str], said: BinaryIO | None = None, /, **more: str
+) -> subprocess.Popen[bytes]:
     """The process of these words, whose place is this folder, with more in its environment. What it says is for that
     file, or one of the folder."""
     with said or open(folder / 'said', 'wb') as file:
@@ -49,7 +53,9 @@ def started(folder: Path, words: Sequence[str], said: BinaryIO | None = None, /,
 class MemberProcess:
     """`bully-member run` in a process of its own, and what its worker tells by files of a folder."""
 
-    def __init__(self, folder: Path, words: Sequence[str], worker: Sequence[str], said: BinaryIO | None = None, /, **more: str) -> None:
+    def __init__(
+        self, folder: Path, words: Sequence[str], worker: Sequence[str], said: BinaryIO | None = None, /, **more: str
+    ) -> None:
         """By these words and those of the worker."""
         self.folder = folder
         self.words = [sys.executable, '-W', 'error', '-m', 'bully.command', 'run', *words, '--', *worker]

@@ -38,7 +38,10 @@ def race(test: unittest.TestCase, log: Log, kind: str, where: str) -> None:
     words, refused = [sys.executable, '-W', 'error', '-c', RACER], 0
     pipes: dict[str, Any] = {'stdin': subprocess.PIPE, 'stdout': subprocess.PIPE, 'universal_newlines': True}
     with contextlib.ExitStack() as opened:
-        racers = [opened.enter_context(subprocess.Popen([*words, str(number), kind, where], env=environment(), **pipes)) for number in range(3)]
+        racers = [
+            opened.enter_context(subprocess.Popen([*words, str(number), kind, where], env=environment(), **pipes))
+            for number in range(3)
+        ]
         for racer in racers:
             assert racer.stdout is not None
             test.assertEqual(racer.stdout.readline(), 'there\n')
@@ -54,5 +57,7 @@ def race(test: unittest.TestCase, log: Log, kind: str, where: str) -> None:
     appends = [rows[place] for place in range(0, len(rows), 7)]
     test.assertEqual(rows, [row for row in appends for _ in range(7)])
     for number in range(3):
-        test.assertEqual([row for row in appends if row.startswith(f'{number},')], [f'{number},{done}' for done in range(20)])
+        test.assertEqual(
+            [row for row in appends if row.startswith(f'{number},')], [f'{number},{done}' for done in range(20)]
+        )
     test.assertGreater(refused, 0, 'no two have met')

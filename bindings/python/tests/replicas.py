@@ -7,11 +7,12 @@ from .traces import log_of
 # What the nodes of even groups of 3 and of 7 partitions append, if all of them recover and then have turns in rising
 # order.
 ELECTION_OF_TWO = log_of(
-    'recover,1', 'recover,2', 'call,1', 'move,2', 'call,2', 'move,2', 'call,2', 'move,2', 'plan,2,1 1 2', 'call,2', 'move,2',
+    'recover,1', 'recover,2', 'call,1', 'move,2', 'call,2', 'move,2', 'call,2', 'move,2', 'plan,2,1 1 2', 'call,2',
+    'move,2',
 )  # fmt: skip
 ELECTION_OF_THREE = log_of(
-    'recover,1', 'recover,2', 'recover,3', 'start,1', 'run,1', 'move,3', 'return,1', 'call,2', 'call,3', 'call,3', 'move,3',
-    'call,3', 'call,3', 'move,3', 'plan,3,1 1 1 2 2 3 3', 'call,3', 'call,3', 'move,3',
+    'recover,1', 'recover,2', 'recover,3', 'start,1', 'run,1', 'move,3', 'return,1', 'call,2', 'call,3', 'call,3',
+    'move,3', 'call,3', 'call,3', 'move,3', 'plan,3,1 1 1 2 2 3 3', 'call,3', 'call,3', 'move,3',
 )  # fmt: skip
 
 

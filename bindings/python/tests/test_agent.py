@@ -301,9 +301,19 @@ class AgentFaults(unittest.TestCase):
 
     def test_full(self) -> None:
         with Agent(Setup(2, 3, 4), 2, 4) as agent:
-            own = (agent.recover, agent.crash, agent.check, agent.timeout, agent.start, agent.advance, agent.drop_orphan)
+            own = (
+                agent.recover,
+                agent.crash,
+                agent.check,
+                agent.timeout,
+                agent.start,
+                agent.advance,
+                agent.drop_orphan,
+            )
             self.expect(agent, bully.Full, *own, lambda: agent.plan([2, 2, 2]), lambda: agent.failed(0))
-            self.expect(agent, bully.Full, lambda: agent.serve('ask,1,0,2,are-you-up'), lambda: agent.replied('tell,2,0,yes'))
+            self.expect(
+                agent, bully.Full, lambda: agent.serve('ask,1,0,2,are-you-up'), lambda: agent.replied('tell,2,0,yes')
+            )
 
     def test_full_of_one(self) -> None:
         """A call that failed is two events, so room for one isn't enough."""
@@ -334,12 +344,44 @@ class AgentFaults(unittest.TestCase):
     def test_requests(self) -> None:
         with recovered(TWO, 1) as agent:
             wrong: dict[type, list[str | bytes]] = {
-                bully.LineWord: ['', 'tell,2,0,yes', 'asks,2,0,1,halt', ' ask,2,0,1,halt', '\u00e9', '\ud800', b'ask\xff'],
-                bully.LineCaller: ['ask', 'ask,', 'ask,3,0,1,halt', 'ask,0,0,1,halt', 'ask,02,0,1,halt', 'ask,x,0,1,halt'],
-                bully.LineNumber: ['ask,2', 'ask,2,,1,halt', 'ask,2,00,1,halt', 'ask,2,1000000,1,halt', 'ask,2,-1,1,halt'],
+                bully.LineWord: [
+                    '',
+                    'tell,2,0,yes',
+                    'asks,2,0,1,halt',
+                    ' ask,2,0,1,halt',
+                    '\u00e9',
+                    '\ud800',
+                    b'ask\xff',
+                ],
+                bully.LineCaller: [
+                    'ask',
+                    'ask,',
+                    'ask,3,0,1,halt',
+                    'ask,0,0,1,halt',
+                    'ask,02,0,1,halt',
+                    'ask,x,0,1,halt',
+                ],
+                bully.LineNumber: [
+                    'ask,2',
+                    'ask,2,,1,halt',
+                    'ask,2,00,1,halt',
+                    'ask,2,1000000,1,halt',
+                    'ask,2,-1,1,halt',
+                ],
                 bully.LineCallee: ['ask,2,0', 'ask,2,0,3,halt', 'ask,2,0,0,halt', 'ask,2,0,,halt'],
-                bully.LineKind: ['ask,2,0,1', 'ask,2,0,1,Halt', 'ask,2,0,1,halt,1 1 1', 'ask,2,0,1,halt\n', 'ask,2,0,1,halt '],
-                bully.LineTable: ['ask,2,0,1,ready', 'ask,2,0,1,ready,1 1', 'ask,2,0,1,ready,1 1 3', 'ask,2,0,1,ready,1  1 1'],
+                bully.LineKind: [
+                    'ask,2,0,1',
+                    'ask,2,0,1,Halt',
+                    'ask,2,0,1,halt,1 1 1',
+                    'ask,2,0,1,halt\n',
+                    'ask,2,0,1,halt ',
+                ],
+                bully.LineTable: [
+                    'ask,2,0,1,ready',
+                    'ask,2,0,1,ready,1 1',
+                    'ask,2,0,1,ready,1 1 3',
+                    'ask,2,0,1,ready,1  1 1',
+                ],
             }
             for fault, lines in wrong.items():
                 for line in lines:
@@ -373,10 +415,13 @@ class AgentFaults(unittest.TestCase):
     def test_wrong_kinds(self) -> None:
         with recovered(TWO, 1) as agent:
             self.expect(agent, TypeError, lambda: agent.serve(None), lambda: agent.replied(7))  # type: ignore[arg-type]
-            self.expect(agent, TypeError, lambda: agent.failed('1'), lambda: agent.failed(1.0))  # type: ignore[arg-type]
+            self.expect(agent, TypeError, lambda: agent.failed('1'))  # type: ignore[arg-type]
+            self.expect(agent, TypeError, lambda: agent.failed(1.0))  # type: ignore[arg-type]
             self.expect(agent, TypeError, lambda: agent.plan(None), lambda: agent.prepare(7))  # type: ignore[arg-type]
             self.expect(agent, ValueError, lambda: agent.failed(-1), lambda: agent.failed(2**32 + 1))
-            self.expect(agent, TypeError, lambda: copy.copy(agent), lambda: copy.deepcopy(agent), lambda: pickle.dumps(agent))
+            self.expect(
+                agent, TypeError, lambda: copy.copy(agent), lambda: copy.deepcopy(agent), lambda: pickle.dumps(agent)
+            )
 
     def test_closed(self) -> None:
         agent = recovered(TWO, 1)
@@ -385,7 +430,20 @@ class AgentFaults(unittest.TestCase):
         self.expect(agent, bully.Closed, *own, agent.close, agent.request, agent.rows, agent.claim, agent.prepare)
         self.expect(agent, bully.Closed, lambda: agent.plan([1, 1, 1]), lambda: agent.serve('ask,2,0,1,halt'))
         self.expect(agent, bully.Closed, lambda: agent.replied('tell,1,1,yes'), lambda: agent.failed(1))
-        shows = ('state', 'status', 'coordinator', 'halter', 'up', 'task', 'wants', 'call', 'number', 'events', 'generation', 'node')
+        shows = (
+            'state',
+            'status',
+            'coordinator',
+            'halter',
+            'up',
+            'task',
+            'wants',
+            'call',
+            'number',
+            'events',
+            'generation',
+            'node',
+        )
         for name in shows:
             self.expect(agent, bully.Closed, lambda: getattr(agent, name))
         with self.assertRaises(bully.Closed):

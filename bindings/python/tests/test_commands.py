@@ -24,6 +24,9 @@ from .threads import put
 from .waiting import wait_until
 
 
+WISH = "update epochs set wish = json_set(opening, '$.epoch', 2,"
+
+
 @unittest.skipIf(sys.version_info < (3, 11), 'the standard library reads TOML from Python 3.11 on')
 class Commands(InFolder):
     """`bully-member`, but for `run`."""
@@ -62,7 +65,9 @@ class Commands(InFolder):
         self.assertEqual(self.of_log(*resize)[1], 'epoch 3: 3 nodes, 6 partitions\n')
         self.assertEqual(self.of_log('prune', '--keep', '2'), (0, 'epochs 2 to 3 are there\n', ''))
         status, said, told = self.of_log('history', '--epoch', '1')
-        self.assertEqual((status, said, told), (4, '', f'bully-member: {self.path}: epoch 1 is not there, but 2 to 3\n'))
+        self.assertEqual(
+            (status, said, told), (4, '', f'bully-member: {self.path}: epoch 1 is not there, but 2 to 3\n')
+        )
         self.assertEqual(self.of_log('prune', '--keep', '1'), (0, 'epoch 3 is there\n', ''))
         for words in (['prune', '--keep', '0'], ['prune'], ['history', '--epoch', 'x'], ['resize']):
             self.assertEqual(self.of_log(*words)[0], 2)
@@ -87,16 +92,17 @@ class Commands(InFolder):
         doesn't help."""
         cases = (
             ("insert into log values (1, 1, char(10), 0)", 'what stands at place 1 of epoch 1 is no row'),
-            ("insert into log values (1, 1, 'recover,1' || char(13, 10), 0)", 'what stands at place 1 of epoch 1 is no row'),
+            ("insert into log values (1, 1, 'recover,1' || char(13, 10), 0)", 'stands at place 1 of epoch 1 is no row'),
             ("insert into log values (1, 1, 'end,bully,1,3,6' || char(10), 0)", 'row 3: A row has no form of a row'),
-            ("insert into log values (1, 1, cast(x'ff0a' as text), 0)", 'decode'), ("update epochs set wish = 'x'", 'epoch 2 has no opening'),
-            ("update epochs set wish = json_set(opening, '$.epoch', 2, '$.header', 'x')", 'epoch 2 has no opening: x is no header'),
-            ("update epochs set wish = json_set(opening, '$.epoch', 2, '$.names', json_array(1, 2, 3))", 'epoch 2 has no opening: names'),
+            ("insert into log values (1, 1, cast(x'ff0a' as text), 0)", 'decode'),
+            ("update epochs set wish = 'x'", 'epoch 2 has no opening'),
+            (f"{WISH} '$.header', 'x')", 'epoch 2 has no opening: x is no header'),
+            (f"{WISH} '$.names', json_array(1, 2, 3))", 'epoch 2 has no opening: names'),
             ("update epochs set wish = json_set(opening, '$.epoch', 2, '$.limit', 5)", 'epoch 2 has no opening: names'),
-            ("update epochs set wish = json_set(opening, '$.epoch', 2, '$.table', json_array(1, 2, 3, 1, 2, 4))", 'epoch 2 has no opening: names'),
-            ("update epochs set wish = json_set(opening, '$.epoch', 2, '$.header', 'bully,2,3,6,1 1 0,clear')", 'epoch 2 has no opening: '),
+            (f"{WISH} '$.table', json_array(1, 2, 3, 1, 2, 4))", 'epoch 2 has no opening: names'),
+            (f"{WISH} '$.header', 'bully,2,3,6,1 1 0,clear')", 'epoch 2 has no opening: '),
             ("update epochs set wish = opening", 'epoch 2 has the opening of epoch 1'),
-            ("update epochs set opening = json_set(opening, '$.header', 'bully,1,4,6')", 'epoch 1 has no opening: bully,1,4,6 is told of 3 nodes'),
+            ("update epochs set opening = json_set(opening, '$.header', 'bully,1,4,6')", '1,4,6 is told of 3 nodes'),
         )  # fmt: skip
         for number, (asked, told) in enumerate(cases):
             self.path = self.folder / f'{number}.db'
@@ -117,11 +123,12 @@ class Commands(InFolder):
     def test_repair(self) -> None:
         """What is damaged is told, and cut once that is wanted and nobody is present. What is lawful stays, and tokens
         are new."""
+        no_row, missing = 'row 5: A row has no form of a row', 'rows are missing, or something else is between them'
         cases = (
             ("update log set rows = rows || char(10) || 'start,2' || char(10)", 5, ['', 'start,2'], "'' is no row"),
-            ("update log set rows = rows || 'end,bully,1,3,6' || char(10)", 4, ['end,bully,1,3,6'], 'row 5: A row has no form of a row'),
-            ("insert into log values (1, 3, cast(x'ff0a' as text), 0)", 4, ['\ufffd'], 'row 5: A row has no form of a row'),
-            ("insert into log values (1, 4, 'x' || char(10), 0)", 5, ['x'], 'rows are missing, or something else is between them'),
+            ("update log set rows = rows || 'end,bully,1,3,6' || char(10)", 4, ['end,bully,1,3,6'], no_row),
+            ("insert into log values (1, 3, cast(x'ff0a' as text), 0)", 4, ['\ufffd'], no_row),
+            ("insert into log values (1, 4, 'x' || char(10), 0)", 5, ['x'], missing),
         )  # fmt: skip
         for number, (asked, count, rows, why) in enumerate(cases):
             self.path = self.folder / f'{number}.db'
@@ -130,7 +137,9 @@ class Commands(InFolder):
             with contextlib.closing(sqlite3.connect(self.path, isolation_level=None)) as file:
                 file.execute(asked)
                 file.execute('update epochs set count = ?', (count,))
-            told = f'epoch 1, place 3: {why}; {len(rows)} rows of {count} are cut, and epoch 2 begins\n' + ''.join(f'{row!r}\n' for row in rows)
+            told = f'epoch 1, place 3: {why}; {len(rows)} rows of {count} are cut, and epoch 2 begins\n' + ''.join(
+                f'{row!r}\n' for row in rows
+            )
             with self.subTest(asked=asked):
                 for words in ((), ('--cut', '2')):
                     status, said, refused = self.of_log('repair', *words)
@@ -138,10 +147,15 @@ class Commands(InFolder):
                     self.assertIn('nothing is cut: --cut 3 cuts that, once', refused)
                 log = self.opened()
                 self.assertTrue(log.take('c', Life(1, 1), Promise(1, count), 1000 * SECOND))
-                self.assertEqual(self.of_log('repair', '--cut', '3'), (1, told, 'bully-member: nothing is cut: somebody is present\n'))
+                self.assertEqual(
+                    self.of_log('repair', '--cut', '3'),
+                    (1, told, 'bully-member: nothing is cut: somebody is present\n'),
+                )
                 log.release('c', Life(1, 1))
                 self.assertEqual(self.of_log('repair', '--cut', '3'), (0, told, ''))
-                self.assertEqual(self.of_log('history', '--epoch', '1')[1], f'{HEADER}\nrecover,2\nrecover,1\nrecover,3\n')
+                self.assertEqual(
+                    self.of_log('history', '--epoch', '1')[1], f'{HEADER}\nrecover,2\nrecover,1\nrecover,3\n'
+                )
                 self.assertTrue(self.of_log('status')[1].startswith('epoch 2, events 0, token -'))
                 self.assertEqual(self.of_log('repair'), (0, 'epoch 2: nothing is damaged\n', ''))
 
@@ -155,7 +169,11 @@ class Commands(InFolder):
             self.assertEqual((status, said), (3, ''))
             self.assertIn('the presence of a is none', why)
             file.execute('delete from presence')
-        for change in ("update epochs set wish = 'x'", "update changes set orders = 'x'", "update changes set orders = '{}'"):
+        for change in (
+            "update epochs set wish = 'x'",
+            "update changes set orders = 'x'",
+            "update changes set orders = '{}'",
+        ):
             with contextlib.closing(sqlite3.connect(self.path, isolation_level=None)) as file:
                 file.execute(change)
             self.assertEqual(self.of_log('status')[0], 3)
@@ -192,12 +210,17 @@ class Commands(InFolder):
         log.release('b', lives['b'])
         self.assertEqual(self.of_log('drain', 'b'), (0, 'b is drained\n', ''))
         told = json.loads(self.of_log('status', '--json')[1])
-        self.assertEqual([(node['present'], node['drained']) for node in told['nodes']], [(True, False), (False, True), (False, False)])
+        self.assertEqual(
+            [(node['present'], node['drained']) for node in told['nodes']],
+            [(True, False), (False, True), (False, False)],
+        )
         self.assertEqual(self.of_log('drain', 'a', '--all', '--seconds', '0.01')[0], 1)
         self.assertEqual(self.of_log('undrain', 'b'), (0, 'b is not drained\n', ''))
         self.assertEqual(log.look(1, 0).orders.drained, {'a'})
         for words in (['drain', 'x'], ['undrain', 'x']):
-            self.assertEqual(self.of_log(*words), (5, '', 'bully-member: the group has no node x in epoch 1, but a, b, c\n'))
+            self.assertEqual(
+                self.of_log(*words), (5, '', 'bully-member: the group has no node x in epoch 1, but a, b, c\n')
+            )
         self.assertEqual((self.of_log('drain')[0], self.of_log('pause', 'a')[0]), (2, 2))
 
     def test_pause(self) -> None:
@@ -209,7 +232,9 @@ class Commands(InFolder):
         self.assertEqual(log.look(1, 0).orders.lives, lives)
         self.assertIn('coordinator -; paused: who works goes on, and nobody settles\n', self.of_log('status')[1])
         self.assertEqual(json.loads(self.of_log('status', '--json')[1])['paused'], True)
-        self.assertEqual(self.of_log('drain', 'b'), (0, 'b is drained, and leaves once the group is not paused any more\n', ''))
+        self.assertEqual(
+            self.of_log('drain', 'b'), (0, 'b is drained, and leaves once the group is not paused any more\n', '')
+        )
         new = self.folder / 'new.toml'
         new.write_bytes(toml({**TOP, 'partitions': 4}))
         paused = 'bully-member: the group is paused, so no epoch ends; bully-member resume has it go on\n'
@@ -234,8 +259,12 @@ class Commands(InFolder):
         lives = self.take(log, 'a', 'b')
         status, _, said = self.of_log(*resize)
         self.assertEqual((status, log.look(1, 0).wish), (3, None))
-        self.assertEqual(said, 'bully-member: config: none of those present (a, b) is in it, so all would end; --all-new takes it\n')
-        self.assertEqual((self.of_log(*resize, '--all-new')[0], log.epochs()[-1]), (1, 1), 'these never promise anything')
+        self.assertEqual(
+            said, 'bully-member: config: none of those present (a, b) is in it, so all would end; --all-new takes it\n'
+        )
+        self.assertEqual(
+            (self.of_log(*resize, '--all-new')[0], log.epochs()[-1]), (1, 1), 'these never promise anything'
+        )
         self.assertEqual(getattr(log.look(1, 0).wish, 'names'), ('A', 'B', 'C'))
         self.assertEqual(self.of_log('resize', '--cancel'), (0, 'epoch 1: nothing else is wished for\n', ''))
         self.assertIsNone(log.look(1, 0).wish)
@@ -251,7 +280,9 @@ class Commands(InFolder):
         self.config.write_bytes(toml({**TOP, 'weights': [1, 2, 3]}))
         self.of_log('init', '--config', str(self.config))
         log = self.opened()
-        self.assertEqual(self.of_log('switchover', '--node', 'a'), (1, '', 'bully-member: a is not present, so it would not lead\n'))
+        self.assertEqual(
+            self.of_log('switchover', '--node', 'a'), (1, '', 'bully-member: a is not present, so it would not lead\n')
+        )
         names = [Member(self.opened(), name, lambda work: None, lambda work: None, ttl=10.0) for name in 'abc']
         threads = [threading.Thread(target=member.run) for member in names]
         for member, thread in zip(names, threads):
@@ -263,7 +294,9 @@ class Commands(InFolder):
         self.assertEqual(status, 0)
         self.assertEqual(self.of_log('switchover', '--node', 'a'), (0, 'epoch 2: a leads\n', ''))
         wait_until(lambda: self.leaders(names) == {'a'})
-        self.assertEqual(json.loads(self.of_log('status', '--json')[1])['owners'], json.loads(before)['owners'], 'none moves')
+        self.assertEqual(
+            json.loads(self.of_log('status', '--json')[1])['owners'], json.loads(before)['owners'], 'none moves'
+        )
         self.assertEqual((log.opening().names, log.opening().settings.setup.weights), (('b', 'c', 'a'), (2, 3, 1)))
         self.assertEqual(self.of_log('switchover', '--node', 'a'), (0, 'epoch 2: a leads\n', ''), 'it does already')
 
@@ -300,7 +333,9 @@ class Commands(InFolder):
         new.write_bytes(toml({**TOP, 'partitions': 4}))
         self.assertEqual(self.of_log('resize', '--config', str(new))[0], 0)
         store = stores.FileStore(str(self.path))
-        self.assertEqual((command.ttl_of(store, None), command.ttl_of(store, 3.0), self.opened().opening().epoch), (3.0, 3.0, 2))
+        self.assertEqual(
+            (command.ttl_of(store, None), command.ttl_of(store, 3.0), self.opened().opening().epoch), (3.0, 3.0, 2)
+        )
 
     def test_old_and_new_configurations(self) -> None:
         """A member may be started by any that the group has or had. Who is in none of the current epoch is refused."""
@@ -308,8 +343,20 @@ class Commands(InFolder):
         new = self.folder / 'new.toml'
         new.write_bytes(toml({**TOP, 'nodes': 2, 'names': ['c', 'd']}))
         log = self.opened()
-        for path, node, told in ((new, 'd', 'the log is of another group: bully,1,3,6 of a, b, c'), (None, 'd', 'the group has no node d')):
-            words = ['run', '--log', f'sqlite:{self.path}', *(['--config', str(path)] if path else []), '--node', node, '--', 'true']
+        for path, node, told in (
+            (new, 'd', 'the log is of another group: bully,1,3,6 of a, b, c'),
+            (None, 'd', 'the group has no node d'),
+        ):
+            words = [
+                'run',
+                '--log',
+                f'sqlite:{self.path}',
+                *(['--config', str(path)] if path else []),
+                '--node',
+                node,
+                '--',
+                'true',
+            ]
             status, _, said = call(*words)
             self.assertEqual(status, 3 if path else 5)
             self.assertIn(told, said)
@@ -327,9 +374,11 @@ class Commands(InFolder):
         self.assertEqual(call('status', '--log', log)[0], 4)
         self.of_log('init', '--config', config)
         calls: list[tuple[list[str], int]] = [
-            (['init', '--config', config, '--log', log], 4), (['init', '--config', str(self.folder / 'none'), '--log', log], 4),
-            (['status', '--log', 'etcd:x'], 2), ([], 2), (['start'], 2), ([*run, '--node', 'd', '--', 'true'], 2), ([*run, '--node', 'a'], 2),
-            ([*run, '--node', 'a', '--ttl', '0', '--', 'true'], 2), ([*run, '--node', 'a', '--listen', 'x', '--', 'true'], 2),
+            (['init', '--config', config, '--log', log], 4),
+            (['init', '--config', str(self.folder / 'none'), '--log', log], 4), (['status', '--log', 'etcd:x'], 2),
+            ([], 2), (['start'], 2), ([*run, '--node', 'd', '--', 'true'], 2), ([*run, '--node', 'a'], 2),
+            ([*run, '--node', 'a', '--ttl', '0', '--', 'true'], 2),
+            ([*run, '--node', 'a', '--listen', 'x', '--', 'true'], 2),
         ]  # fmt: skip
         for words, wanted in calls:
             with self.subTest(words=words):
@@ -348,5 +397,9 @@ class Commands(InFolder):
         self.assertEqual(status, 1)
         self.assertEqual([line.split('  ')[0] for line in said.splitlines()[2:]], ['a?[2J?b', 'c?d', '\u00e4 z'])
         self.config.write_bytes(toml({**TOP, 'names': ['a\0', 'b', 'c']}))
-        status, _, told = call('run', '--log', f'sqlite:{self.path}', '--config', str(self.config), '--node', 'b', '--', 'true')
-        self.assertEqual((status, told), (3, 'bully-member: config: a name has a zero character, which no environment holds\n'))
+        status, _, told = call(
+            'run', '--log', f'sqlite:{self.path}', '--config', str(self.config), '--node', 'b', '--', 'true'
+        )
+        self.assertEqual(
+            (status, told), (3, 'bully-member: config: a name has a zero character, which no environment holds\n')
+        )

@@ -49,7 +49,9 @@ class Numbers(unittest.TestCase):
 class Settling(unittest.TestCase):
     def test_a_group_of_two(self) -> None:
         with Replica(TWO) as replica:
-            self.assertEqual((replica.settle([]), replica.is_at_rest([], 0xFFFF_FFFF), replica.is_at_rest([1])), ([], True, False))
+            self.assertEqual(
+                (replica.settle([]), replica.is_at_rest([], 0xFFFF_FFFF), replica.is_at_rest([1])), ([], True, False)
+            )
             self.assertEqual(replica.settle({1, 2}), settled('1 2'))
             self.assertEqual(replica.settle((2, 1, 2), [2, 1]), settled('2 1'))
             self.assertEqual(replica.settle(iter([2, 1]), (0, 1)), settled('2 1'))
@@ -62,13 +64,27 @@ class Settling(unittest.TestCase):
             self.assertEqual((replica.owned(1, 12), replica.owned(2, 0xFFFF_FFFF)), (None, None))
 
     def test_one_of_two_is_left(self) -> None:
-        wanted = ['crash,1', 'recover,1', 'crash,2', 'start,1', 'lose,1', 'return,1', 'move,1', 'move,1', 'move,1', 'plan,1,1 1', 'move,1']
+        wanted = [
+            'crash,1',
+            'recover,1',
+            'crash,2',
+            'start,1',
+            'lose,1',
+            'return,1',
+            'move,1',
+            'move,1',
+            'move,1',
+            'plan,1,1 1',
+            'move,1',
+        ]
         with Replica(TWO) as replica:
             replica.learn(settled('1 2'))
             self.assertEqual(replica.settle([1], [2, 2]), wanted)  # (a log with a plan plans from that)
             replica.learn(wanted)
             self.assertTrue(replica.is_at_rest([1], 25))
-            self.assertEqual((replica.owned(1, 25), replica.owned(1, 26), replica.owned(2)), (Owned(26, (0, 1)), None, None))
+            self.assertEqual(
+                (replica.owned(1, 25), replica.owned(1, 26), replica.owned(2)), (Owned(26, (0, 1)), None, None)
+            )
             self.assertEqual(replica.settle([]), ['crash,1'])
             self.assertTrue(check('\n'.join([TWO, *settled('1 2'), *wanted, '']).encode()).is_lawful)
 
@@ -92,7 +108,10 @@ class Settling(unittest.TestCase):
                 self.assertTrue(replica.is_at_rest(present, len(rows)))
                 for node in range(1, nodes + 1):
                     status = Status.NORMAL if node in present else Status.DOWN
-                    self.assertEqual((replica.status(node), replica.coordinator(node)), (status, max(present) if node in present else None))
+                    self.assertEqual(
+                        (replica.status(node), replica.coordinator(node)),
+                        (status, max(present) if node in present else None),
+                    )
                 owned = [replica.owned(node, len(rows)) for node in range(1, nodes + 1)]
                 parts = sorted(part for each in owned if each for part in each.partitions)
                 self.assertEqual(parts, list(range(replica.partitions)) if present else [])
@@ -115,8 +134,8 @@ class Settling(unittest.TestCase):
     def test_refusals(self) -> None:
         with Replica(TWO) as replica:
             cases: list[tuple[type[Exception], list[int], list[int] | None]] = [
-                (bully.BadNode, [0], None), (bully.BadNode, [1, 3], [1]), (bully.TableLength, [1], [1]), (bully.TableLength, [1], []),
-                (bully.TableLength, [], [1, 1, 1]), (bully.TableOwner, [1], [1, 3]),
+                (bully.BadNode, [0], None), (bully.BadNode, [1, 3], [1]), (bully.TableLength, [1], [1]),
+                (bully.TableLength, [1], []), (bully.TableLength, [], [1, 1, 1]), (bully.TableOwner, [1], [1, 3]),
             ]  # fmt: skip
             for fault, present, old in cases:
                 with self.subTest(present=present, old=old), self.assertRaises(fault):
@@ -134,7 +153,11 @@ class Settling(unittest.TestCase):
             with self.assertRaises(ValueError):
                 replica.owned(1, 0x1_0000_0000)
             self.assertEqual((replica.rows, replica.events), (0, 0))
-        calls: list[Callable[[], object]] = [lambda: replica.settle([0]), lambda: replica.is_at_rest([1]), lambda: replica.owned(1)]
+        calls: list[Callable[[], object]] = [
+            lambda: replica.settle([0]),
+            lambda: replica.is_at_rest([1]),
+            lambda: replica.owned(1),
+        ]
         for call in calls:
             with self.assertRaises(bully.Closed):
                 call()
@@ -179,9 +202,14 @@ class Stories(unittest.TestCase):
         core = self.core
         self.begin()
         self.assertEqual((core.owned(), core.life, core.sure_until), (Owned(5, (0,)), Present(FIRST, 10), 800_010))
-        self.assertEqual((core.promised, core.work, core.ending, core.is_wished), (0, Work(Way.WORKING, 5), None, False))
+        self.assertEqual(
+            (core.promised, core.work, core.ending, core.is_wished), (0, Work(Way.WORKING, 5), None, False)
+        )
         self.assertEqual((core.epoch, core.node, core.place, core.rows, core.events, core.token), (7, 1, 6, 6, 6, 5))
-        self.assertEqual((core.state(1).status, core.last_table, core.planner, core.nodes, core.partitions), (Status.NORMAL, (1,), 1, 1, 1))
+        self.assertEqual(
+            (core.state(1).status, core.last_table, core.planner, core.nodes, core.partitions),
+            (Status.NORMAL, (1,), 1, 1, 1),
+        )
         self.assertEqual(core.next(100), Wait(249_910, Until.ANY_IDLE))
         core.woke()
         self.ask(110, Request.LOOK)
@@ -204,7 +232,9 @@ class Stories(unittest.TestCase):
         self.core.lost(4)
         self.assertEqual(self.core.work, Work(Way.WORKING, 5))
         self.core.lost(5)
-        self.assertEqual((self.core.work, self.core.next(110), self.core.next(120)), (Work(Way.LOST, 5), Stop(), Rest(249_890)))
+        self.assertEqual(
+            (self.core.work, self.core.next(110), self.core.next(120)), (Work(Way.LOST, 5), Stop(), Rest(249_890))
+        )
         self.core.stopped()
         self.assertEqual(self.core.next(130), Begin(5))
 
@@ -240,7 +270,9 @@ class Stories(unittest.TestCase):
         with self.assertRaises(bully.BadNode):
             self.core.followed(180, replace(ONE, epoch=8, node=2))
         self.core.followed(180, Opening('bully,1,1,3', 8, 1, 22, (1, 0, 0)))
-        self.assertEqual((self.core.epoch, self.core.place, self.core.partitions, self.core.life), (8, 0, 3, Present(FIRST, 10)))
+        self.assertEqual(
+            (self.core.epoch, self.core.place, self.core.partitions, self.core.life), (8, 0, 3, Present(FIRST, 10))
+        )
         self.ask(190, Request.LOOK)
         self.core.passed()
         self.ask(200, Request.FOLLOW)
@@ -249,7 +281,11 @@ class Stories(unittest.TestCase):
         self.ask(220, Request.RELEASE, FIRST)
 
     def test_a_log_is_broken(self) -> None:
-        for rows, cause in ((['recover,1', 'recover,1'], bully.IsUp), (['nothing,1'], bully.BadRow), (['\ufeffrecover,1'], bully.BadRow)):
+        for rows, cause in (
+            (['recover,1', 'recover,1'], bully.IsUp),
+            (['nothing,1'], bully.BadRow),
+            (['\ufeffrecover,1'], bully.BadRow),
+        ):
             with self.subTest(rows=rows), Core(ONE, 5, TTL_MIN) as core:
                 core.learn(rows)
                 self.assertEqual(core.ending, Ending.BROKEN)
@@ -281,9 +317,9 @@ class Stories(unittest.TestCase):
             (bully.BadNode, replace(ONE, node=0), TTL_MIN), (bully.BadNode, replace(ONE, node=2), TTL_MIN),
             (bully.TableLength, replace(ONE, old=(1, 1)), TTL_MIN), (bully.TableLength, replace(ONE, old=()), TTL_MIN),
             (bully.TableOwner, replace(ONE, old=(2,)), TTL_MIN), (bully.BadRowsMax, replace(ONE, rows_max=21), TTL_MIN),
-            (bully.BadRowsMax, replace(ONE, rows_max=1_000_001), TTL_MIN),
-            (bully.BadTtl, ONE, TTL_MIN - 1), (bully.BadTtl, ONE, TTL_MAX + 1),
-            (ValueError, replace(ONE, epoch=-1), TTL_MIN), (ValueError, replace(ONE, node=65536), TTL_MIN), (ValueError, ONE, -1),
+            (bully.BadRowsMax, replace(ONE, rows_max=1_000_001), TTL_MIN), (bully.BadTtl, ONE, TTL_MIN - 1),
+            (bully.BadTtl, ONE, TTL_MAX + 1), (ValueError, replace(ONE, epoch=-1), TTL_MIN),
+            (ValueError, replace(ONE, node=65536), TTL_MIN), (ValueError, ONE, -1),
         ):  # fmt: skip
             with self.subTest(opening=opening, ttl=ttl), self.assertRaises(fault):
                 Core(opening, 5, ttl)
@@ -307,7 +343,13 @@ class Stories(unittest.TestCase):
             ONE.epoch = 8  # type: ignore[misc]
         self.core.close()
         self.assertEqual((repr(self.core), self.core.is_closed), ('<Core closed>', True))
-        calls: list[Callable[[], object]] = [lambda: self.core.next(0), self.core.settlement, self.core.woke, self.core.close, lambda: self.core.place]
+        calls: list[Callable[[], object]] = [
+            lambda: self.core.next(0),
+            self.core.settlement,
+            self.core.woke,
+            self.core.close,
+            lambda: self.core.place,
+        ]
         for closed in calls:
             with self.assertRaises(bully.Closed):
                 closed()

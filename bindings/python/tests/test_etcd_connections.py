@@ -97,8 +97,9 @@ class Killed(InEtcd):
         log.wait(1, 0, {'a': A}, Until.NEWS, 0.1)
         server.kill()
         calls: list[Callable[[], object]] = [
-            lambda: log.read(1, 0), lambda: log.append(1, 0, ['recover,1']), lambda: log.renew('a', A, LONG), lambda: log.look(1, 0),
-            lambda: log.promise('a', A, EMPTY), lambda: log.wait(1, 0, {'a': A}, Until.NEWS, 1.0),
+            lambda: log.read(1, 0), lambda: log.append(1, 0, ['recover,1']), lambda: log.renew('a', A, LONG),
+            lambda: log.look(1, 0), lambda: log.promise('a', A, EMPTY),
+            lambda: log.wait(1, 0, {'a': A}, Until.NEWS, 1.0),
         ]  # fmt: skip
         for call in calls:
             with self.assertRaisesRegex(Unanswered, f'^127.0.0.1:{server.port}: '):
@@ -144,7 +145,9 @@ class Killed(InEtcd):
         log.wait(1, 0, {'a': A}, Until.NEWS, PATIENCE)
         self.assertEqual((log.read(1, 0)[0], present(log)), ('recover,1', {'a': Holder(A, EMPTY)}))
         after = self.leases(prefix='x', server=servers.each[1])
-        self.assertEqual((len(set(after.values())), set(after) == set(before), after == before), (1, True, False), 'both have moved')
+        self.assertEqual(
+            (len(set(after.values())), set(after) == set(before), after == before), (1, True, False), 'both have moved'
+        )
 
     def test_paused_server(self) -> None:
         """A watch at a server that says nothing any more is begun at another one, once that one is asked."""
@@ -344,7 +347,9 @@ class Users(InEtcd):
         create = EtcdLog.create
         self.denied(lambda: create(self.address, OPENING), 'user name is empty')
         for user, password in (('member', 'x'), ('member', ''), ('nobody', 'x')):
-            self.denied(lambda: create(self.address, OPENING, user=user, password=password), '(authentication failed|user name)')
+            self.denied(
+                lambda: create(self.address, OPENING, user=user, password=password), '(authentication failed|user name)'
+            )
         for user in ('reader', 'other'):
             self.denied(lambda: create(self.address, OPENING, **self.words(user)), 'permission denied')
         self.created(**self.words('member'))
@@ -357,8 +362,8 @@ class Users(InEtcd):
         self.assertEqual((list(log.read(1, 0)), set(present(log))), (['recover,1'], {'a'}))
         log.wait(1, 0, {'a': A}, Until.NEWS, PATIENCE)
         calls: list[Callable[[], object]] = [
-            lambda: log.append(1, 1, ['recover,2']), lambda: log.take('b', B, Promise(1, 1), LONG), lambda: log.release('a', A),
-            lambda: log.promise('a', A, Promise(1, 1)),
+            lambda: log.append(1, 1, ['recover,2']), lambda: log.take('b', B, Promise(1, 1), LONG),
+            lambda: log.release('a', A), lambda: log.promise('a', A, Promise(1, 1)),
         ]  # fmt: skip
         for call in calls:
             self.denied(call, 'permission denied')
@@ -415,7 +420,9 @@ class Certificates(InEtcd, WithCertificates):
         dead, port = free_ports(1)[0], servers.each[0].port
         self.assertEqual(len(self.opened(f'etcds://127.0.0.1:{dead},127.0.0.1:{port}/x', tls=tls).read(1, 0)), 20)
         mixed = f'etcds://127.0.0.1:{self.server.port},127.0.0.1:{port}/x'
-        self.assertEqual(len(self.opened(mixed, tls=tls).read(1, 0)), 20, 'one server with a wrong certificate is passed over')
+        self.assertEqual(
+            len(self.opened(mixed, tls=tls).read(1, 0)), 20, 'one server with a wrong certificate is passed over'
+        )
         with self.assertRaises(ValueError):
             EtcdLog(servers.address('x'), tls=tls)
 

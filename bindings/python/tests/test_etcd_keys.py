@@ -70,8 +70,9 @@ class Keys(InEtcd):
         self.assertTrue(log.ask(wish, 1))
         wanted = {
             'opening/0000000001': OPENING.text().replace('{"epoch"', '{"form": 3, "epoch"'), 'first': '0000000001',
-            'place': '0000000001/0000000002', 'log/0000000001/0000000000': 'recover,1\ngrößer\n', 'next': wish.text(), 'presence/life/größer': '17.3',
-            'presence/promise/größer': '0000000001/0000000000', 'time/0000000001/0000000000': '1700000000007',
+            'place': '0000000001/0000000002', 'log/0000000001/0000000000': 'recover,1\ngrößer\n', 'next': wish.text(),
+            'presence/life/größer': '17.3', 'presence/promise/größer': '0000000001/0000000000',
+            'time/0000000001/0000000000': '1700000000007',
             'orders': '{"drained": ["a", "größer"], "paused": {"größer": [17, 3]}}',
         }  # fmt: skip
         pairs = self.server.keys(f'{self.prefix}/')
@@ -139,8 +140,8 @@ class Prefixes(InEtcd):
     """What begins the keys."""
 
     ODD = (
-        'x', 'x0', 'x-', 'xy', 'x/y', 'x.y', '/x', 'x//y', '..', ' x ', 'größer', '%2F', 'a?b#c', 'a=b&c', '"', "'\\", '*', 'x,y',
-        'etcd://x/y', '0', 'logs', 'x/logs', 'presences', 'x\ny', '\U0001f600', 'x' * 1000,
+        'x', 'x0', 'x-', 'xy', 'x/y', 'x.y', '/x', 'x//y', '..', ' x ', 'größer', '%2F', 'a?b#c', 'a=b&c', '"', "'\\",
+        '*', 'x,y', 'etcd://x/y', '0', 'logs', 'x/logs', 'presences', 'x\ny', '\U0001f600', 'x' * 1000,
     )  # fmt: skip
 
     def test_odd(self) -> None:
@@ -159,7 +160,9 @@ class Prefixes(InEtcd):
         for part in ('b', 'next', 'place', 'first', 'oz'):
             below = self.created(f'{self.address}/{part}')
             lives = log.look(1, 0).lives
-            later = threading.Thread(target=lambda: [below.take('a', A, EMPTY, LONG), below.append(1, 0, ['recover,1'])])
+            later = threading.Thread(
+                target=lambda: [below.take('a', A, EMPTY, LONG), below.append(1, 0, ['recover,1'])]
+            )
             later.start()
             begun = time.monotonic()
             log.wait(1, 0, lives, Until.ALL_IDLE, 0.5)
@@ -180,8 +183,10 @@ class Prefixes(InEtcd):
     def test_addresses(self) -> None:
         range_at, two, six = Endpoint('a', 2379), Endpoint('10.0.0.1', 80), Endpoint('::1', 2379)
         for words, read in (
-            ('etcd://a/x', Address((range_at,), 'x', False)), ('etcds://a:2379,10.0.0.1:80/x/y//', Address((range_at, two), 'x/y', True)),
-            ('etcd://[::1]:2379/x', Address((six,), 'x', False)), ('etcd://[::1],a//x', Address((six, range_at), '/x', False)),
+            ('etcd://a/x', Address((range_at,), 'x', False)),
+            ('etcds://a:2379,10.0.0.1:80/x/y//', Address((range_at, two), 'x/y', True)),
+            ('etcd://[::1]:2379/x', Address((six,), 'x', False)),
+            ('etcd://[::1],a//x', Address((six, range_at), '/x', False)),
         ):  # fmt: skip
             with self.subTest(words=words):
                 self.assertEqual(read_address(words), read)
@@ -189,9 +194,10 @@ class Prefixes(InEtcd):
 
     def test_bad_addresses(self) -> None:
         for words in (
-            '', 'etcd', 'etcd:a/x', 'etcd:/a/x', 'http://a/x', 'etcd://a', 'etcd://a/', 'etcd://a//', 'etcd:///x', 'etcd://a,/x',
-            'etcd://a:/x', 'etcd://:1/x', 'etcd://a:65536/x', 'etcd://a:b/x', 'etcd://::1/x', 'etcd://[::1/x', 'etcd://a/log',
-            'etcd://a/x/presence/y', 'etcd://a/x/opening/y', 'etcd://a/time/y', 'etcd://a/\udc80',
+            '', 'etcd', 'etcd:a/x', 'etcd:/a/x', 'http://a/x', 'etcd://a', 'etcd://a/', 'etcd://a//', 'etcd:///x',
+            'etcd://a,/x', 'etcd://a:/x', 'etcd://:1/x', 'etcd://a:65536/x', 'etcd://a:b/x', 'etcd://::1/x',
+            'etcd://[::1/x', 'etcd://a/log', 'etcd://a/x/presence/y', 'etcd://a/x/opening/y', 'etcd://a/time/y',
+            'etcd://a/\udc80',
         ):  # fmt: skip
             with self.subTest(words=words), self.assertRaises(ValueError):
                 read_address(words)
@@ -205,7 +211,8 @@ class Prefixes(InEtcd):
             within = f'ip link set lo up && mount --bind {folder}/resolv.conf /etc/resolv.conf && exec "$@"'
             words = ['unshare', '--mount', '--net', 'sh', '-c', within, 'sh', sys.executable, '-c', SILENT_NAMES]
             ran = subprocess.run(words, env=environment(), stdout=subprocess.PIPE, text=True, check=True)
-        said = 'nowhere.test:2379: its name was not looked up in time; elsewhere.test:2379: its name was not looked up in time\n'
+        why = 'its name was not looked up in time'
+        said = f'nowhere.test:2379: {why}; elsewhere.test:2379: {why}\n'
         self.assertEqual(ran.stdout, 3 * said + 'asked\nin time\nFalse\n')
 
     def test_ipv6(self) -> None:
@@ -259,7 +266,10 @@ class Contents(InEtcd):
             with self.subTest(key=key, value=value):
                 self.server.put(f'{self.prefix}/{key}', value)
                 self.refused(ForeignLog, lambda: EtcdLog(self.address))
-                self.refused(LogExists if key.startswith('opening') else ForeignLog, lambda: EtcdLog.create(self.address, OPENING))
+                self.refused(
+                    LogExists if key.startswith('opening') else ForeignLog,
+                    lambda: EtcdLog.create(self.address, OPENING),
+                )
                 self.server.delete(f'{self.prefix}/{key}')
 
     def key(self, place: int, end: str = '') -> str:
@@ -314,7 +324,14 @@ class Contents(InEtcd):
         self.refused(DamagedLog, lambda: log.read(1, 0))
 
     def test_no_presences(self) -> None:
-        cases = ('life/b', '1.2'), ('life/a', 'x'), ('life/a', '1'), ('promise/a', ''), ('promise/a', '1'), ('promise/b', 'x')
+        cases = (
+            ('life/b', '1.2'),
+            ('life/a', 'x'),
+            ('life/a', '1'),
+            ('promise/a', ''),
+            ('promise/a', '1'),
+            ('promise/b', 'x'),
+        )
         for number, (key, value) in enumerate(cases):
             with self.subTest(key=key, value=value):
                 log = self.begun(f'{self.address}/{number}')
@@ -331,10 +348,12 @@ class Contents(InEtcd):
     def calls(self, log: EtcdLog) -> list[Callable[[], object]]:
         """Each call of a log."""
         return [
-            lambda: log.read(1, 0), lambda: log.look(1, 0), lambda: log.append(1, 0, ['recover,2']), lambda: log.renew('a', A, LONG),
-            lambda: log.take('b', B, EMPTY, LONG), lambda: log.release('a', A), lambda: log.promise('a', A, Promise(1, 1)), log.epochs,
-            log.opening, lambda: log.ask(OPENING.after(None), 1), lambda: log.cancel(1), lambda: log.finish(1, 0, OPENING.after(None)),
-            lambda: log.wait(1, 0, {'a': A}, Until.NEWS, PATIENCE), lambda: log.order(Orders(), None), lambda: log.times(1),
+            lambda: log.read(1, 0), lambda: log.look(1, 0), lambda: log.append(1, 0, ['recover,2']),
+            lambda: log.renew('a', A, LONG), lambda: log.take('b', B, EMPTY, LONG), lambda: log.release('a', A),
+            lambda: log.promise('a', A, Promise(1, 1)), log.epochs, log.opening,
+            lambda: log.ask(OPENING.after(None), 1), lambda: log.cancel(1),
+            lambda: log.finish(1, 0, OPENING.after(None)), lambda: log.wait(1, 0, {'a': A}, Until.NEWS, PATIENCE),
+            lambda: log.order(Orders(), None), lambda: log.times(1),
         ]  # fmt: skip
 
     def test_removed(self) -> None:
@@ -367,7 +386,9 @@ class Contents(InEtcd):
         self.assertFalse(repair(log, damage))
         self.assertEqual((list(log.read(1, 0)), log.epochs()), (['recover,1', 'recover,2', 'recover,3'], range(1, 3)))
         self.assertEqual((list(log.look(2, 0).rows), log.look(2, 0).wish, damage_of(log)), ([], None, None))
-        self.assertEqual(list(log.times(1)), [0, 2], 'when the last one was done that stays in part, and none behind that')
+        self.assertEqual(
+            list(log.times(1)), [0, 2], 'when the last one was done that stays in part, and none behind that'
+        )
 
     def test_repaired_keys(self) -> None:
         """What is no append is told, and removed."""
@@ -381,7 +402,9 @@ class Contents(InEtcd):
                 self.refused_rows(log)
                 damage = damage_of(log)
                 assert damage is not None
-                self.assertEqual((damage.place, damage.why), (count, 'rows are missing, or something else is between them'))
+                self.assertEqual(
+                    (damage.place, damage.why), (count, 'rows are missing, or something else is between them')
+                )
                 self.assertTrue(repair(log, damage))
                 self.assertEqual((log.epochs(), damage_of(log)), (range(1, 3), None))
                 self.assertEqual(list(log.read(1, 0)), ['recover,1', 'recover,2', 'recover,3'][:count])
@@ -407,7 +430,11 @@ class Contents(InEtcd):
             server.start()
             wait_until(server.is_up)
             if way == 'restored':
-                reads: list[Callable[[], object]] = [lambda: log.look(1, 0), log.epochs, lambda: log.renew('a', A, LONG)]
+                reads: list[Callable[[], object]] = [
+                    lambda: log.look(1, 0),
+                    log.epochs,
+                    lambda: log.renew('a', A, LONG),
+                ]
                 self.refuse(reads, DamagedLog, 'it went back, as one does that is restored')
             else:
                 self.created(address)
@@ -426,7 +453,9 @@ class Contents(InEtcd):
 
     def etcdctl(self, *words: str) -> None:
         environment = {**os.environ, 'ETCDCTL_API': '3'}
-        subprocess.run(['etcdctl', *words], env=environment, stdout=subprocess.DEVNULL, stderr=subprocess.DEVNULL, check=True)
+        subprocess.run(
+            ['etcdctl', *words], env=environment, stdout=subprocess.DEVNULL, stderr=subprocess.DEVNULL, check=True
+        )
 
     def test_compacted(self) -> None:
         """Whatever is compacted while it is read, all rows are read."""
@@ -505,4 +534,6 @@ class OlderForm(InEtcd):
         add(log, ['recover,1', 'start,1'])
         be_idle(log, ('a', A))
         self.assertTrue(log.finish(1, 2, OPENING.after(None)))
-        self.assertEqual((self.store.history(1), self.store.history()), (['bully,1,3,6', 'recover,1', 'start,1'], ['bully,1,3,6']))
+        self.assertEqual(
+            (self.store.history(1), self.store.history()), (['bully,1,3,6', 'recover,1', 'start,1'], ['bully,1,3,6'])
+        )

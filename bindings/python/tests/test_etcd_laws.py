@@ -26,6 +26,7 @@ from .steps import OPENING, A, add, be_idle, present
 from .wait_laws import Waits
 from .waiting import wait_until
 
+
 def setUpModule() -> None:
     begin_alone(__name__)
 
@@ -138,7 +139,9 @@ class MovesLivesAlone(EtcdLog):
     """The promise stays under the lease of before."""
 
     def _change(self, conditions: Sequence[Json], done: Sequence[Json], *refused: Json) -> gateway.Answer:
-        return super()._change(conditions, [each for each in done if 'ignore_value' not in each.get('request_put', {})], *refused)
+        return super()._change(
+            conditions, [each for each in done if 'ignore_value' not in each.get('request_put', {})], *refused
+        )
 
 
 class NamesItsLease(EtcdLog):
@@ -189,19 +192,27 @@ class Overlooks(EtcdLog):
 
     def _see_all(self, answer: gateway.Answer, since: int) -> bool:
         keys, news = self._keys, self._news
-        for found, prefix, known in zip(answer.ranges[3:5], (keys.lives, keys.promises), (set(news.lives), set(news.promises))):
+        for found, prefix, known in zip(
+            answer.ranges[3:5], (keys.lives, keys.promises), (set(news.lives), set(news.promises))
+        ):
             there = {keys.node(pair.key, prefix) for pair in gateway.pairs_of(found)}
             found['count'] = str(len(there | known if since else there))
         return super()._see_all(answer, since)
 
 
 PLANTED: tuple[tuple[type[EtcdLog], unittest.TestCase], ...] = (
-    (NoLives, test_etcd_presences.Promises('test_late_requests_of_a_life_that_ended')), (NoLives, test_etcd_presences.Promises('test_a_late_move')),
-    (NoLives, test_etcd_presences.Promises('test_a_late_take')), (NoPromises, test_etcd_presences.Promises('test_a_late_append')), (NoPromises, OverEtcd('test_promises_rise')),
-    (NoPromises, OverEtcd('test_all_have_to_be_idle')), (NoPlace, test_etcd_presences.Promises('test_a_late_take')), (NoPlace, test_etcd_presences.Promises('test_a_late_append')), (NoPlace, OverEtcd('test_racers')),
-    (NoWish, test_etcd_presences.Promises('test_a_wish_while_an_epoch_ends')), (MovesLivesAlone, test_etcd_presences.Promises('test_moved_together')),
-    (MovesLivesAlone, OverEtcd('test_a_renewal_keeps_the_promise')), (NamesItsLease, test_etcd_presences.Promises('test_a_promise_behind_a_move')),
-    (MovesWhatItFound, test_etcd_presences.Promises('test_a_promise_while_it_moves')), (FromNowOn, test_etcd_watches.Watching('test_begin_of_a_watch')),
+    (NoLives, test_etcd_presences.Promises('test_late_requests_of_a_life_that_ended')),
+    (NoLives, test_etcd_presences.Promises('test_a_late_move')),
+    (NoLives, test_etcd_presences.Promises('test_a_late_take')),
+    (NoPromises, test_etcd_presences.Promises('test_a_late_append')), (NoPromises, OverEtcd('test_promises_rise')),
+    (NoPromises, OverEtcd('test_all_have_to_be_idle')), (NoPlace, test_etcd_presences.Promises('test_a_late_take')),
+    (NoPlace, test_etcd_presences.Promises('test_a_late_append')), (NoPlace, OverEtcd('test_racers')),
+    (NoWish, test_etcd_presences.Promises('test_a_wish_while_an_epoch_ends')),
+    (MovesLivesAlone, test_etcd_presences.Promises('test_moved_together')),
+    (MovesLivesAlone, OverEtcd('test_a_renewal_keeps_the_promise')),
+    (NamesItsLease, test_etcd_presences.Promises('test_a_promise_behind_a_move')),
+    (MovesWhatItFound, test_etcd_presences.Promises('test_a_promise_while_it_moves')),
+    (FromNowOn, test_etcd_watches.Watching('test_begin_of_a_watch')),
     (Overlooks, test_etcd_watches.Watching('test_looks')),
 )  # fmt: skip
 

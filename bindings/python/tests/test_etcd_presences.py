@@ -119,8 +119,10 @@ class Promises(InEtcd):
     def test_late_requests_of_a_life_that_ended(self) -> None:
         """Promise, renewal, release and append of a life that is over do nothing to the next one."""
         lates = [
-            self.late(lambda: self.log.promise('a', A, Promise(1, 7))), self.late(lambda: self.other.renew('a', A, LONG)),
-            self.late(lambda: self.log.release('a', A), 'request_delete_range'), self.late(lambda: self.log.append(1, 0, ['recover,1'])),
+            self.late(lambda: self.log.promise('a', A, Promise(1, 7))),
+            self.late(lambda: self.other.renew('a', A, LONG)),
+            self.late(lambda: self.log.release('a', A), 'request_delete_range'),
+            self.late(lambda: self.log.append(1, 0, ['recover,1'])),
         ]  # fmt: skip
         self.revoke(self.leases()['life/a'])
         for is_taken in (False, True):
@@ -220,11 +222,15 @@ class Lost(InEtcd):
             self.assertTrue(self.direct.promise('a', A, Promise(opening.epoch, 0)))
 
     def test_take(self) -> None:
-        for number, (what, part) in enumerate([('answer', PUT), ('request', PUT), ('answer', GRANT), ('request', GRANT), ('answer', TXN)]):
+        for number, (what, part) in enumerate(
+            [('answer', PUT), ('request', PUT), ('answer', GRANT), ('request', GRANT), ('answer', TXN)]
+        ):
             life = Life(1, number)
             with self.subTest(what=what, part=part):
                 self.loses(what, part, lambda: self.log.take('a', life, EMPTY, LONG))
-                self.assertEqual(present(self.direct), {'a': Holder(life, EMPTY)} if (what, part) == ('answer', PUT) else {})
+                self.assertEqual(
+                    present(self.direct), {'a': Holder(life, EMPTY)} if (what, part) == ('answer', PUT) else {}
+                )
                 self.log.release('a', life)
                 self.assertTrue(self.log.take('a', B, EMPTY, LONG))
                 self.log.release('a', B)
@@ -251,7 +257,9 @@ class Lost(InEtcd):
                 self.assertTrue(self.direct.renew('a', A, LONG + SECOND))
                 self.loses(what, part, lambda: self.log.renew('a', A, LONG))
                 self.assertTrue(self.log.renew('a', A, LONG))
-                self.assertEqual((present(self.direct), len(set(self.leases().values()))), ({'a': Holder(A, Promise(1, 5))}, 1))
+                self.assertEqual(
+                    (present(self.direct), len(set(self.leases().values()))), ({'a': Holder(A, Promise(1, 5))}, 1)
+                )
 
     def test_renewal_that_was_done_meanwhile(self) -> None:
         """Of one's own, whose answer was lost: it isn't known to be a gap, and is tried again."""
@@ -287,7 +295,9 @@ class Lost(InEtcd):
             with self.subTest(call=number):
                 with mock.patch.object(Client, 'ask', end_at_once), self.assertRaises(Unanswered):
                     call()
-                self.assertEqual((len(ended), present(self.direct)), (number + 1, {'a': Holder(A, EMPTY)} if number else {}))
+                self.assertEqual(
+                    (len(ended), present(self.direct)), (number + 1, {'a': Holder(A, EMPTY)} if number else {})
+                )
                 self.assertTrue(call())
 
     def test_release(self) -> None:

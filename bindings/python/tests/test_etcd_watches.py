@@ -70,7 +70,8 @@ class Watching(InEtcd):
         watch = Client.watch
         self.assertTrue(self.direct.append(1, 0, ['recover,1']))
         acts: list[tuple[Callable[[], object], Until]] = [
-            (lambda: self.direct.promise('a', A, Promise(1, 1)), Until.ALL_IDLE), (lambda: self.direct.append(1, 1, ['recover,1']), Until.NEWS),
+            (lambda: self.direct.promise('a', A, Promise(1, 1)), Until.ALL_IDLE),
+            (lambda: self.direct.append(1, 1, ['recover,1']), Until.NEWS),
             (lambda: self.direct.ask(OPENING.after(None), 1), Until.NEWS),
             (lambda: self.direct.order(Orders(frozenset('b')), None), Until.NEWS),
             (lambda: self.direct.take('b', B, Promise(1, 2), LONG), Until.NEWS),
@@ -136,7 +137,9 @@ class Watching(InEtcd):
                     name, life, here = choice.choice(names), Life(number, 1), Promise(1, 0)
                     there = present(self.direct)
                     for _ in range(choice.randrange(3)):
-                        self.direct.release(name, there[name].life) if name in there else self.direct.take(name, life, here, LONG)
+                        self.direct.release(name, there[name].life) if name in there else self.direct.take(
+                            name, life, here, LONG
+                        )
                     if there and choice.random() < 0.5:
                         other = choice.choice(sorted(there))
                         self.direct.promise(other, there[other].life, Promise(1, number))
@@ -157,8 +160,9 @@ class Watching(InEtcd):
             return pairs
 
         acts: list[Callable[[], object]] = [
-            lambda: None, lambda: None, lambda: self.direct.promise('7', A, Promise(1, 1)), lambda: self.direct.take('x', A, EMPTY, LONG),
-            lambda: self.direct.renew('x', A, 2 * LONG), lambda: self.direct.release('x', A), lambda: None,
+            lambda: None, lambda: None, lambda: self.direct.promise('7', A, Promise(1, 1)),
+            lambda: self.direct.take('x', A, EMPTY, LONG), lambda: self.direct.renew('x', A, 2 * LONG),
+            lambda: self.direct.release('x', A), lambda: None,
         ]  # fmt: skip
         counts = []
         with mock.patch.object(etcd, 'pairs_of', count):

@@ -162,7 +162,9 @@ except LogError as fault:
     print(type(fault).__name__)
 '''
         self.folder.chmod(0o755)
-        ran = subprocess.run([sys.executable, '-c', words], env=environment(), stdout=subprocess.PIPE, text=True, check=True)
+        ran = subprocess.run(
+            [sys.executable, '-c', words], env=environment(), stdout=subprocess.PIPE, text=True, check=True
+        )
         self.assertEqual(ran.stdout, f'{ReadOnlyLog.__name__}\n')
 
     def test_full_disk(self) -> None:
@@ -185,9 +187,9 @@ except LogError as fault:
         log, other = self.opened(0.05), self.opened()
         other._file.execute('begin immediate')
         calls: list[Callable[[], object]] = [
-            lambda: log.append(1, 0, ['recover,1']), lambda: log.take('b', B, EMPTY, LONG), lambda: log.renew('a', A, LONG),
-            lambda: log.promise('a', A, Promise(1, 1)), lambda: log.release('a', A), lambda: log.ask(OPENING.after(None), 1),
-            lambda: log.finish(1, 0, OPENING.after(None)),
+            lambda: log.append(1, 0, ['recover,1']), lambda: log.take('b', B, EMPTY, LONG),
+            lambda: log.renew('a', A, LONG), lambda: log.promise('a', A, Promise(1, 1)), lambda: log.release('a', A),
+            lambda: log.ask(OPENING.after(None), 1), lambda: log.finish(1, 0, OPENING.after(None)),
         ]  # fmt: skip
         for call in calls:
             with self.assertRaisesRegex(LogBusy, f'by process {os.getpid()}'):
@@ -221,8 +223,9 @@ except LogError as fault:
             for end in ends:
                 Path(f'{self.path}{end}').unlink()
             calls: list[Callable[[], object]] = [
-                lambda: log.renew('a', A, LONG), lambda: log.take('b', B, EMPTY, LONG), lambda: log.append(1, 1, ['recover,2']),
-                lambda: log.look(1, 1), lambda: log.promise('a', A, Promise(1, 1)), lambda: log.wait(1, 1, {'a': A}, Until.NEWS, PATIENCE),
+                lambda: log.renew('a', A, LONG), lambda: log.take('b', B, EMPTY, LONG),
+                lambda: log.append(1, 1, ['recover,2']), lambda: log.look(1, 1),
+                lambda: log.promise('a', A, Promise(1, 1)), lambda: log.wait(1, 1, {'a': A}, Until.NEWS, PATIENCE),
             ]  # fmt: skip
             for call in calls:
                 with self.subTest(ends=ends), self.assertRaisesRegex(OtherLog, 'its -wal or its -shm was taken away'):
@@ -261,7 +264,9 @@ except LogError as fault:
         alone.touch()
         said = in_mounts(self, f'mount --bind {self.path} {alone}', OPENS, str(alone))
         self.assertRegex(said, f'^{alone}: it is mounted alone')
-        self.assertEqual(in_mounts(self, f'mount --bind {self.folder} {elsewhere}', OPENS, str(elsewhere / self.path.name)), 'used\n')
+        self.assertEqual(
+            in_mounts(self, f'mount --bind {self.folder} {elsewhere}', OPENS, str(elsewhere / self.path.name)), 'used\n'
+        )
 
     def test_earlier_boot(self) -> None:
         """What was held before the machine booted isn't held any more, though its end hasn't come by the clock that
@@ -295,8 +300,9 @@ except LogError as fault:
         with mock.patch.object(sqlite, 'nanoseconds_of_boot', clock):
             self.assertTrue(later.take('b', B, EMPTY, LONG))
         calls: list[Callable[[], object]] = [
-            lambda: log.renew('a', A, LONG), lambda: log.append(1, 0, ['recover,1']), lambda: log.look(1, 0), lambda: SqliteLog(self.path),
-            lambda: log.take('a', A, EMPTY, LONG), lambda: log.wait(1, 0, {'a': A}, Until.NEWS, PATIENCE), lambda: log.ask(OPENING.after(None), 1),
+            lambda: log.renew('a', A, LONG), lambda: log.append(1, 0, ['recover,1']), lambda: log.look(1, 0),
+            lambda: SqliteLog(self.path), lambda: log.take('a', A, EMPTY, LONG),
+            lambda: log.wait(1, 0, {'a': A}, Until.NEWS, PATIENCE), lambda: log.ask(OPENING.after(None), 1),
         ]  # fmt: skip
         for call in calls:
             with self.assertRaisesRegex(ForeignLog, 'another boot uses it behind this one'):
@@ -309,7 +315,10 @@ except LogError as fault:
         (self.folder / 'boot').write_text('another\n')
         seen = f'mount --bind {self.folder}/boot /proc/sys/kernel/random/boot_id'
         for seconds in ('2000', '5'):
-            self.assertEqual(in_mounts(self, seen, TAKES, str(self.path), seconds), f'{self.path}: another boot may still hold presences\n')
+            self.assertEqual(
+                in_mounts(self, seen, TAKES, str(self.path), seconds),
+                f'{self.path}: another boot may still hold presences\n',
+            )
         log.release('a', A)
         self.assertEqual(in_mounts(self, seen, TAKES, str(self.path), '5'), 'True\n')
         with self.assertRaisesRegex(ForeignLog, 'another boot uses it behind this one'):
@@ -326,7 +335,11 @@ except LogError as fault:
         """One that was written into the same file has another name."""
         log = self.begun()
         self.change("update changes set name = 'another'")
-        calls: list[Callable[[], object]] = [lambda: log.renew('a', A, LONG), lambda: log.append(1, 0, ['recover,1']), lambda: log.look(1, 0)]
+        calls: list[Callable[[], object]] = [
+            lambda: log.renew('a', A, LONG),
+            lambda: log.append(1, 0, ['recover,1']),
+            lambda: log.look(1, 0),
+        ]
         for call in calls:
             with self.assertRaisesRegex(ForeignLog, 'another log is in its place'):
                 call()
@@ -341,9 +354,15 @@ except LogError as fault:
             reader = self.opened()
             self.assertEqual(len(reader.look(1, 2).rows), 0)
             backup.backup(file)
-        calls: list[Callable[[], object]] = [lambda: reader.look(1, 2), lambda: log.append(1, 2, ['recover,2']), lambda: log.read(1, 2)]
+        calls: list[Callable[[], object]] = [
+            lambda: reader.look(1, 2),
+            lambda: log.append(1, 2, ['recover,2']),
+            lambda: log.read(1, 2),
+        ]
         for call in calls:
-            with self.assertRaisesRegex(DamagedLog, 'read up to place 2 of epoch 1, and ends at 0 of 1: its store went back'):
+            with self.assertRaisesRegex(
+                DamagedLog, 'read up to place 2 of epoch 1, and ends at 0 of 1: its store went back'
+            ):
                 call()
 
     def test_what_reaches_the_disk(self) -> None:
@@ -353,12 +372,16 @@ except LogError as fault:
         told: list[str] = []
         log._file.set_trace_callback(told.append)
         calls: list[Callable[[], object]] = [
-            lambda: log.renew('a', A, LONG), lambda: log.promise('a', A, EMPTY), lambda: log.look(1, 0), lambda: log.append(1, 0, ['x']),
+            lambda: log.renew('a', A, LONG), lambda: log.promise('a', A, EMPTY), lambda: log.look(1, 0),
+            lambda: log.append(1, 0, ['x']),
         ]  # fmt: skip
         for number, call in enumerate(calls):
             told.clear()
             call()
-            self.assertEqual([each for each in told if 'synchronous' in each][:1], ['pragma synchronous = full'] if number == 3 else [])
+            self.assertEqual(
+                [each for each in told if 'synchronous' in each][:1],
+                ['pragma synchronous = full'] if number == 3 else [],
+            )
         self.assertEqual(log._one('pragma synchronous'), 1)
 
 
@@ -369,7 +392,10 @@ class OlderForm(WithLogs):
     create table epochs (epoch integer primary key, opening text not null, wish text);
     create table packs (epoch integer, number integer, rows text not null, primary key (epoch, number));
     create table log (epoch integer, place integer, row text not null, primary key (epoch, place));
-    create table presence (epoch integer, node integer, life text not null, boot text not null, until real not null, primary key (epoch, node));
+    create table presence (
+        epoch integer, node integer, life text not null, boot text not null, until real not null,
+        primary key (epoch, node)
+    );
     """
 
     def setUp(self) -> None:
@@ -388,7 +414,9 @@ class OlderForm(WithLogs):
 
     def test_refused(self) -> None:
         for reads in (False, True):
-            with self.assertRaisesRegex(ForeignLog, 'a log of form 2, by an older version, and not of form 3; history writes it'):
+            with self.assertRaisesRegex(
+                ForeignLog, 'a log of form 2, by an older version, and not of form 3; history writes it'
+            ):
                 self.store.open(reads=reads)
         with self.assertRaises(LogExists):
             self.store.create(OPENING)
@@ -417,4 +445,6 @@ class OlderForm(WithLogs):
         end = add(log, ['recover,1', 'start,1'])
         self.assertTrue(log.promise('a', A, end))
         self.assertTrue(log.finish(1, 2, OPENING.after(None)))
-        self.assertEqual((self.store.history(1), self.store.history()), (['bully,1,3,6', 'recover,1', 'start,1'], ['bully,1,3,6']))
+        self.assertEqual(
+            (self.store.history(1), self.store.history()), (['bully,1,3,6', 'recover,1', 'start,1'], ['bully,1,3,6'])
+        )

@@ -47,7 +47,8 @@ from bully.running import Assignment
 logging.basicConfig(stream=sys.stdout, format='%(message)s')
 worker._logger.error = lambda _, processes: print('these processes may work on:', processes, flush=True)
 failures, lost = [], []
-workers = worker.Workers([rooted, '--reuid', '0', '--regid', '0', '--clear-groups', 'sh', '-c', 'echo $$; exec sleep 1000'], 'x', 0.1)
+words = [rooted, '--reuid', '0', '--regid', '0', '--clear-groups', 'sh', '-c', 'echo $$; exec sleep 1000']
+workers = worker.Workers(words, 'x', 0.1)
 workers.begin(SimpleNamespace(ttl=2.0, margin=0.4, end_with=failures.append, lose=lost.append, is_leaving=True))
 workers.hear_until(clocks.seconds_of_boot() + 1000.0)
 settings = SimpleNamespace(text=lambda *_: '{}', name=str)
@@ -163,7 +164,8 @@ class Guards(Below):
 
     def test_another_group(self) -> None:
         """A worker that has left its process group is told to end all the same, and its guard stays."""
-        words = 'import os, signal, sys, time; signal.signal(signal.SIGTERM, lambda *_: sys.exit(open(sys.argv[1] + "/told", "w").close()))'
+        told = 'signal.signal(signal.SIGTERM, lambda *_: sys.exit(open(sys.argv[1] + "/told", "w").close()))'
+        words = f'import os, signal, sys, time; {told}'
         leaves = 'os.setpgid(0, os.getpgid(os.getppid())); open(sys.argv[1] + "/begun", "w").close(); time.sleep(1000)'
         workers = self.made([sys.executable, '-c', f'{words}; {leaves}', str(self.folder)])
         for _ in range(2):
@@ -365,7 +367,18 @@ class Guards(Below):
         here."""
         if os.getuid() != 0:
             self.skipTest('only root can have clocks of its own')
-        words = ['unshare', '--time', '--boottime', '1000000', '--fork', '--kill-child', sys.executable, '-c', CLOCKS, str(self.folder / 'group.db')]
+        words = [
+            'unshare',
+            '--time',
+            '--boottime',
+            '1000000',
+            '--fork',
+            '--kill-child',
+            sys.executable,
+            '-c',
+            CLOCKS,
+            str(self.folder / 'group.db'),
+        ]
         ran = subprocess.run(words, env=environment(), stdout=subprocess.PIPE, text=True, check=True, timeout=PATIENCE)
         self.assertEqual(ran.stdout, 'not yet\nlost\nTrue\n')
 
@@ -440,7 +453,9 @@ workers.begin(SimpleNamespace(ttl=0.6), {str(file)!r})
 file.execute('begin immediate')
 os.kill(os.getpid(), signal.SIGSTOP)
 '''
-        ended = subprocess.run([sys.executable, '-c', words], env=environment(), stderr=subprocess.PIPE, timeout=PATIENCE, check=False)
+        ended = subprocess.run(
+            [sys.executable, '-c', words], env=environment(), stderr=subprocess.PIPE, timeout=PATIENCE, check=False
+        )
         self.assertEqual(ended.returncode, -signal.SIGKILL, ended.stderr)
         self.assertIn(b'is killed', ended.stderr)
 
@@ -449,7 +464,9 @@ os.kill(os.getpid(), signal.SIGSTOP)
         reads, writes = os.pipe()
         os.close(reads)
         words = ['-c', 'from bully import guard; guard.say("x"); print("goes on")']
-        ran = subprocess.run([sys.executable, *words], env=environment(), stdout=subprocess.PIPE, stderr=writes, check=True)
+        ran = subprocess.run(
+            [sys.executable, *words], env=environment(), stdout=subprocess.PIPE, stderr=writes, check=True
+        )
         os.close(writes)
         self.assertEqual(ran.stdout, b'goes on\n')
 
@@ -461,7 +478,10 @@ os.kill(os.getpid(), signal.SIGSTOP)
             assert writer.stdin is not None and writer.stdout is not None
             with mock.patch.object(os, 'getppid', lambda: writer.pid):
                 watch = guard.Watchdog(f'{self.folder}/group.db-shm', 2.0)
-                self.assertLessEqual((watch.pause() or 0) * guard.MILLISECOND + watch.span, 0.4 * clocks.SECOND * 2.0 + 2 * guard.MILLISECOND)
+                self.assertLessEqual(
+                    (watch.pause() or 0) * guard.MILLISECOND + watch.span,
+                    0.4 * clocks.SECOND * 2.0 + 2 * guard.MILLISECOND,
+                )
                 for said in ('idle\n', 'writes\n'):
                     self.assertEqual(writer.stdout.readline(), said)
                     writer.send_signal(signal.SIGSTOP)

@@ -79,9 +79,10 @@ class Learning(unittest.TestCase):
     def test_bad_rows(self) -> None:
         """What is no row, also where it is the first of those that are told."""
         wrong: list[str | bytes] = [
-            ' ', 'saw', 'recover', 'recover,', 'recover,1,', ' recover,1', 'recover,1 ', 'Recover,1', 'recover;1', 'recover,+1',
-            'bully,1,2,3', 'plan,1,1 1', 'plan,1,1 1 3', 'start,1,are-you-up,2', '\u00e9', '\ud800', b'\xff', b'recover,1\x00',
-            '"recover,1', '"', '""', 'recover,1"', '\ufeffrecover,1', b'\xef\xbb\xbfrecover,1', 'recover,1\x0b', 'recover\u20281',
+            ' ', 'saw', 'recover', 'recover,', 'recover,1,', ' recover,1', 'recover,1 ', 'Recover,1', 'recover;1',
+            'recover,+1', 'bully,1,2,3', 'plan,1,1 1', 'plan,1,1 1 3', 'start,1,are-you-up,2', '\u00e9', '\ud800',
+            b'\xff', b'recover,1\x00', '"recover,1', '"', '""', 'recover,1"', '\ufeffrecover,1',
+            b'\xef\xbb\xbfrecover,1', 'recover,1\x0b', 'recover\u20281',
         ]  # fmt: skip
         for row in wrong:
             with self.subTest(row=row), Replica('bully,1,2,3') as replica:
@@ -97,7 +98,8 @@ class Learning(unittest.TestCase):
         """What isn't exactly one row is refused before anything is learned."""
         with Replica('bully,1,2,3') as replica:
             wrong_rows: list[str | bytes] = [
-                '', '\n', 'recover,2\n\n', 'recover,2\r\n', 'recover,2\r', '\nrecover,2', 'recover,2\nstart,2', b'a\rb', b'',
+                '', '\n', 'recover,2\n\n', 'recover,2\r\n', 'recover,2\r', '\nrecover,2', 'recover,2\nstart,2', b'a\rb',
+                b'',
             ]  # fmt: skip
             for row in wrong_rows:
                 for rows in ([row], ['recover,1', row], [row, 'recover,1']):
@@ -151,7 +153,9 @@ class Learning(unittest.TestCase):
             self.assertEqual(str(check(b'\n'.join([*log, b'']))), seen)
         except bully.TraceFault as fault:
             number, name = int(seen.split()[1]), type(fault).__name__
-            self.assertTrue(seen == f'refused {fault.row} {name}' or number < fault.row and not seen.startswith('lawful'), seen)
+            self.assertTrue(
+                seen == f'refused {fault.row} {name}' or number < fault.row and not seen.startswith('lawful'), seen
+            )
 
 
 class Walk:

@@ -33,11 +33,17 @@ class Head(unittest.TestCase):
 
     def test_docstrings(self) -> None:
         """Everything public says what it is."""
-        classes = [each for each in vars(bully).values() if isinstance(each, type) and each.__module__.startswith('bully.')]
+        classes = [
+            each for each in vars(bully).values() if isinstance(each, type) and each.__module__.startswith('bully.')
+        ]
         owners: list[Any] = [bully, *classes]
         for owner in owners:
             for name, each in vars(owner).items():
-                if name[0] != '_' and getattr(each, '__module__', 'bully').startswith('bully') and (callable(each) or isinstance(each, property)):
+                if (
+                    name[0] != '_'
+                    and getattr(each, '__module__', 'bully').startswith('bully')
+                    and (callable(each) or isinstance(each, property))
+                ):
                     with self.subTest(owner=owner.__name__, name=name):
                         self.assertTrue((each.__doc__ or '').strip())
 

@@ -79,7 +79,10 @@ class Pages(unittest.TestCase):
         self.assertEqual([node['present'] for node in told['nodes']], [False, True, False])
         self.assertEqual([row['text'] for row in told['last']], self.log.rows[-20:])
         assigned = json.loads(self.get('/assignment')[2])
-        self.assertEqual((assigned['node'], assigned['partitions'], assigned['token']), (self.NAMES[1], list(range(6)), told['token']))
+        self.assertEqual(
+            (assigned['node'], assigned['partitions'], assigned['token']),
+            (self.NAMES[1], list(range(6)), told['token']),
+        )
         self.assertTrue(0 < assigned['sure_seconds'] <= 1.6)
         self.assertEqual(self.get('/healthz')[::2], (200, 'present\n'))
 
@@ -89,9 +92,13 @@ class Pages(unittest.TestCase):
         for orders, paused, drained in ((Orders(), 0, 0), (Orders(frozenset('c'), {}), 1, 1)):
             self.assertTrue(self.log.order(orders, None))
             wait_until(lambda: json.loads(self.get('/group')[2])['paused'] == bool(paused))
-            self.assertEqual([node['drained'] for node in json.loads(self.get('/group')[2])['nodes']], [False, False, bool(drained)])
+            self.assertEqual(
+                [node['drained'] for node in json.loads(self.get('/group')[2])['nodes']], [False, False, bool(drained)]
+            )
             text, shown = self.get('/metrics')[2], self.get('/')[2]
-            self.assertEqual((f'\nbully_paused {paused}\n' in text, f'\nbully_drained{{node="c"}} {drained}\n' in text), (True, True))
+            self.assertEqual(
+                (f'\nbully_paused {paused}\n' in text, f'\nbully_drained{{node="c"}} {drained}\n' in text), (True, True)
+            )
             is_told = '; paused: who works goes on' in shown, '<td>no, drained<td>' in shown
             self.assertEqual(is_told, (bool(paused), bool(drained)))
         self.assertEqual(self.get('/healthz')[2], 'present\n')
@@ -118,7 +125,9 @@ class Pages(unittest.TestCase):
         thread.start()
         time.sleep(0.2)
         life, here = Life(1, 1), Promise(1, 2)
-        self.assertTrue(self.log.take('stranger', life, here, LONG) and self.log.finish(1, 2, self.log.opening().next(None, ())))
+        self.assertTrue(
+            self.log.take('stranger', life, here, LONG) and self.log.finish(1, 2, self.log.opening().next(None, ()))
+        )
         self.log.release('stranger', life)
         thread.join()
         self.assertEqual(answers, [(2, 0)])
@@ -155,7 +164,9 @@ class Pages(unittest.TestCase):
         big = 200, 'text/plain', 'x' * 20_000_000
         threads = threading.active_count()
         with contextlib.ExitStack() as opened:
-            with mock.patch.object(self.page, 'answer', lambda *asked: big), mock.patch.object(page.PageHandler, 'timeout', PATIENCE):
+            with mock.patch.object(self.page, 'answer', lambda *asked: big), mock.patch.object(
+                page.PageHandler, 'timeout', PATIENCE
+            ):
                 taken = [self.taken(opened.enter_context(self.client())) for _ in range(page.CONNECTIONS_MAX + 20)]
                 self.assertEqual([bool(part) for part in taken], [True] * page.CONNECTIONS_MAX + [False] * 20)
                 self.assertEqual(threading.active_count(), threads + page.CONNECTIONS_MAX)
@@ -179,7 +190,10 @@ class Pages(unittest.TestCase):
 
         setattr(self.log, 'look', look)
         statuses: list[int] = []
-        threads = [threading.Thread(target=lambda: statuses.append(self.get('/group?after=0')[0])) for _ in range(page.POLLS_MAX)]
+        threads = [
+            threading.Thread(target=lambda: statuses.append(self.get('/group?after=0')[0]))
+            for _ in range(page.POLLS_MAX)
+        ]
         for thread in threads:
             thread.start()
         wait_until(lambda: self.page._polls._value == 0)
@@ -220,8 +234,12 @@ class Pages(unittest.TestCase):
     def test_an_epoch_that_is_not_told(self) -> None:
         """Where the log doesn't answer with what the next epoch began with, the page goes on once it does."""
         life, here = Life(1, 1), Promise(1, 0)
-        self.assertTrue(self.log.take('stranger', life, here, LONG) and self.log.finish(1, 0, self.log.opening().next(None, ())))
-        with mock.patch.object(page, 'LOOK_SECONDS', 0.0), mock.patch.object(self.log, 'opening', side_effect=Unanswered('silent')) as asked:
+        self.assertTrue(
+            self.log.take('stranger', life, here, LONG) and self.log.finish(1, 0, self.log.opening().next(None, ()))
+        )
+        with mock.patch.object(page, 'LOOK_SECONDS', 0.0), mock.patch.object(
+            self.log, 'opening', side_effect=Unanswered('silent')
+        ) as asked:
             for _ in range(2):
                 self.assertEqual((self.get('/group')[0], self.get('/group')[2]), (503, 'silent\n'))
         self.assertEqual(asked.call_count, 4)

@@ -180,13 +180,19 @@ class EarlierBoots(SqliteLog):
 PLANTED = (
     (LateWins, 'test_promises_rise'), (LateWins, 'test_late_promises_at_an_end'), (OfAnyLife, 'test_late_requests'),
     (OfAnyLife, 'test_a_new_life'), (Forgetful, 'test_a_renewal_keeps_the_promise'), (OverGaps, 'test_renewals'),
-    (OverGaps, 'test_late_requests'), (TakesAnywhere, 'test_take'), (TakesAnywhere, 'test_take_behind_rows'), (Heirs, 'test_a_new_life'), (WhoeverReleases, 'test_late_requests'), (Anyhow, 'test_append'),
-    (Anyhow, 'test_all_have_to_be_idle'), (OneIsEnough, 'test_all_have_to_be_idle'), (OneIsEnough, 'test_promises_of_two_epochs'),
-    (NobodyIsIdle, 'test_append'), (MoreIsEnough, 'test_all_have_to_be_idle'), (PlacesAlone, 'test_promises_of_two_epochs'),
-    (AtAnyPlace, 'test_append'), (AtAnyPlace, 'test_racers'), (AnyWish, 'test_wishes'), (Alone, 'test_epochs'), (Alone, 'test_over_epochs'),
-    (ForWhoWasIdle, 'test_who_was_idle_before'),
+    (OverGaps, 'test_late_requests'), (TakesAnywhere, 'test_take'), (TakesAnywhere, 'test_take_behind_rows'),
+    (Heirs, 'test_a_new_life'), (WhoeverReleases, 'test_late_requests'), (Anyhow, 'test_append'),
+    (Anyhow, 'test_all_have_to_be_idle'), (OneIsEnough, 'test_all_have_to_be_idle'),
+    (OneIsEnough, 'test_promises_of_two_epochs'), (NobodyIsIdle, 'test_append'),
+    (MoreIsEnough, 'test_all_have_to_be_idle'), (PlacesAlone, 'test_promises_of_two_epochs'),
+    (AtAnyPlace, 'test_append'), (AtAnyPlace, 'test_racers'), (AnyWish, 'test_wishes'), (Alone, 'test_epochs'),
+    (Alone, 'test_over_epochs'), (ForWhoWasIdle, 'test_who_was_idle_before'),
 )  # fmt: skip
-KINDS: tuple[type[unittest.TestCase], ...] = (test_stores.InMemory, test_stores.EpochsInMemory, test_stores.WaitsInMemory)
+KINDS: tuple[type[unittest.TestCase], ...] = (
+    test_stores.InMemory,
+    test_stores.EpochsInMemory,
+    test_stores.WaitsInMemory,
+)
 
 
 class Planted(unittest.TestCase):

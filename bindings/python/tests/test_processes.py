@@ -61,12 +61,22 @@ class Processes(InFolder):
         member = self.begin(BEGINS)
         worker = member.worker()
         told = member.environment()
-        self.assertEqual([told[f'BULLY_{name}'] for name in ('NODE', 'COORDINATOR', 'PARTITIONS')], ['the only', 'the only', '0 1 2 3 4 5'])
+        self.assertEqual(
+            [told[f'BULLY_{name}'] for name in ('NODE', 'COORDINATOR', 'PARTITIONS')],
+            ['the only', 'the only', '0 1 2 3 4 5'],
+        )
         log = self.opened()
         rows, token = list(log.read(1, 0)), Token(int(told['BULLY_TOKEN']))
         self.assertEqual(token.epoch, 1)
         self.assertTrue(rows[token.events - 1].startswith('plan,1,'))
-        settings_told = {'names': ['the only'], 'weights': [3], 'partitions': 6, 'keep': False, 'ttl': 2.0, 'margin': 0.4}
+        settings_told = {
+            'names': ['the only'],
+            'weights': [3],
+            'partitions': 6,
+            'keep': False,
+            'ttl': 2.0,
+            'margin': 0.4,
+        }
         self.assertEqual(json.loads(told['BULLY_SETTINGS']), settings_told)
         self.assertEqual(member.end(), 0)
         self.assertFalse(is_running(worker))
@@ -84,7 +94,9 @@ class Processes(InFolder):
         self.assertNotEqual(member.worker(), worker)
         self.assertFalse(is_running(worker))
         told = member.environment()
-        self.assertEqual([told[f'BULLY_{name}'] for name in ('NODE', 'COORDINATOR', 'PARTITIONS')], ['the only', 'the only', '0 1 2'])
+        self.assertEqual(
+            [told[f'BULLY_{name}'] for name in ('NODE', 'COORDINATOR', 'PARTITIONS')], ['the only', 'the only', '0 1 2']
+        )
         self.assertEqual(json.loads(told['BULLY_SETTINGS'])['names'], ['another', 'the only'])
         self.assertEqual(Token(int(told['BULLY_TOKEN'])).epoch, 2)
         self.assertEqual(member.end(), 0)
@@ -200,7 +212,9 @@ os.kill(os.getpid(), signal.SIGSTOP)
         member.worker()
         self.assertEqual(member.end(), 0)
         told = [json.loads(line) for line in member.said.splitlines()]
-        self.assertEqual({(frozenset(each), each['level']) for each in told}, {(frozenset({'time', 'level', 'message'}), 'info')})
+        self.assertEqual(
+            {(frozenset(each), each['level']) for each in told}, {(frozenset({'time', 'level', 'message'}), 'info')}
+        )
         self.assertRegex(told[0]['message'], '^node the only: present as [0-9]+[.]1$')
         self.assertTrue(all(abs(each['time'] - time.time()) < PATIENCE for each in told))
 
@@ -244,7 +258,9 @@ os.kill(os.getpid(), signal.SIGSTOP)
         self.assertEqual((list(after.rows), after.lives), (list(before.rows), before.lives))
         self.assertEqual(member.end(), 0)
         said = member.said
-        self.assertLess(said.index('failed, with status 5, and is begun again in 0.4 s'), said.index('is begun again in 0.8 s'))
+        self.assertLess(
+            said.index('failed, with status 5, and is begun again in 0.4 s'), said.index('is begun again in 0.8 s')
+        )
         self.assertEqual(self.left(), ('crash,1', {}))
 
     def test_a_worker_that_does_not_end(self) -> None:
@@ -295,7 +311,9 @@ os.kill(os.getpid(), signal.SIGSTOP)
             port = free.getsockname()[1]
 
         def get(target: str) -> str:
-            with contextlib.suppress(OSError), urllib.request.urlopen(f'http://127.0.0.1:{port}{target}', timeout=PATIENCE) as answer:
+            with contextlib.suppress(OSError), urllib.request.urlopen(
+                f'http://127.0.0.1:{port}{target}', timeout=PATIENCE
+            ) as answer:
                 return str(answer.read(), 'utf-8')
             return ''
 
@@ -322,6 +340,7 @@ os.kill(os.getpid(), signal.SIGSTOP)
         wait_until(lambda: get('/healthz') == 'drained\n')
         self.assertEqual(member.end(), 0)
         self.assertIn('node the only: it is drained, and does nothing\n', member.said)
+
     def test_a_backup_is_copied_back(self) -> None:
         """Its member ends by a status by which it isn't begun again: it would use tokens again."""
         member = self.begin(BEGINS)
@@ -330,7 +349,10 @@ os.kill(os.getpid(), signal.SIGSTOP)
         for end in ('-wal', '-shm'):
             Path(f'{self.path}{end}').unlink()
         self.assertEqual(member.wait(), 3)
-        self.assertIn(f'bully-member: {self.path}: its -wal or its -shm was taken away, and others go on in another one\n', member.said)
+        self.assertIn(
+            f'bully-member: {self.path}: its -wal or its -shm was taken away, and others go on in another one\n',
+            member.said,
+        )
         self.assertFalse(is_running(worker))
 
     def test_keeps_epochs(self) -> None:
@@ -358,12 +380,18 @@ os.kill(os.getpid(), signal.SIGSTOP)
         program.chmod(0o755)
         self.begin(BEGINS).kill()
         words = [word.replace('8081', str(port)) for word in json.loads(begun[1])]
-        more = {'PATH': f'{self.folder}:{os.environ["PATH"]}', 'BULLY_NODE_NAME': 'the only', 'BULLY_LOG': f'sqlite:{self.path}'}
+        more = {
+            'PATH': f'{self.folder}:{os.environ["PATH"]}',
+            'BULLY_NODE_NAME': 'the only',
+            'BULLY_LOG': f'sqlite:{self.path}',
+        }
         member = started(self.folder, [*words, 'sleep', '1000'], None, **more)
         self.addCleanup(member.kill)
 
         def is_well() -> bool:
-            with contextlib.suppress(OSError), urllib.request.urlopen(f'http://127.0.0.2:{port}/healthz', timeout=PATIENCE) as answer:
+            with contextlib.suppress(OSError), urllib.request.urlopen(
+                f'http://127.0.0.2:{port}/healthz', timeout=PATIENCE
+            ) as answer:
                 return bool(answer.read() == b'present\n')
             return False
 
@@ -426,7 +454,18 @@ os.kill(os.getpid(), signal.SIGSTOP)
         begun = self.begin(STARTS)
         begun.kill()
         (self.folder / 'begun').unlink(missing_ok=True)
-        words = ['unshare', '--pid', '--fork', '--kill-child', '--mount-proc', 'sh', '-c', '"$@"; exit 7', 'sh', *begun.words]
+        words = [
+            'unshare',
+            '--pid',
+            '--fork',
+            '--kill-child',
+            '--mount-proc',
+            'sh',
+            '-c',
+            '"$@"; exit 7',
+            'sh',
+            *begun.words,
+        ]
         container = started(self.folder, words)
         self.addCleanup(container.wait, PATIENCE)
         self.addCleanup(container.kill)
@@ -456,7 +495,9 @@ os.kill(os.getpid(), signal.SIGSTOP)
         member = self.begin(BEGINS)
         worker = member.worker()
         guard = parent_of(worker)
-        self.assertEqual((children(member.process.pid), children(guard), parent_of(guard)), ([guard], [worker], member.process.pid))
+        self.assertEqual(
+            (children(member.process.pid), children(guard), parent_of(guard)), ([guard], [worker], member.process.pid)
+        )
         self.assertEqual(member.end(), 0)
         self.assertFalse(is_running(guard))
 
@@ -464,7 +505,9 @@ os.kill(os.getpid(), signal.SIGSTOP)
         """A worker stays over a change of the group, and hears of it."""
         member = self.begin(TALKS, None, '--talk')
         worker, (begun,) = member.worker(), member.told(1)
-        self.assertEqual((begun['partitions'], begun['coordinator'], begun['settings']['ttl']), ([0, 1, 2, 3, 4, 5], 'the only', 2.0))
+        self.assertEqual(
+            (begun['partitions'], begun['coordinator'], begun['settings']['ttl']), ([0, 1, 2, 3, 4, 5], 'the only', 2.0)
+        )
         new = self.folder / 'new.toml'
         new.write_bytes(toml({**TOP, 'nodes': 2, 'names': ['another', 'the only'], 'partitions': 3}))
         self.assertEqual(command.main(['resize', '--config', str(new), '--log', f'sqlite:{self.path}']), 0)

@@ -28,7 +28,9 @@ class Elections(unittest.TestCase):
         go_to_rest(*members)
         return members
 
-    def expect(self, member: Member, rows: list[str], token: int, planner: int, table: Sequence[int], up: Sequence[int]) -> None:
+    def expect(
+        self, member: Member, rows: list[str], token: int, planner: int, table: Sequence[int], up: Sequence[int]
+    ) -> None:
         """The log has these rows and is lawful; each of these nodes is Normal by this plan, and the others are Down."""
         self.assertEqual(member.log, rows)
         replica = member.read()
@@ -60,8 +62,8 @@ class Elections(unittest.TestCase):
         second.append(second.read().timeout(2))
         go_to_rest(first, second)
         rows = ELECTION_OF_THREE + log_of(
-            'crash,3', 'timeout,2', 'fail,2', 'fail,2', 'move,2', 'call,2', 'move,2', 'call,2', 'move,2', 'plan,2,1 1 1 2 2 1 2',
-            'call,2', 'move,2',
+            'crash,3', 'timeout,2', 'fail,2', 'fail,2', 'move,2', 'call,2', 'move,2', 'call,2', 'move,2',
+            'plan,2,1 1 1 2 2 1 2', 'call,2', 'move,2',
         )  # fmt: skip
         self.expect(first, rows, 50, 2, (1, 1, 1, 2, 2, 1, 2), [1, 2])
         third = Member('bully,1,3,7', first.log, 3)
@@ -79,7 +81,9 @@ class Elections(unittest.TestCase):
         first.append(first.read().crash(2))
         first.append(first.read().timeout(1))
         go_to_rest(first)
-        dies = log_of('crash,2', 'timeout,1', 'fail,1', 'fail,1', 'move,1', 'move,1', 'move,1', 'plan,1,1 1 1', 'move,1')
+        dies = log_of(
+            'crash,2', 'timeout,1', 'fail,1', 'fail,1', 'move,1', 'move,1', 'move,1', 'plan,1,1 1 1', 'move,1'
+        )
         self.expect(first, ELECTION_OF_TWO + dies, 31, 1, (1, 1, 1), [1])
 
     def test_forgotten_task(self) -> None:
@@ -183,7 +187,9 @@ class Replicas(unittest.TestCase):
         with Replica('bully,1,2,3') as replica:
             replica.learn(ELECTION_OF_TWO)
             before = shown(replica)
-            self.assertEqual((replica.crash(1), replica.check(2), replica.timeout(1)), ('crash,1', 'check,2', 'timeout,1'))
+            self.assertEqual(
+                (replica.crash(1), replica.check(2), replica.timeout(1)), ('crash,1', 'check,2', 'timeout,1')
+            )
             self.assertEqual((replica.next(1), replica.next(2)), (None, None))
             self.assertEqual(shown(replica), before)
             replica.learn(['crash,1'])
@@ -265,7 +271,14 @@ class ReplicaFaults(unittest.TestCase):
         return [*offers, *parts, replica.state, replica.up, replica.task]
 
     def test_open(self) -> None:
-        for header in [*BAD_HEADERS, 'bully,1,2,3\nrecover,1', 'bully,1,2,3\nrecover,1\n', 'recover,1', '\u00e9', '"bully,1,2,3']:
+        for header in [
+            *BAD_HEADERS,
+            'bully,1,2,3\nrecover,1',
+            'bully,1,2,3\nrecover,1\n',
+            'recover,1',
+            '\u00e9',
+            '"bully,1,2,3',
+        ]:
             with self.subTest(header=header), self.assertRaises(bully.BadHeader) as caught:
                 Replica(header)
             self.assertEqual((caught.exception.row, caught.exception.status), (1, 50))
@@ -290,7 +303,9 @@ class ReplicaFaults(unittest.TestCase):
             replica.learn(ELECTION_OF_TWO)
             for call in self.of_node(replica):
                 self.expect(replica, bully.BadNode, *[lambda node=node: call(node) for node in (0, 3, 1024, 65_535)])
-                self.expect(replica, ValueError, *[lambda node=node: call(node) for node in (-1, 65_537, 2**32 + 1, 10**30)])
+                self.expect(
+                    replica, ValueError, *[lambda node=node: call(node) for node in (-1, 65_537, 2**32 + 1, 10**30)]
+                )
                 self.expect(replica, TypeError, *[lambda node=node: call(node) for node in ('1', 1.0, None, [1])])
 
     def test_events(self) -> None:
@@ -314,7 +329,9 @@ class ReplicaFaults(unittest.TestCase):
         replica.close()
         for call in self.of_node(replica):
             self.expect(replica, bully.Closed, lambda: call(1))
-        self.expect(replica, bully.Closed, replica.close, lambda: replica.learn(['recover,1']), lambda: replica.learn([]))
+        self.expect(
+            replica, bully.Closed, replica.close, lambda: replica.learn(['recover,1']), lambda: replica.learn([])
+        )
         for name in ('rows', 'events', 'token', 'planner', 'last_table', 'nodes', 'partitions', 'keeps'):
             self.expect(replica, bully.Closed, lambda: getattr(replica, name))
         with self.assertRaises(bully.Closed):

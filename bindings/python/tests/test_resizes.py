@@ -34,8 +34,13 @@ class Places:
     def start(self, name: str, assignment: Assignment) -> None:
         with self.lock:
             for partition in assignment.partitions:
-                if self.workers.setdefault(partition, name) != name or self.tokens.get(partition, 0) >= assignment.token:
-                    self.faults.append(f'{name} begins {partition} by {assignment.token}, beside {self.workers} and {self.tokens}')
+                if (
+                    self.workers.setdefault(partition, name) != name
+                    or self.tokens.get(partition, 0) >= assignment.token
+                ):
+                    self.faults.append(
+                        f'{name} begins {partition} by {assignment.token}, beside {self.workers} and {self.tokens}'
+                    )
                 self.tokens[partition] = assignment.token
 
     def stop(self, name: str, assignment: Assignment) -> None:
@@ -104,7 +109,9 @@ class Resizes(InFolder):
 
     def begin(self, name: str, ttl: float = 10.0) -> None:
         log = SqliteLog(self.path)
-        member = Member(log, name, lambda each: self.places.start(name, each), lambda each: self.places.stop(name, each), ttl)
+        member = Member(
+            log, name, lambda each: self.places.start(name, each), lambda each: self.places.stop(name, each), ttl
+        )
         thread = threading.Thread(target=self.run_member, args=[member])
         self.members[name] = member, thread
         thread.start()
@@ -126,7 +133,11 @@ class Resizes(InFolder):
         tokens = {each.token for each in found.values() if each}
         owned = {name: each.partitions for name, each in found.items() if each}
         all_of_them = sorted(partition for each in owned.values() for partition in each)
-        return owned if len(tokens) == 1 and len(owned) == len(self.members) and all_of_them == list(range(len(all_of_them))) else {}
+        return (
+            owned
+            if len(tokens) == 1 and len(owned) == len(self.members) and all_of_them == list(range(len(all_of_them)))
+            else {}
+        )
 
     def rest(self, partitions: int) -> dict[str, tuple[int, ...]]:
         """The same, once they do."""
@@ -141,7 +152,11 @@ class Resizes(InFolder):
         """The plans of an epoch, each with the names of the owners."""
         log = self.opened()
         names = log.opening(epoch).names
-        return [[names[int(owner) - 1] for owner in row.split(',')[2].split()] for row in log.read(epoch, 0) if row.startswith('plan')]
+        return [
+            [names[int(owner) - 1] for owner in row.split(',')[2].split()]
+            for row in log.read(epoch, 0)
+            if row.startswith('plan')
+        ]
 
     def judge(self) -> None:
         """Each epoch is lawful, and nobody worked where somebody else did, or by an old token."""

@@ -45,7 +45,9 @@ class Running(Threads):
         log, began = MemoryLog(OPENING), seconds_of_boot()
         told: list[str] = []
         sure: list[tuple[float, list[str]]] = []
-        member, _, _ = self.begin(log, 1, start=lambda work: told.append('start'), sure=lambda until: sure.append((until, told[:])))
+        member, _, _ = self.begin(
+            log, 1, start=lambda work: told.append('start'), sure=lambda until: sure.append((until, told[:]))
+        )
         wait_until(lambda: len(sure) > 2)
         self.assertEqual(sure[0][1], [])
         self.assertTrue(began + 1.6 <= sure[0][0] <= seconds_of_boot() + 1.6)
@@ -88,7 +90,10 @@ class Running(Threads):
             self.begin(log, 3)  # it looks again at each change
             wait_until(lambda: '3' in log.presences and first.assignment() and second.core.place == len(log.rows))
             self.assertEqual((len(said.output), told, second.assignment()), (1, [], None))
-            self.assertIn(f'node 1: another process is present for it, as {life.process}.{life.number}, and this one waits', said.output[0])
+            self.assertIn(
+                f'node 1: another process is present for it, as {life.process}.{life.number}, and this one waits',
+                said.output[0],
+            )
         first.leave()
         wait_until(second.assignment)
 
@@ -135,7 +140,9 @@ class Running(Threads):
         begun = seconds_of_boot()
         wait_until(lambda: seconds_of_boot() > begun + 2.0)
         self.assertEqual((log.rows, log.presences['1'].life), (rows, life))
-        self.assertTrue(member.sure_until > seconds_of_boot() and member.assignment() is None, 'it is present, and may not work')
+        self.assertTrue(
+            member.sure_until > seconds_of_boot() and member.assignment() is None, 'it is present, and may not work'
+        )
         shown = view.LogView(log)
         self.addCleanup(shown.close)
         self.assertEqual(list(shown.show().behind), ['1'])
@@ -259,10 +266,15 @@ class Running(Threads):
 
     def test_how_long_behind(self) -> None:
         """It counts from when it was seen first, at this end of the log, by this life."""
-        late, one, other = view.Behind(), {'a': Holder(Life(1, 1), Promise(1, 3))}, {'a': Holder(Life(1, 2), Promise(1, 3))}
+        late, one, other = (
+            view.Behind(),
+            {'a': Holder(Life(1, 1), Promise(1, 3))},
+            {'a': Holder(Life(1, 2), Promise(1, 3))},
+        )
         seen = [
-            (4, one, False, {'a': 0.0}), (4, one, False, {'a': 2.0}), (5, one, False, {'a': 0.0}), (5, one, False, {'a': 2.0}),
-            (5, other, False, {'a': 0.0}), (5, other, True, {}), (5, other, False, {'a': 0.0}), (3, other, False, {}),
+            (4, one, False, {'a': 0.0}), (4, one, False, {'a': 2.0}), (5, one, False, {'a': 0.0}),
+            (5, one, False, {'a': 2.0}), (5, other, False, {'a': 0.0}), (5, other, True, {}),
+            (5, other, False, {'a': 0.0}), (3, other, False, {}),
         ]  # fmt: skip
         with mock.patch.object(view, 'seconds_of_boot', side_effect=range(10, 100, 2)):
             for place, presences, rests, wanted in seen:
@@ -277,7 +289,9 @@ class Running(Threads):
         log, life = MemoryLog(OPENING), Life(9, 1)
         self.assertTrue(log.take('stranger', life, Promise(1, 0), LONG))
         for epoch in range(1, 5):
-            self.assertTrue(log.promise('stranger', life, Promise(epoch, 0)) and log.finish(epoch, 0, log.opening().next(None, ())))
+            self.assertTrue(
+                log.promise('stranger', life, Promise(epoch, 0)) and log.finish(epoch, 0, log.opening().next(None, ()))
+            )
         with mock.patch.object(log, 'opening', wraps=log.opening) as asked:
             self.assertTrue(running.is_known(log, OPENING.settings))
             asked.assert_called_once_with(5)

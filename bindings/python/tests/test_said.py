@@ -56,7 +56,9 @@ class Said(unittest.TestCase):
         if not ends:
             self.assertRegex(told, ' bully-member: the last one$')
             told = lines.pop()
-        self.assertEqual([line.rpartition('number ')[2] for line in lines], [str(number) for number in range(len(lines))])
+        self.assertEqual(
+            [line.rpartition('number ')[2] for line in lines], [str(number) for number in range(len(lines))]
+        )
         self.assertGreaterEqual(len(lines), messages.WAITING_MAX)
         self.assertRegex(told, f' bully-member: {1500 - len(lines)} messages were left out, since nobody read them$')
 

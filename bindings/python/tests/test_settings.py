@@ -20,17 +20,20 @@ def without(table: dict[str, Any], key: str) -> dict[str, Any]:
 FAULTY = [
     *[(without(TOP, key), f'Missing {key}') for key in TOP],
     *[({**TOP, 'fault': [without(FAULT, key)]}, f'Missing {key}') for key in FAULT],
-    *[({**TOP, key: 'x'}, f'Kind {key}') for key in ('nodes', 'partitions', 'events', 'turns', 'period', 'names', 'weights', 'keep')],
-    ({**TOP, 'nodes': True}, 'Kind nodes'), ({**TOP, 'names': ['a', 'b', 3]}, 'Kind names'), ({**TOP, 'weights': [1, 2, '3']}, 'Kind weights'),
-    ({**TOP, 'fault': [{**FAULT, 'at': 'x'}]}, 'Kind at'), ({**TOP, 'fault': [{**FAULT, 'node': 2}]}, 'Kind node'),
-    ({**TOP, 'nodes': 0}, 'Range nodes'), ({**TOP, 'nodes': 1025}, 'Range nodes'), ({**TOP, 'partitions': 4097}, 'Range partitions'),
-    ({**TOP, 'events': 0}, 'Range events'), ({**TOP, 'turns': 1_000_001}, 'Range turns'), ({**TOP, 'period': 1}, 'Range period'),
-    ({**TOP, 'names': ['a', 'b']}, 'Range names'), ({**TOP, 'names': ['a', 'b', '']}, 'Range names'),
-    ({**TOP, 'weights': [1, 1]}, 'Range weights'), ({**TOP, 'weights': [1, 1, 1001]}, 'Range weights'),
-    ({**TOP, 'fault': [{**FAULT, 'at': 6}]}, 'Range at'), ({**TOP, 'fault': [{**FAULT, 'node': 'd'}]}, 'Range node'),
+    *[({**TOP, key: 'x'}, f'Kind {key}') for key in (*TOP, 'period', 'weights', 'keep')],
+    ({**TOP, 'nodes': True}, 'Kind nodes'), ({**TOP, 'names': ['a', 'b', 3]}, 'Kind names'),
+    ({**TOP, 'weights': [1, 2, '3']}, 'Kind weights'), ({**TOP, 'fault': [{**FAULT, 'at': 'x'}]}, 'Kind at'),
+    ({**TOP, 'fault': [{**FAULT, 'node': 2}]}, 'Kind node'), ({**TOP, 'nodes': 0}, 'Range nodes'),
+    ({**TOP, 'nodes': 1025}, 'Range nodes'), ({**TOP, 'partitions': 4097}, 'Range partitions'),
+    ({**TOP, 'events': 0}, 'Range events'), ({**TOP, 'turns': 1_000_001}, 'Range turns'),
+    ({**TOP, 'period': 1}, 'Range period'), ({**TOP, 'names': ['a', 'b']}, 'Range names'),
+    ({**TOP, 'names': ['a', 'b', '']}, 'Range names'), ({**TOP, 'weights': [1, 1]}, 'Range weights'),
+    ({**TOP, 'weights': [1, 1, 1001]}, 'Range weights'), ({**TOP, 'fault': [{**FAULT, 'at': 6}]}, 'Range at'),
+    ({**TOP, 'fault': [{**FAULT, 'node': 'd'}]}, 'Range node'),
     ({**TOP, 'fault': [{**FAULT, 'kind': 'halt'}]}, 'Range kind'), ({**TOP, 'names': ['a', 'b', 'a']}, 'DoubleName'),
     ({**TOP, 'at': 1}, 'UnknownKey'), ({**TOP, 'fault': [{**FAULT, 'keep': True}]}, 'UnknownKey'),
-    ({**without(TOP, 'turns'), 'nodes': 'x', 'more': 1}, 'Missing turns'), ({**TOP, 'nodes': 'x', 'more': 1}, 'Kind nodes'),
+    ({**without(TOP, 'turns'), 'nodes': 'x', 'more': 1}, 'Missing turns'),
+    ({**TOP, 'nodes': 'x', 'more': 1}, 'Kind nodes'),
 ]  # fmt: skip
 
 
@@ -55,8 +58,9 @@ class Configurations(unittest.TestCase):
     def test_other_faults(self) -> None:
         whole = toml(TOP)
         for text, fault in (
-            (b'\xff', 'Toml'), (b'nodes = ', 'Toml'), (whole + b'\nfault = 1', 'Kind fault'), (whole + b'\n[fault]\nat = 1', 'Kind fault'),
-            (whole + b'\nfault = [1]', 'Kind fault'), (whole + b'\nmore = 9223372036854775808', 'Toml'),
+            (b'\xff', 'Toml'), (b'nodes = ', 'Toml'), (whole + b'\nfault = 1', 'Kind fault'),
+            (whole + b'\n[fault]\nat = 1', 'Kind fault'), (whole + b'\nfault = [1]', 'Kind fault'),
+            (whole + b'\nmore = 9223372036854775808', 'Toml'),
         ):  # fmt: skip
             with self.subTest(text=text), self.assertRaises(settings.ConfigFault) as caught:
                 settings.read_settings(text)

@@ -97,13 +97,20 @@ class Openings(unittest.TestCase):
         first = Opening.first(Setup(3, 6).header(), ('a', 'b', 'c'), 700)
         wish = first.wish(settings.Settings(Setup(4, 8, weights=(1, 2, 3, 4)), ('c', 'd', 'a', 'e')))
         after = first.next(wish, (1, 2, 3, 3, 2, 1))
-        self.assertEqual(after, Opening(2, 'bully,2,4,8,1 2 3 4,clear', ('c', 'd', 'a', 'e'), 700, (3, 0, 1, 1, 0, 3, 0, 0)))
+        self.assertEqual(
+            after, Opening(2, 'bully,2,4,8,1 2 3 4,clear', ('c', 'd', 'a', 'e'), 700, (3, 0, 1, 1, 0, 3, 0, 0))
+        )
         self.assertEqual((Opening.parse(after.text()), after.bare), (after, wish))
         fewer = after.next(after.wish(settings.Settings(Setup(1, 3), ('a',))), after.table)
         self.assertEqual(fewer, Opening(3, 'bully,1,1,3', ('a',), 700, (1, 0, 0)))
         self.assertEqual(after.next(after.wish(settings.Settings(Setup(1, 3), ('z',))), after.table).table, ())
         self.assertEqual(first.next(None, ()), Opening(2, first.header, first.names, 700))
-        for setup in (Setup(3, 6), Setup(2, 300, weights=(1, 5)), Setup(70, 5, weights=(1,) * 70), Setup(2, 2, weights=(1, 1), keeps=True)):
+        for setup in (
+            Setup(3, 6),
+            Setup(2, 300, weights=(1, 5)),
+            Setup(70, 5, weights=(1,) * 70),
+            Setup(2, 2, weights=(1, 1), keeps=True),
+        ):
             self.assertEqual(setup_of(setup.header()).header(), setup.header())
 
     def test_limits(self) -> None:

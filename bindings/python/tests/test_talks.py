@@ -83,7 +83,9 @@ class Talks(Below):
         settings = told[0].pop('settings')
         self.assertEqual(told[0], {'begin': 40000002, 'partitions': [0, 5], 'coordinator': 'c'})
         self.assertEqual((settings['names'], settings['ttl']), (['a', 'b', 'c'], 4.0))
-        self.assertEqual([each.get('begin') for each in told], [40000002, None, 40000003, None, 40000004, None, 40000005, None])
+        self.assertEqual(
+            [each.get('begin') for each in told], [40000002, None, 40000003, None, 40000004, None, 40000005, None]
+        )
         worker = self.worker()
         workers.close()
         self.assertFalse(is_running(worker))
@@ -97,7 +99,10 @@ class Talks(Below):
         for events in (3, 4):
             workers.start(Assignment(Token.of(4, events), 3, tuple(range(4096)), Settings(Setup(1000, 4096), names)))
             told = json.loads(self.heard(2 * events - 3)[-1].partition(' ')[2])
-            self.assertEqual((told['begin'], told['partitions'], told['settings']['names']), (Token.of(4, events), list(range(4096)), list(names)))
+            self.assertEqual(
+                (told['begin'], told['partitions'], told['settings']['names']),
+                (Token.of(4, events), list(range(4096)), list(names)),
+            )
             workers.stop(assigned(0))
         self.assertEqual((self.failures, self.lost), ([], []))
 
@@ -169,7 +174,9 @@ class Talks(Below):
     def test_a_member_that_is_gone(self) -> None:
         """Then it is not enough that a worker answers: it is killed if it doesn't end."""
         begun = self.folder / 'begun'
-        workers = self.made(['sh', '-c', 'trap "echo stopped >&3" TERM; echo > "$0"; while :; do sleep 0.01; done', str(begun)], 0.2)
+        workers = self.made(
+            ['sh', '-c', 'trap "echo stopped >&3" TERM; echo > "$0"; while :; do sleep 0.01; done', str(begun)], 0.2
+        )
         self.addCleanup(workers._guard.kill)
         workers.start(assigned(2, 0))
         wait_until(begun.exists)
@@ -181,10 +188,25 @@ class Talks(Below):
     def test_what_a_member_did_not_read(self) -> None:
         """A guard whose member is gone, and didn't read all that it said, ends its worker with what that started."""
         child = self.folder / 'child'
-        worker = 'sleep 1000 & echo $! > "$0.new"; mv "$0.new" "$0"; read -r line; read -r line; echo stopped >&3; read -r line'
+        begins = 'sleep 1000 & echo $! > "$0.new"; mv "$0.new" "$0"'
+        worker = f'{begins}; read -r line; read -r line; echo stopped >&3; read -r line'
         channel, given = socket.socketpair(socket.AF_UNIX, socket.SOCK_SEQPACKET)
         with channel, given, open(self.folder / 'said', 'wb') as said:
-            words = [sys.executable, '-I', '-S', GUARD, str(given.fileno()), '0.2', 'talks', '', '1.0', 'sh', '-c', worker, str(child)]
+            words = [
+                sys.executable,
+                '-I',
+                '-S',
+                GUARD,
+                str(given.fileno()),
+                '0.2',
+                'talks',
+                '',
+                '1.0',
+                'sh',
+                '-c',
+                worker,
+                str(child),
+            ]
             guard = subprocess.Popen(words, stdin=subprocess.DEVNULL, stderr=said, pass_fds=[given.fileno()])
             self.addCleanup(guard.kill)
             given.close()
@@ -192,7 +214,9 @@ class Talks(Below):
                 channel.send(message.encode())
             wait_until(child.exists)
             channel.send(b'stop')
-            self.assertEqual(clocks.slept(PATIENCE, channel.fileno()), [channel.fileno()])  # it has said that nothing is worked on
+            self.assertEqual(
+                clocks.slept(PATIENCE, channel.fileno()), [channel.fileno()]
+            )  # it has said that nothing is worked on
         self.assertEqual((guard.wait(PATIENCE), (self.folder / 'said').read_text()), (0, ''))
         self.assertFalse(is_running(int(child.read_text())))
 
@@ -247,7 +271,9 @@ class Talks(Below):
                     processes.add(children(workers._guard.pid)[0])
                     workers.stop(assigned(0))
                     before, sizes = sizes, {file: file.stat().st_size for file in folder.iterdir()}
-                    self.assertEqual([file for file, size in before.items() if sizes[file] != size and file not in files], [])
+                    self.assertEqual(
+                        [file for file, size in before.items() if sizes[file] != size and file not in files], []
+                    )
                 self.assertEqual(len(processes), 1)
                 workers.close()
         self.assertEqual((self.failures, self.lost), ([], []))

@@ -76,7 +76,9 @@ class Noting(MemoryLog):
 class Threads(unittest.TestCase):
     """Tests with members in threads over one log in memory."""
 
-    def begin(self, log: MemoryLog, node: int, ttl: float = 2.0, **more: Any) -> tuple[Member, list[str], threading.Thread]:
+    def begin(
+        self, log: MemoryLog, node: int, ttl: float = 2.0, **more: Any
+    ) -> tuple[Member, list[str], threading.Thread]:
         told: list[str] = []
         start = more.pop('start', lambda assignment: told.append(f'start {assignment.token}'))
         stop = more.pop('stop', lambda assignment: told.append(f'stop {assignment.token}'))

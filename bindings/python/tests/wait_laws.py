@@ -48,8 +48,9 @@ class Waits(Tests):
         wish = OPENING.after(None)
         acts: list[Callable[[], object]] = [
             lambda: other.take('1', A, EMPTY, self.LONG), lambda: other.take('2', B, EMPTY, self.SHORT), lambda: None,
-            lambda: other.append(1, 0, ['recover,1']), lambda: other.release('1', A), lambda: other.take('1', B, Promise(1, 1), self.LONG),
-            lambda: other.ask(wish, 1), lambda: other.cancel(1), lambda: other.promise('1', B, Promise(1, 1)) and other.append(1, 1, ['x', 'y']),
+            lambda: other.append(1, 0, ['recover,1']), lambda: other.release('1', A),
+            lambda: other.take('1', B, Promise(1, 1), self.LONG), lambda: other.ask(wish, 1), lambda: other.cancel(1),
+            lambda: other.promise('1', B, Promise(1, 1)) and other.append(1, 1, ['x', 'y']),
             lambda: other.order(Orders(frozenset('2')), Orders()), lambda: other.order(Orders(lives={}), None),
             lambda: other.promise('1', B, Promise(1, 3)) and other.finish(1, 3, wish),
         ]  # fmt: skip
@@ -74,7 +75,8 @@ class Waits(Tests):
                 self.assertTrue(other.promise(name, A, Promise(1, 1)))
             with self.subTest(until=until):
                 self.ends_by(
-                    lambda: other.promise(acts[-1], A, Promise(1, 1)), lambda seconds: log.wait(1, 1, lives, until, seconds)
+                    lambda: other.promise(acts[-1], A, Promise(1, 1)),
+                    lambda seconds: log.wait(1, 1, lives, until, seconds),
                 )
                 begun = time.monotonic()
                 log.wait(1, 1, lives, until, PATIENCE)
@@ -91,7 +93,9 @@ class Waits(Tests):
         begun = time.monotonic()
         log.wait(1, 1, lives, Until.ANY_IDLE, 0.3)
         self.assertGreaterEqual(time.monotonic(), begun + 0.3)
-        self.ends_by(lambda: other.promise('1', A, Promise(1, 1)), lambda seconds: log.wait(1, 1, lives, Until.ANY_IDLE, seconds))
+        self.ends_by(
+            lambda: other.promise('1', A, Promise(1, 1)), lambda seconds: log.wait(1, 1, lives, Until.ANY_IDLE, seconds)
+        )
 
     def test_promises_are_no_news(self) -> None:
         """A wait for less goes on. (It need not, but then each would wake all.)"""
@@ -101,6 +105,7 @@ class Waits(Tests):
         self.assertTrue(other.append(1, 0, ['recover,1']))
         lives = log.look(1, 0).lives
         for until, names in ((Until.NEWS, '12'), (Until.ALL_IDLE, '1')):
+
             def act() -> None:
                 for name in names:
                     other.promise(name, A, Promise(1, 1))
@@ -140,14 +145,17 @@ class Waits(Tests):
         woken, wakes = socket.socketpair()
         with woken, wakes:
             for until in Until:
-                self.ends_by(lambda: wakes.send(b'.'), lambda seconds: log.wait(1, 0, lives, until, seconds, woken.fileno()))
+                self.ends_by(
+                    lambda: wakes.send(b'.'), lambda seconds: log.wait(1, 0, lives, until, seconds, woken.fileno())
+                )
                 begun = time.monotonic()
                 log.wait(1, 0, lives, until, PATIENCE, woken.fileno())
                 self.assertLess(time.monotonic(), begun + PATIENCE)
                 woken.recv(10)
                 log.wait(1, 0, lives, until, 0.1, woken.fileno())
             self.ends_by(
-                lambda: other.take('1', A, EMPTY, self.LONG), lambda seconds: log.wait(1, 0, lives, Until.NEWS, seconds, woken.fileno())
+                lambda: other.take('1', A, EMPTY, self.LONG),
+                lambda seconds: log.wait(1, 0, lives, Until.NEWS, seconds, woken.fileno()),
             )
 
     def test_what_was_there(self) -> None:
