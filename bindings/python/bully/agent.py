@@ -6,7 +6,7 @@ from collections.abc import Sequence
 
 from .group import Setup, setup_parts
 from .library import (
-    UINT32_MAX, Opened, RawState, call_of, line_of, list_of, node_of, number_of, numbers_of, owners_of, state_of,
+    STRUCTURES, UINT32_MAX, Opened, call_of, line_of, list_of, node_of, number_of, numbers_of, owners_of, state_of,
 )  # fmt: skip
 from .values import Answer, Call, Line, State, Status, Want
 
@@ -190,5 +190,5 @@ class Agent(Opened):
         """The row that says all of the node's vector, without its line end. Raises Closed, OutOfMemory."""
         return self._room.row(self._function('claim'))
 
-    def _show(self) -> RawState:
-        return self._filled(RawState(), 'show')
+    def _show(self) -> ctypes.Structure:
+        return self._filled(STRUCTURES['bully_state'](), 'show')

@@ -1,7 +1,7 @@
 """The command `bully-member`: a member of a group for a worker in any language.
 
     bully-member init --config group.toml --log sqlite:group.db [--ttl 5] [--epoch 1]
-    bully-member run --node b --log sqlite:group.db [--config group.toml] [--ttl 5] [--listen 127.0.0.1:8081] -- WORKER ARGS..
+    bully-member run --node b --log sqlite:group.db [--config group.toml] [--ttl 5] [--listen 8081] -- WORKER ARGS..
     bully-member status --log sqlite:group.db [--json]
     bully-member history --log sqlite:group.db [--epoch 1] [--times] | bully check
     bully-member resize --config new.toml --log sqlite:group.db [--seconds 60]
@@ -64,50 +64,36 @@ def parser() -> argparse.ArgumentParser:
     as_it_is = argparse.RawDescriptionHelpFormatter
     words = argparse.ArgumentParser('bully-member', description=__doc__, formatter_class=as_it_is)
     commands = words.add_subparsers(dest='command', required=True, metavar='COMMAND')
-    init = commands.add_parser('init', help='make the log of a group')
-    run = commands.add_parser('run', help='take part for a node, and run a worker')
-    status = commands.add_parser('status', help='tell how the group stands')
-    history = commands.add_parser('history', help='write the log of an epoch as a trace')
-    resize = commands.add_parser('resize', help='give the group other settings, in a new epoch')
-    prune = commands.add_parser('prune', help='take old epochs away')
-    switchover = commands.add_parser('switchover', help='have another node lead, in a new epoch')
-    repair = commands.add_parser('repair', help='tell what of a log is damaged, and cut it')
-    for command in (init, run, status, history, resize, switchover, prune, repair):
+    of = {name: commands.add_parser(name, help=about) for name, (_, about) in COMMANDS.items()}
+    for command in of.values():
         add_words(command)
-    for command in (init, run):
-        command.add_argument('--config', required=command is init, metavar='FILE')
-        add_seconds(command, '--ttl', 'how long a node stays present without a renewal')
-    add_count(init, '--epoch', 'NUMBER', 'with which it begins: behind those of a log before it', FIRST)
-    for command in (run, switchover):
-        command.add_argument('--node', required=True, metavar='NAME')
-    for command in (resize, switchover):
-        add_seconds(command, '--seconds', 'how long to wait until the new epoch has begun', 60.0)
-    add_words_of_run(run)
-    status.add_argument('--json', action='store_true')
-    add_count(history, '--epoch', 'NUMBER', 'which one; else the current one')
-    history.add_argument('--times', action='store_true', help='write TIME,ROW, with when it was appended: no trace')
-    wanted = resize.add_mutually_exclusive_group(required=True)
+    for name in ('init', 'run'):
+        of[name].add_argument('--config', required=name == 'init', metavar='FILE')
+        add_seconds(of[name], '--ttl', 'how long a node stays present without a renewal')
+    add_count(of['init'], '--epoch', 'NUMBER', 'with which it begins: behind those of a log before it', FIRST)
+    for name in ('run', 'switchover'):
+        of[name].add_argument('--node', required=True, metavar='NAME')
+    for name in ('resize', 'switchover'):
+        add_seconds(of[name], '--seconds', 'how long to wait until the new epoch has begun', 60.0)
+    add_words_of_run(of['run'])
+    of['status'].add_argument('--json', action='store_true')
+    add_count(of['history'], '--epoch', 'NUMBER', 'which one; else the current one')
+    times = 'write TIME,ROW, so no trace, with the time of UTC at which a row was appended'
+    of['history'].add_argument('--times', action='store_true', help=times)
+    wanted = of['resize'].add_mutually_exclusive_group(required=True)
     wanted.add_argument('--config', metavar='FILE')
     wanted.add_argument('--cancel', action='store_true', help='nothing is wished for any more')
-    resize.add_argument('--all-new', action='store_true', help='also if nobody who is there is in it, so that all end')
-    prune.add_argument('--keep', type=count, required=True, metavar='COUNT', help='how many epochs stay, with this one')
-    add_orders(commands)
-    repair.add_argument('--cut', type=int, metavar='PLACE', help='cut what is damaged from there on, if all ended')
+    all_new = 'also if no member that is there is in it, so that all end'
+    of['resize'].add_argument('--all-new', action='store_true', help=all_new)
+    keep = 'how many epochs stay, the current one too'
+    of['prune'].add_argument('--keep', type=count, required=True, metavar='COUNT', help=keep)
+    cut = 'cut what is told to be damaged from this place on; all members have to have ended'
+    of['repair'].add_argument('--cut', type=int, metavar='PLACE', help=cut)
+    for name in ('drain', 'undrain'):
+        of[name].add_argument('node', metavar='NODE')
+    add_seconds(of['drain'], '--seconds', 'how long to wait until it has left', 60.0)
+    of['drain'].add_argument('--all', action='store_true', help='also if nobody would work then')
     return words
-
-
-def add_orders(commands: argparse._SubParsersAction[argparse.ArgumentParser]) -> None:
-    """The command takes the words of an operator's orders."""
-    drain = commands.add_parser('drain', help='have a node take no part, up to undrain, also if it begins again')
-    undrain = commands.add_parser('undrain', help='have it take part again')
-    pause = commands.add_parser('pause', help='have nobody settle the group: who works goes on, up to resume')
-    resume = commands.add_parser('resume', help='end a pause')
-    for command in (drain, undrain, pause, resume):
-        add_words(command)
-    for command in (drain, undrain):
-        command.add_argument('node', metavar='NODE')
-    add_seconds(drain, '--seconds', 'how long to wait until it has left', 60.0)
-    drain.add_argument('--all', action='store_true', help='also if nobody would work then')
 
 
 def add_words_of_run(run: argparse.ArgumentParser) -> None:
@@ -358,10 +344,20 @@ def run(options: argparse.Namespace) -> int:
     return OK
 
 
-COMMANDS = {
-    'init': init, 'run': run, 'status': status, 'history': history, 'resize': change, 'switchover': switch_over,
-    'prune': prune, 'repair': mend, 'drain': take_out, 'undrain': give_order, 'pause': give_order, 'resume': give_order,
-}  # fmt: skip
+COMMANDS: dict[str, tuple[Callable[[argparse.Namespace], int], str]] = {
+    'init': (init, 'make the log of a group'),
+    'run': (run, 'take part for a node, and run a worker'),
+    'status': (status, 'tell how the group stands'),
+    'history': (history, 'write the log of an epoch as a trace'),
+    'resize': (change, 'give the group other settings, in a new epoch'),
+    'switchover': (switch_over, 'have another node lead, in a new epoch'),
+    'drain': (take_out, 'have a node take no part, up to undrain, also if its process begins again'),
+    'undrain': (give_order, 'have it take part again'),
+    'pause': (give_order, 'have nobody settle the group: who works goes on, up to resume'),
+    'resume': (give_order, 'end a pause'),
+    'prune': (prune, 'take old epochs away'),
+    'repair': (mend, 'tell what of a log is damaged, and cut it'),
+}
 
 # What ends a command, and its status.
 STATUSES: tuple[tuple[type[Exception], int], ...] = (
@@ -377,7 +373,7 @@ def main(words: list[str] | None = None) -> int:
     group's, or damaged; 4, if the log or a file can't be used; 5, if the group has no such node."""
     options = parser().parse_args(words)
     try:
-        return COMMANDS[options.command](options)
+        return COMMANDS[options.command][0](options)
     except Exception as fault:
         status = next((status for kind, status in STATUSES if isinstance(fault, kind)), None)
         if status is None:

@@ -7,9 +7,7 @@ from dataclasses import dataclass
 from typing import Any
 
 from .faults import FAULTS, expect_ok
-from .library import (
-    UINT16_MAX, UINT32_MAX, RawSetup, RawVerdict, Room, line_bytes, loaded, number_of, numbers_of, owners_of,
-)  # fmt: skip
+from .library import STRUCTURES, UINT16_MAX, UINT32_MAX, Room, line_bytes, loaded, number_of, numbers_of, owners_of
 from .values import EVENTS_MAX, PARTITIONS_MAX, TablePlan, Verdict, VerdictKind
 
 __all__ = ['Setup', 'check', 'plan_table', 'status_name', 'version']
@@ -39,7 +37,8 @@ def setup_parts(setup: Setup) -> tuple[Any, ...]:
     weights = numbers_of('a weight', setup.weights)
     nodes = number_of('nodes', setup.nodes, UINT16_MAX)
     partitions = number_of('partitions', setup.partitions, UINT16_MAX)
-    raw = RawSetup(nodes, partitions, number_of('events_max', setup.events_max, UINT32_MAX), 1 if setup.keeps else 0)
+    events = number_of('events_max', setup.events_max, UINT32_MAX)
+    raw = STRUCTURES['bully_setup'](nodes, partitions, events, 1 if setup.keeps else 0)
     return (ctypes.byref(raw), *weights)
 
 
@@ -60,7 +59,7 @@ def check(trace: str | bytes | bytearray | memoryview) -> Verdict:
     if not isinstance(trace, (str, bytes, bytearray, memoryview)):
         raise TypeError(f'a trace is str or bytes, and not {type(trace).__name__}')
     text = line_bytes(trace) if isinstance(trace, str) else bytes(trace)
-    raw = RawVerdict()
+    raw = STRUCTURES['bully_verdict']()
     status = loaded(for_long=True).bully_check(text, len(text), ctypes.byref(raw))
     expect_ok(status, raw.number)
     return Verdict(VerdictKind(raw.kind), raw.number, FAULTS[raw.cause] if raw.cause else None)

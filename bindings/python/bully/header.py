@@ -65,11 +65,10 @@ def statuses() -> dict[str, int]:
     return {name: int(number) for name, number in re.findall(r'BULLY_(\w+) = (\d+)', listed)}
 
 
-def fields(name: str) -> list[tuple[str, Any]]:
-    """The fields of a structure, in their order: their names with their types."""
-    [listed] = re.findall(rf'typedef struct {name} \{{(.*?)\}}', _TEXT, re.DOTALL)
-    declared = (_parted(field) for field in listed.split(';')[:-1])
-    return [(field, type_of(kind, {})) for kind, field in declared]
+def structures() -> Iterator[tuple[str, list[tuple[str, Any]]]]:
+    """The structures, each with its fields in their order: their names with their types."""
+    for name, listed in re.findall(r'typedef struct (\w+) \{(.*?)\}', _TEXT, re.DOTALL):
+        yield name, [(field, type_of(kind, {})) for kind, field in map(_parted, listed.split(';')[:-1])]
 
 
 def functions() -> Iterator[Function]:

@@ -6,7 +6,7 @@ from collections.abc import Iterable
 from typing import Any
 
 from .faults import BadArgument, BullyError, NotLearned, expect_ok, fault_of
-from .library import Opened, RawGroup, RawState, list_of, node_of, rows_bytes, state_of
+from .library import STRUCTURES, Opened, list_of, node_of, rows_bytes, state_of
 from .values import Line, Rows, State
 
 
@@ -47,8 +47,8 @@ class Learned(Opened):
         """How the node stands, by one look. Raises Closed, BadNode."""
         return state_of(self._show(node))
 
-    def _show(self, node: int) -> RawState:
-        return self._filled(RawState(), self._showing, node_of(node))
+    def _show(self, node: int) -> ctypes.Structure:
+        return self._filled(STRUCTURES['bully_state'](), self._showing, node_of(node))
 
     # How the group stands, behind the rows that were learned. Each raises Closed.
 
@@ -94,5 +94,5 @@ class Learned(Opened):
         """Whether a node keeps its task over a crash, as the header tells."""
         return bool(self._group().keeps)
 
-    def _group(self) -> RawGroup:
-        return self._filled(RawGroup(), 'group')
+    def _group(self) -> ctypes.Structure:
+        return self._filled(STRUCTURES['bully_group'](), 'group')

@@ -9,7 +9,7 @@ from collections.abc import Callable, Iterable, Iterator, Sequence
 from typing import Any, NoReturn, TypeVar, Union
 
 from .faults import Short, TableLength, expect_ok
-from .header import HERE, fields, functions, top_of_tree, type_of
+from .header import HERE, functions, structures, top_of_tree, type_of
 from .values import Call, CallKind, Line, Owned, Rows, State, Status, Want
 
 FILE = 'libbully.so'
@@ -20,46 +20,10 @@ UINT16_MAX = 0xFFFF
 UINT32_MAX = 0xFFFF_FFFF
 UINT64_MAX = 0xFFFF_FFFF_FFFF_FFFF
 
-
-class RawSetup(ctypes.Structure):
-    _fields_ = fields('bully_setup')
-
-
-class RawVerdict(ctypes.Structure):
-    _fields_ = fields('bully_verdict')
-
-
-class RawHandle(ctypes.Structure):
-    """A handle, of whichever kind."""
-
-    _fields_ = fields('bully_agent')
-
-
-class RawState(ctypes.Structure):
-    _fields_ = fields('bully_state')
-
-
-class RawGroup(ctypes.Structure):
-    _fields_ = fields('bully_group')
-
-
-class RawStep(ctypes.Structure):
-    _fields_ = fields('bully_step')
-
-
-class RawPresence(ctypes.Structure):
-    _fields_ = fields('bully_presence')
-
-
-class RawMember(ctypes.Structure):
-    _fields_ = fields('bully_member_state')
-
-
-_STRUCTURES = {
-    'bully_setup': RawSetup, 'bully_verdict': RawVerdict, 'bully_state': RawState, 'bully_group': RawGroup,
-    'bully_step': RawStep, 'bully_presence': RawPresence, 'bully_member_state': RawMember,
-    **dict.fromkeys(('bully_agent', 'bully_replica', 'bully_member'), RawHandle),
-}  # fmt: skip
+# The header's structures, by its names.
+STRUCTURES: dict[str, type[ctypes.Structure]] = {
+    name: type(name, (ctypes.Structure,), {'_fields_': fields}) for name, fields in structures()
+}
 
 # The library twice. Calls of a handle keep Python's lock, so that no two threads are in one; a check of a long trace
 # gives it away.
@@ -68,7 +32,7 @@ _loaded: list[ctypes.CDLL] = []
 
 def _prototypes() -> list[tuple[str, Any, list[Any]]]:
     """The functions of the library, with the types of what they give and take."""
-    typed = functools.partial(type_of, structures=_STRUCTURES)
+    typed = functools.partial(type_of, structures=STRUCTURES)
     return [(name, typed(gives), list(map(typed, takes))) for name, gives, takes in functions()]
 
 
@@ -214,12 +178,12 @@ def owned_of(room: int, function: Callable[..., int], *arguments: Any) -> Owned 
     return Owned(token.value, partitions) if partitions else None
 
 
-def call_of(raw: RawState) -> Call | None:
+def call_of(raw: ctypes.Structure) -> Call | None:
     """The call that the library tells of a node, if any."""
     return Call(CallKind(raw.call), raw.callee, bool(raw.orphan)) if raw.callee else None
 
 
-def state_of(raw: RawState) -> State:
+def state_of(raw: ctypes.Structure) -> State:
     """All that the library tells of a node."""
     status, wants = Status(raw.status), Want(raw.wants)
     return State(raw.node, status, raw.coordinator or None, raw.halter or None, wants, call_of(raw), raw.generation)
@@ -242,7 +206,7 @@ class Opened:
 
     def __init__(self) -> None:
         self._library = loaded()
-        self._handle = RawHandle()
+        self._handle = STRUCTURES[self._kind]()
         self._held = ctypes.byref(self._handle)
         self._room = Room()
 

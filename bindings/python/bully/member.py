@@ -7,6 +7,7 @@ epoch's log is how many rows stand behind its header, and each of them is an eve
 """
 from __future__ import annotations
 
+import ctypes
 import enum
 from collections.abc import Callable, Sequence
 from dataclasses import dataclass
@@ -14,10 +15,7 @@ from typing import Union
 
 from .faults import BullyError, NotLearned, OutOfMemory
 from .learned import Learned
-from .library import (
-    UINT16_MAX, UINT32_MAX, UINT64_MAX, RawMember, RawPresence, RawStep, line_of, number_of, owned_of, owners_of,
-    texts_of,
-)  # fmt: skip
+from .library import STRUCTURES, UINT16_MAX, UINT32_MAX, UINT64_MAX, line_of, number_of, owned_of, owners_of, texts_of
 from .values import Line, Owned
 
 TTL_MIN, TTL_MAX = 1_000_000, 86_400_000_000_000
@@ -195,9 +193,10 @@ class Work:
 
 # ---- As the library numbers them: what stands first has number 1.
 
+RAW_PRESENCE = STRUCTURES['bully_presence']
 _ENDINGS, _UNTILS, _WAYS, _ANSWERS = list(Ending), list(Until), list(Way), list(StoreAnswer)
 
-_STEPS: dict[int, Callable[[RawStep], Step]] = {
+_STEPS: dict[int, Callable[[ctypes.Structure], Step]] = {
     1: lambda raw: Ask(Request(raw.request), Life(raw.process, raw.number), raw.place),
     2: lambda raw: Begin(raw.token),
     3: lambda raw: Stop(),
@@ -211,12 +210,12 @@ def _moment(now: int) -> int:
     return number_of('a time', now, UINT64_MAX)
 
 
-def _raw_presence(presence: Presence) -> RawPresence:
+def _raw_presence(presence: Presence) -> ctypes.Structure:
     life, promise, node = presence.life, presence.promise, number_of('a node', presence.node, UINT16_MAX)
     process = number_of('a process', life.process, UINT64_MAX)
     number = number_of('a number of a life', life.number, UINT64_MAX)
     epoch, place = number_of('an epoch', promise.epoch, UINT32_MAX), number_of('a place', promise.place, UINT32_MAX)
-    return RawPresence(process, number, epoch, place, node)
+    return RAW_PRESENCE(process, number, epoch, place, node)
 
 
 class Core(Learned):
@@ -253,7 +252,7 @@ class Core(Learned):
 
     def next(self, now: int) -> Step:
         """What is to be done now: by the first of the rules that applies. It is noted that this is done."""
-        raw = self._filled(RawStep(), 'next', _moment(now))
+        raw = self._filled(STRUCTURES['bully_step'](), 'next', _moment(now))
         return _STEPS[raw.kind](raw)
 
     def settlement(self) -> list[str]:
@@ -292,7 +291,7 @@ class Core(Learned):
 
         Raises BadNode; OutOfMemory."""
         count, epoch = len(seen.presences), number_of('an epoch', seen.epoch, UINT32_MAX)
-        presences = (RawPresence * count)(*map(_raw_presence, seen.presences))
+        presences = (RAW_PRESENCE * count)(*map(_raw_presence, seen.presences))
         self._call('looked', _moment(now), epoch, presences, count, bool(seen.has_strangers), bool(seen.is_wished))
 
     def passed(self) -> None:
@@ -379,5 +378,5 @@ class Core(Learned):
         """The end of the log, as far as it was learned."""
         return int(self._shown().place)
 
-    def _shown(self) -> RawMember:
-        return self._filled(RawMember(), 'show', 0)
+    def _shown(self) -> ctypes.Structure:
+        return self._filled(STRUCTURES['bully_member_state'](), 'show', 0)

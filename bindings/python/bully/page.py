@@ -35,14 +35,17 @@ ASK_SECONDS = 10.0  # that a connection may say nothing, or take nothing
 LOOPBACK = ('127.0.0.1', '::1', 'localhost')  # names of another machine that lead here are refused
 
 STYLE = """
-body { font: 15px/1.45 system-ui, sans-serif; margin: 1.5rem auto; max-width: 72rem; padding: 0 1rem; color: #1c2430; background: #fff; }
+body { font: 15px/1.45 system-ui, sans-serif; margin: 1.5rem auto; max-width: 72rem; padding: 0 1rem; }
+body { color: #1c2430; background: #fff; }
 h1 { font-size: 1.25rem; margin: 0 0 .2rem; } h2 { font-size: 1rem; margin: 1.4rem 0 .4rem; }
 table { border-collapse: collapse; width: 100%; }
 th, td { text-align: left; padding: .25rem .7rem .25rem 0; border-bottom: 1px solid #e3e7ec; vertical-align: top; }
 th { font-weight: 600; color: #566173; } code { font: 13px ui-monospace, monospace; }
 .dot { display: inline-block; width: .65rem; height: .65rem; border-radius: 50%; margin-right: .45rem; }
-.normal { background: #2e9e5b; } .reorganization { background: #d99a1c; } .election { background: #c2571a; } .down { background: #b9c0ca; }
-.cells { display: flex; flex-wrap: wrap; gap: 3px; } .cell { border: 1px solid #cfd6df; border-radius: 3px; padding: .05rem .4rem; font-size: 13px; }
+.normal { background: #2e9e5b; } .reorganization { background: #d99a1c; }
+.election { background: #c2571a; } .down { background: #b9c0ca; }
+.cells { display: flex; flex-wrap: wrap; gap: 3px; }
+.cell { border: 1px solid #cfd6df; border-radius: 3px; padding: .05rem .4rem; font-size: 13px; }
 .free { background: #fdf0e4; } .small { color: #566173; }
 """
 SCRIPT = """
