@@ -21,7 +21,7 @@ that came late would put a key under an old one, and lose it.
 from __future__ import annotations
 
 import ssl
-from collections.abc import Callable, Iterator, Mapping, Sequence, Set as AbstractSet
+from collections.abc import Callable, Iterator, Sequence, Set as AbstractSet
 from contextlib import closing
 from typing import NamedTuple
 
@@ -33,7 +33,8 @@ from .gateway import (
     value_of,
 )  # fmt: skip
 from .logs import (
-    BadPresence, DamagedLog, ForeignLog, Found, Holder, LogError, LogExists, NoLog, OtherLog, Unanswered, are_idle,
+    BadPresence, DamagedLog, ForeignLog, Found, Holder, Lives, LogError, LogExists, NoLog, OtherLog, Unanswered,
+    are_idle,
 )  # fmt: skip
 from .member import Life, Promise, Until
 from .orders import Orders
@@ -491,18 +492,16 @@ class EtcdLog:
         except (ValueError, KeyError) as fault:
             raise BadPresence(f'{self.address}: a presence is none: {fault}') from fault
 
-    def wait(
-        self, epoch: int, place: int, lives: Mapping[str, Life], until: Until, seconds: float, woken: int | None = None
-    ) -> None:
+    def wait(self, epoch: int, place: int, lives: Lives, until: Until, seconds: float, wake: int | None = None) -> None:
         """By a watch. While many are present it tells of promises only who waits for them."""
         end = seconds_of_boot() + seconds
         known, idle = self._seen_idle
         here = Promise(epoch, place)
         is_news = self._news.awaited(here, lives, until, self._seen_wanted, idle if known == here else frozenset())
         is_wide = until is not Until.NEWS or len(lives) <= FEW
-        self._woken = woken
+        self._woken = wake
         while not self._hear(is_news, is_wide, max(0.0, end - seconds_of_boot())):
-            if seconds_of_boot() >= end or slept(0.0, woken):
+            if seconds_of_boot() >= end or slept(0.0, wake):
                 return
 
     def _hear(self, is_news: Callable[[], bool], is_wide: bool, seconds: float) -> bool:
@@ -651,7 +650,7 @@ class News:
             self._is_odd = True
 
     def awaited(
-        self, here: Promise, lives: Mapping[str, Life], until: Until, wanted: tuple[bytes | None, bytes | None],
+        self, here: Promise, lives: Lives, until: Until, wanted: tuple[bytes | None, bytes | None],
         before: AbstractSet[str],
     ) -> Callable[[], bool]:  # fmt: skip
         """What tells whether there is what is waited for, by what was wanted and who was idle before."""

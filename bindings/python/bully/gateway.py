@@ -469,12 +469,12 @@ class Subscription:
         self._text = b''
         self._has_begun = False
 
-    def events(self, seconds: float, woken: int | None = None) -> list[Json]:
+    def events(self, seconds: float, wake: int | None = None) -> list[Json]:
         """The next events, once some come, the time is over, or the descriptor can be read. Raises Silent, Denied."""
         try:
             there = self._connection.sock
             is_left = isinstance(there, ssl.SSLSocket) and there.pending() > 0
-            if not is_left and there.fileno() not in slept(seconds, there.fileno(), woken):
+            if not is_left and there.fileno() not in slept(seconds, there.fileno(), wake):
                 return []
             there.settimeout(LEAST_LIMIT)
             received = there.recv(RECEIVED)

@@ -23,6 +23,7 @@ from .member import Life, Promise, Until
 from .orders import Orders
 
 Name = TypeVar('Name', str, bytes)
+Lives = Mapping[str, Life]  # of those present, by name
 Wanted = tuple[Optional[Opening], Orders]  # what is wished for, and what is ordered
 
 
@@ -147,13 +148,11 @@ class Log(Protocol):
         moment. Who asks has read up to there, so one that ends before is damaged; likewise in read, append and
         finish."""
 
-    def wait(
-        self, epoch: int, place: int, lives: Mapping[str, Life], until: Until, seconds: float, woken: int | None = None
-    ) -> None:
+    def wait(self, epoch: int, place: int, lives: Lives, until: Until, seconds: float, wake: int | None = None) -> None:
         """Returns once another epoch is the current one, or rows stand behind that place, or others than these lives
         are present, or another wish or other orders stand than the last look found; or also, by `until`, once one of
         those present has promised that place of that epoch that hadn't when the last look found the log to end there,
-        or once all have; or once the descriptor `woken` has something to read; or once the time is over. It may return
+        or once all have; or once the descriptor `wake` has something to read; or once the time is over. It may return
         sooner. What was so before the call is never missed."""
 
     def ask(self, wish: Opening, epoch: int) -> bool:

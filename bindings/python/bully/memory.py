@@ -2,12 +2,12 @@
 from __future__ import annotations
 
 import threading
-from collections.abc import Callable, Mapping, Sequence, Set as AbstractSet
+from collections.abc import Callable, Sequence, Set as AbstractSet
 from typing import NamedTuple
 
 from .clocks import SECOND, nanoseconds_of_boot, slept, wall_clock
 from .epochs import Opening
-from .logs import Found, Holder, Wanted, are_idle
+from .logs import Found, Holder, Lives, Wanted, are_idle
 from .member import Life, Promise, Until
 from .orders import Orders
 from .stored import no_epoch, rows_text, see_end
@@ -160,11 +160,9 @@ class MemoryLog:
             self._seen.wanted, self._seen.idle = found.wanted, (self._end(), found.idle(self._end()))
             return found
 
-    def wait(
-        self, epoch: int, place: int, lives: Mapping[str, Life], until: Until, seconds: float, woken: int | None = None
-    ) -> None:
-        if woken is not None:  # it is looked at now and then
-            seconds = 0.0 if slept(0.0, woken) else min(seconds, PART)
+    def wait(self, epoch: int, place: int, lives: Lives, until: Until, seconds: float, wake: int | None = None) -> None:
+        if wake is not None:  # it is looked at now and then
+            seconds = 0.0 if slept(0.0, wake) else min(seconds, PART)
         end, wanted = self.clock() + int(seconds * SECOND), getattr(self._seen, 'wanted', (None, Orders()))
         known: tuple[Promise, frozenset[str]] = getattr(self._seen, 'idle', (Promise(), frozenset()))
         before = known[1] if known[0] == Promise(epoch, place) else frozenset()
@@ -174,7 +172,7 @@ class MemoryLog:
                 self._changed.wait(max(0, min([end, *ends]) - self.clock()) / SECOND)
 
     def has_news(
-        self, epoch: int, place: int, lives: Mapping[str, Life], wanted: Wanted, until: Until, before: AbstractSet[str]
+        self, epoch: int, place: int, lives: Lives, wanted: Wanted, until: Until, before: AbstractSet[str]
     ) -> bool:
         """Whether a wait is over behind a look that found this wish, these orders, and these idle up to that place."""
         with self._changed:

@@ -11,7 +11,7 @@ import re
 import sqlite3
 import stat
 import time
-from collections.abc import Iterator, Mapping, Sequence
+from collections.abc import Iterator, Sequence
 from contextlib import closing, contextmanager, suppress
 from pathlib import Path
 from typing import NamedTuple
@@ -21,8 +21,8 @@ from .clocks import SECOND, nanoseconds_of_boot, slept, wall_clock
 from .epochs import Opening
 from .guard import is_stopped, writer_of
 from .logs import (
-    BadPresence, DamagedLog, DiskFull, ForeignLog, Found, Holder, LogBusy, LogExists, NoLog, OtherLog, ReadOnlyLog,
-    Unanswered, are_idle,
+    BadPresence, DamagedLog, DiskFull, ForeignLog, Found, Holder, Lives, LogBusy, LogExists, NoLog, OtherLog,
+    ReadOnlyLog, Unanswered, are_idle,
 )  # fmt: skip
 from .member import Life, Promise, Until
 from .orders import Orders
@@ -444,9 +444,7 @@ class SqliteLog:
         self._lives, self._earliest = standing.lives, min((until for *_, until in found), default=NEVER)
         return presences
 
-    def wait(
-        self, epoch: int, place: int, lives: Mapping[str, Life], until: Until, seconds: float, woken: int | None = None
-    ) -> None:
+    def wait(self, epoch: int, place: int, lives: Lives, until: Until, seconds: float, wake: int | None = None) -> None:
         """Without news the next wait goes on at the pace of this one: what comes is often soon followed by more."""
         end = nanoseconds_of_boot() + int(seconds * SECOND)
         self._version = self._promises = -1
@@ -455,12 +453,12 @@ class SqliteLog:
             if now >= end:
                 return
             presence = max(SHORTEST_SLEEP, (self._earliest - now) / SECOND)
-            if slept(min(self._sleep, (end - now) / SECOND, presence), woken):
+            if slept(min(self._sleep, (end - now) / SECOND, presence), wake):
                 break
             self._sleep = min(2 * self._sleep, LONGEST_SLEEP)
         self._sleep = SHORTEST_SLEEP
 
-    def _is_news(self, here: Promise, lives: Mapping[str, Life], until: Until) -> bool:
+    def _is_news(self, here: Promise, lives: Lives, until: Until) -> bool:
         """Whether what `wait` waits for has come. Nothing but a commit and a presence's end can bring it."""
         if nanoseconds_of_boot() >= self._sight:
             self._see_files()
