@@ -53,9 +53,8 @@ class Calls:
         epoch = max(1, memory.epoch + choice.choice([-1, -1, 0, 1]) * is_odd)
         place = max(0, len(memory.rows) + choice.choice([-2, -1, 0, 1]) * is_odd)
         promise, rows = Promise(epoch, place), [f'{name},{number}' for number in range(choice.randint(1, 4))]
-        wish = Opening(
-            epoch + 1, 'bully,1,3,6', choice.choice([('a', 'b', 'c'), ('c', 'd', 'e')]), choice.choice([66, 500])
-        )
+        names, limit = choice.choice([('a', 'b', 'c'), ('c', 'd', 'e')]), choice.choice([66, 500])
+        wish = Opening(epoch + 1, 'bully,1,3,6', names, limit)
         opening = self._opening().next(choice.choice([memory.wish, memory.wish, None, wish]), (1, 2, 3, 1, 2, 0))
         orders, before = (
             Orders(frozenset(choice.sample('abc', 1)), choice.choice([None, {'a': life}])) for _ in range(2)

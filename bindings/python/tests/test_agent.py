@@ -245,6 +245,17 @@ class Agents(unittest.TestCase):
             agent.replied(f'tell,{agent.node},{agent.number},yes')
 
 
+# Lines that are no requests, by what they are refused as.
+BAD_REQUESTS: dict[type, list[str | bytes]] = {
+    bully.LineWord: ['', 'tell,2,0,yes', 'asks,2,0,1,halt', ' ask,2,0,1,halt', '\u00e9', '\ud800', b'ask\xff'],
+    bully.LineCaller: ['ask', 'ask,', 'ask,3,0,1,halt', 'ask,0,0,1,halt', 'ask,02,0,1,halt', 'ask,x,0,1,halt'],
+    bully.LineNumber: ['ask,2', 'ask,2,,1,halt', 'ask,2,00,1,halt', 'ask,2,1000000,1,halt', 'ask,2,-1,1,halt'],
+    bully.LineCallee: ['ask,2,0', 'ask,2,0,3,halt', 'ask,2,0,0,halt', 'ask,2,0,,halt'],
+    bully.LineKind: ['ask,2,0,1', 'ask,2,0,1,Halt', 'ask,2,0,1,halt,1 1 1', 'ask,2,0,1,halt\n', 'ask,2,0,1,halt '],
+    bully.LineTable: ['ask,2,0,1,ready', 'ask,2,0,1,ready,1 1', 'ask,2,0,1,ready,1 1 3', 'ask,2,0,1,ready,1  1 1'],
+}
+
+
 class AgentFaults(unittest.TestCase):
     """Each exception of an agent's calls, which change nothing then."""
 
@@ -343,47 +354,7 @@ class AgentFaults(unittest.TestCase):
 
     def test_requests(self) -> None:
         with recovered(TWO, 1) as agent:
-            wrong: dict[type, list[str | bytes]] = {
-                bully.LineWord: [
-                    '',
-                    'tell,2,0,yes',
-                    'asks,2,0,1,halt',
-                    ' ask,2,0,1,halt',
-                    '\u00e9',
-                    '\ud800',
-                    b'ask\xff',
-                ],
-                bully.LineCaller: [
-                    'ask',
-                    'ask,',
-                    'ask,3,0,1,halt',
-                    'ask,0,0,1,halt',
-                    'ask,02,0,1,halt',
-                    'ask,x,0,1,halt',
-                ],
-                bully.LineNumber: [
-                    'ask,2',
-                    'ask,2,,1,halt',
-                    'ask,2,00,1,halt',
-                    'ask,2,1000000,1,halt',
-                    'ask,2,-1,1,halt',
-                ],
-                bully.LineCallee: ['ask,2,0', 'ask,2,0,3,halt', 'ask,2,0,0,halt', 'ask,2,0,,halt'],
-                bully.LineKind: [
-                    'ask,2,0,1',
-                    'ask,2,0,1,Halt',
-                    'ask,2,0,1,halt,1 1 1',
-                    'ask,2,0,1,halt\n',
-                    'ask,2,0,1,halt ',
-                ],
-                bully.LineTable: [
-                    'ask,2,0,1,ready',
-                    'ask,2,0,1,ready,1 1',
-                    'ask,2,0,1,ready,1 1 3',
-                    'ask,2,0,1,ready,1  1 1',
-                ],
-            }
-            for fault, lines in wrong.items():
+            for fault, lines in BAD_REQUESTS.items():
                 for line in lines:
                     self.expect(agent, fault, lambda: agent.serve(line))
             strange = ['ask,2,0,2,are-you-up', 'ask,1,0,1,are-you-up']
