@@ -277,7 +277,8 @@ def become(words: list[str], environment: list[bytes], pipes: Sequence[int], par
         parts = [entry.partition(b'=') for entry in environment]
         os.execvpe(words[0], words, {**os.environb, **{name: value for name, _, value in parts}})
     except OSError as error:
-        sys.stderr.write(f'bully: {words[0]}: {error.strerror}\n')
+        word = ''.join(each if each.isprintable() else '?' for each in words[0])
+        sys.stderr.write(f'bully: {word}: {error.strerror}\n')
         sys.stderr.flush()
     finally:
         os._exit(127)

@@ -9,16 +9,21 @@ import select
 import threading
 from contextlib import suppress
 
+from .settings import shown_name
+
 WAITING_MAX = 1000  # messages that wait to be written; of more the newest are left out
 LAST_SECONDS = 1.0  # for which it is waited at the end, until all are written
 STANDARD_ERROR = 2
 
 
 class Lines(logging.Formatter):
-    """Each message as a line for people."""
+    """Each message as a line for people: so also one with a name or a path of others."""
 
     def __init__(self) -> None:
         super().__init__('%(asctime)s bully-member: %(message)s')
+
+    def formatMessage(self, record: logging.LogRecord) -> str:
+        return shown_name(super().formatMessage(record))
 
 
 class JsonLines(logging.Formatter):

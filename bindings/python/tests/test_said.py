@@ -62,6 +62,12 @@ class Said(unittest.TestCase):
         self.assertGreaterEqual(len(lines), messages.WAITING_MAX)
         self.assertRegex(told, f' bully-member: {1500 - len(lines)} messages were left out, since nobody read them$')
 
+    def test_one_line(self) -> None:
+        """What can't be printed of a name or a path in it ends no line, and turns nothing."""
+        strange = {'levelname': 'WARNING', 'msg': 'node %s: %s', 'args': ('a\x1b[2J\nb', '/c\u202ed: busy')}
+        said = messages.Lines().format(logging.makeLogRecord(strange))
+        self.assertRegex(said, r' bully-member: node a\?\[2J\?b: /c\?d: busy$')
+
 
 class Blocked(MemoryLog):
     """A log in which nobody looks while `goes_on` isn't set."""
