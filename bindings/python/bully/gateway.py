@@ -335,7 +335,7 @@ class Client:
         found = [each['response_range'] for each in answer.get('responses', ()) if 'response_range' in each]
         revision, term = int(answer['header']['revision']), int(answer['header']['raft_term'])
         if revision < self.seen[0] or term < self.seen[1]:
-            was, now = 'revision {} and term {}'.format(*self.seen), f'{revision} and {term}'
+            was, now = f'revision {self.seen[0]} and term {self.seen[1]}', f'{revision} and {term}'
             back = 'it went back, as one does that is restored'
             raise DamagedLog(f'{self.endpoint}: etcd was at {was}, and is at {now}: {back}')
         self.seen = revision, term
