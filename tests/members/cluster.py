@@ -44,15 +44,11 @@ class Weather:
 def weather_of(choice: random.Random) -> Weather:
     """The weather of a seed."""
     return Weather(
-        ttl=choice.choice([1.0, 1.0, 0.7, 1.4]),
-        late=choice.choice([0, 0.1, 0.5]),
-        losses=choice.choice([0.1, 0.3, 0.8]),
-        leaderless=choice.choice([0.05, 0.5, 2]),
-        stale=choice.choice([0.3, 1.5, 4]),
-        lag=choice.choice([0, 0.1, 0.5]),
-        watch_late=choice.choice([0, 0.1, 0.5]),
+        ttl=choice.choice([1.0, 1.0, 0.7, 1.4]), late=choice.choice([0, 0.1, 0.5]),
+        losses=choice.choice([0.1, 0.3, 0.8]), leaderless=choice.choice([0.05, 0.5, 2]),
+        stale=choice.choice([0.3, 1.5, 4]), lag=choice.choice([0, 0.1, 0.5]), watch_late=choice.choice([0, 0.1, 0.5]),
         watch_broken=choice.choice([0, 0.1, 0.5]),
-    )
+    )  # fmt: skip
 
 
 class Version(NamedTuple):

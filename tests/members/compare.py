@@ -111,12 +111,9 @@ class Pair:
         """Ranges, the same ones for both."""
         choice = random.Random(f'{self.cluster.keys.revision} {seed}')
         options: list[Json] = [
-            {},
-            {'keys_only': True},
-            {'limit': 2},
-            {'count_only': True},
+            {}, {'keys_only': True}, {'limit': 2}, {'count_only': True},
             {'sort_order': 'DESCEND', 'sort_target': 'KEY'},
-        ]
+        ]  # fmt: skip
         options.append({'min_mod_revision': str(max(0, self.cluster.keys.revision - choice.randint(-1, 9)))})
         return [
             {

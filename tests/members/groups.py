@@ -16,10 +16,10 @@ from bully.command import parser
 from bully.logs import Log, Unanswered
 from bully.stores import store_of
 from bully.view import GroupView, LogView
+from tests.places import environment
 from .processes import children, close_all, own_memory, processor_seconds, send_all, workers_of
 from .tables import kept, most_kept, owners_by_name
 
-ROOT = Path(__file__).resolve().parents[2]
 HERE = Path(__file__).resolve().parent
 NAMES = 'abcde'
 PARTITIONS = 20
@@ -133,22 +133,12 @@ class Group:
 
     def command(self, name: str, *more: str, member: str = '') -> subprocess.Popen[bytes]:
         """Starts `bully-member`, where the member is, if one is named."""
-        environment = {**os.environ, 'PYTHONPATH': str(ROOT / 'bindings' / 'python')}
         within = self.within(member) if member else ()
         words = [
-            *within,
-            sys.executable,
-            '-W',
-            'error',
-            '-m',
-            'bully.command',
-            name,
-            '--log',
-            self.stores[member],
-            *more,
-        ]
+            *within, sys.executable, '-W', 'error', '-m', 'bully.command', name, '--log', self.stores[member], *more,
+        ]  # fmt: skip
         with open(self.said(member or name), 'ab') as said:
-            return subprocess.Popen(words, env=environment, stdout=said, stderr=said)
+            return subprocess.Popen(words, env=environment(), stdout=said, stderr=said)
 
     def said(self, name: str) -> Path:
         """The file of what a member, or another command, says."""
@@ -157,16 +147,8 @@ class Group:
     def begin(self, name: str) -> None:
         """A process for the node."""
         more = [
-            '--config',
-            str(self.config),
-            '--node',
-            name,
-            '--ttl',
-            str(self.ttl),
-            *self.words,
-            '--',
-            *self.work.worker,
-        ]
+            '--config', str(self.config), '--node', name, '--ttl', str(self.ttl), *self.words, '--', *self.work.worker,
+        ]  # fmt: skip
         self.members[name] = self.command('run', *more, member=name)
 
     def begin_all(self, names: Sequence[str] = NAMES) -> None:

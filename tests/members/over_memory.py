@@ -172,12 +172,9 @@ class LogMember(Member):
         super().__init__(simulation, name, number, terms)
         self.log = self.opened()
         self.opening = Opening(
-            terms.epoch,
-            simulation.store.epoch.header,
-            simulation.store.epoch.settings.names,
-            terms.rows_max,
+            terms.epoch, simulation.store.epoch.header, simulation.store.epoch.settings.names, terms.rows_max,
             terms.old or (),
-        )
+        )  # fmt: skip
 
     def opened(self) -> logs.Log:
         """The log that it asks."""

@@ -31,6 +31,7 @@ import sys
 from collections import Counter
 from pathlib import Path
 
+from tests.places import ROOT
 from . import proved
 from .exploring import ALL, CONDITIONS, WHOLE, Bounds, Explorer
 from .lockstep import Both, refused_alike, tell_anything
@@ -41,7 +42,6 @@ from .settled import BROKEN, prefix_cases, random_cases, rest_differs, try_case
 from .settling import Simulation
 from .trouble import TROUBLES
 
-ROOT = Path(__file__).resolve().parents[2]
 
 SEEDS, RESTARTS, LOGS, SETS, ANY, STATES = (1, 200), 10, 300, 2, 300, 50_000
 ENOUGH = 100  # seeds, among which each kind of trouble has to be

@@ -215,10 +215,7 @@ def among_others(
 
 
 BROKEN: dict[str, Settler] = {
-    'leaves out a crash': changed(without_a_crash),
-    'leaves out the last move': changed(without_its_last_move),
-    'takes too many rows': changed(with_more_crashes),
-    'forgets the old table': changed(without_old_tables),
-    'plans over who is gone': changed(with_an_owner_that_is_gone),
-    'settles among who is up': among_others,
-}
+    'leaves out a crash': changed(without_a_crash), 'leaves out the last move': changed(without_its_last_move),
+    'takes too many rows': changed(with_more_crashes), 'forgets the old table': changed(without_old_tables),
+    'plans over who is gone': changed(with_an_owner_that_is_gone), 'settles among who is up': among_others,
+}  # fmt: skip

@@ -49,12 +49,8 @@ class Trouble:
         ):  # all is well but for these, for wishes that are taken back, and for slow requests of one kind
             self.deaths, self.joins, self.leaves, self.cuts, self.short = 0.3, 1.0, 0.0, 0.0, choice.choice([0.0, 0.7])
             self.lost, self.unanswered, self.slow, self.wishes, self.withdrawn = (
-                0.0,
-                0.0,
-                0.1,
-                choice.choice([0.0, 1.5]),
-                0.9,
-            )
+                0.0, 0.0, 0.1, choice.choice([0.0, 1.5]), 0.9,
+            )  # fmt: skip
             self.nodes, self.slowest = choice.choice([1, 2, 3]), choice.choice([Request.TAKE, Request.BE_IDLE])
             self.patience = choice.choice([0.2, 3.0])
 

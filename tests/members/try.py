@@ -105,13 +105,9 @@ def main() -> int:
         store = address_of_etcd(closing) if options.store == 'etcd' else f'sqlite:{folder / "group.db"}'
         stores = dict.fromkeys(['', *NAMES], store)
         group = Group(
-            folder,
-            stores,
-            options.ttl,
-            names=NAMES[:FEW],
-            partitions=PARTITIONS_OF_FEW,
+            folder, stores, options.ttl, names=NAMES[:FEW], partitions=PARTITIONS_OF_FEW,
             words=['--talk'] if options.talk else (),
-        )
+        )  # fmt: skip
         closing.callback(group.close)
         run(group, options)
     print(f'{group.passed} passed, {group.failed} failed')

@@ -23,9 +23,8 @@ from pathlib import Path
 from typing import NamedTuple
 
 from bully.guard import adopt, end_children
+from tests.places import PYTHON, ROOT
 
-ROOT = Path(__file__).resolve().parents[2]
-PYTHON = ROOT / 'bindings' / 'python'
 BUGS = Path(__file__).with_name('wrong-bodies.txt')
 LONGEST = 400.0  # seconds that a test takes at most, with what it cleans up
 RUN = """

@@ -306,19 +306,9 @@ def make_certificates(folder: Path) -> None:
     key = ['-newkey', 'ec', '-pkeyopt', 'ec_paramgen_curve:prime256v1', '-nodes']
     for name in ('mine', 'other'):
         openssl(
-            'req',
-            *key,
-            '-new',
-            '-x509',
-            '-days',
-            '2',
-            '-subj',
-            f'/CN={name}',
-            '-keyout',
-            f'{name}.key',
-            '-out',
+            'req', *key, '-new', '-x509', '-days', '2', '-subj', f'/CN={name}', '-keyout', f'{name}.key', '-out',
             f'{name}.pem',
-        )
+        )  # fmt: skip
     for name, place in (('server', 'IP:127.0.0.1'), ('elsewhere', 'DNS:elsewhere.example'), ('client', 'DNS:client')):
         openssl('req', *key, '-new', '-subj', f'/CN={name}', '-keyout', f'{name}.key', '-out', f'{name}.csr')
         (folder / 'more').write_text(f'subjectAltName = {place}\n')

@@ -109,22 +109,9 @@ class Laws(Tests):
         """They are told apart, whatever is in them."""
         log, other = self.pair()
         names = [
-            'a',
-            'a/b',
-            'a/',
-            '/',
-            'life/a',
-            'promise',
-            'größer',
-            ' ',
-            'a\nb',
-            '\U0001f600',
-            "'",
-            '"',
-            '%',
-            'A',
+            'a', 'a/b', 'a/', '/', 'life/a', 'promise', 'größer', ' ', 'a\nb', '\U0001f600', "'", '"', '%', 'A',
             'x' * 200,
-        ]
+        ]  # fmt: skip
         for number, name in enumerate(names):
             self.assertTrue(log.take(name, Life(number, number), EMPTY, self.LONG), name)
         for name in names[::2]:
@@ -144,19 +131,8 @@ class Laws(Tests):
         self.assertTrue(log.take('a', A, EMPTY, self.LONG))
         most = EMPTY
         told = [
-            (1, 12),
-            (1, 3),
-            (1, 9),
-            (1, 13),
-            (2, 2),
-            (1, 999_999),
-            (2, 1),
-            (2, 10),
-            (2, 9),
-            (10, 0),
-            (9, 5),
-            (3, 100),
-        ]
+            (1, 12), (1, 3), (1, 9), (1, 13), (2, 2), (1, 999_999), (2, 1), (2, 10), (2, 9), (10, 0), (9, 5), (3, 100),
+        ]  # fmt: skip
         for place in told:
             self.assertTrue((log, other)[place[1] % 2].promise('a', A, Promise(*place)))
             most = max(most, Promise(*place))

@@ -313,14 +313,8 @@ class AgentFaults(unittest.TestCase):
     def test_full(self) -> None:
         with Agent(Setup(2, 3, 4), 2, 4) as agent:
             own = (
-                agent.recover,
-                agent.crash,
-                agent.check,
-                agent.timeout,
-                agent.start,
-                agent.advance,
-                agent.drop_orphan,
-            )
+                agent.recover, agent.crash, agent.check, agent.timeout, agent.start, agent.advance, agent.drop_orphan,
+            )  # fmt: skip
             self.expect(agent, bully.Full, *own, lambda: agent.plan([2, 2, 2]), lambda: agent.failed(0))
             self.expect(
                 agent, bully.Full, lambda: agent.serve('ask,1,0,2,are-you-up'), lambda: agent.replied('tell,2,0,yes')
@@ -402,19 +396,9 @@ class AgentFaults(unittest.TestCase):
         self.expect(agent, bully.Closed, lambda: agent.plan([1, 1, 1]), lambda: agent.serve('ask,2,0,1,halt'))
         self.expect(agent, bully.Closed, lambda: agent.replied('tell,1,1,yes'), lambda: agent.failed(1))
         shows = (
-            'state',
-            'status',
-            'coordinator',
-            'halter',
-            'up',
-            'task',
-            'wants',
-            'call',
-            'number',
-            'events',
-            'generation',
+            'state', 'status', 'coordinator', 'halter', 'up', 'task', 'wants', 'call', 'number', 'events', 'generation',
             'node',
-        )
+        )  # fmt: skip
         for name in shows:
             self.expect(agent, bully.Closed, lambda: getattr(agent, name))
         with self.assertRaises(bully.Closed):

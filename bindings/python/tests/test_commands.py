@@ -348,15 +348,9 @@ class Commands(InFolder):
             (None, 'd', 'the group has no node d'),
         ):
             words = [
-                'run',
-                '--log',
-                f'sqlite:{self.path}',
-                *(['--config', str(path)] if path else []),
-                '--node',
-                node,
-                '--',
+                'run', '--log', f'sqlite:{self.path}', *(['--config', str(path)] if path else []), '--node', node, '--',
                 'true',
-            ]
+            ]  # fmt: skip
             status, _, said = call(*words)
             self.assertEqual(status, 3 if path else 5)
             self.assertIn(told, said)

@@ -65,18 +65,9 @@ class Settling(unittest.TestCase):
 
     def test_one_of_two_is_left(self) -> None:
         wanted = [
-            'crash,1',
-            'recover,1',
-            'crash,2',
-            'start,1',
-            'lose,1',
-            'return,1',
-            'move,1',
-            'move,1',
-            'move,1',
-            'plan,1,1 1',
-            'move,1',
-        ]
+            'crash,1', 'recover,1', 'crash,2', 'start,1', 'lose,1', 'return,1', 'move,1', 'move,1', 'move,1',
+            'plan,1,1 1', 'move,1',
+        ]  # fmt: skip
         with Replica(TWO) as replica:
             replica.learn(settled('1 2'))
             self.assertEqual(replica.settle([1], [2, 2]), wanted)  # (a log with a plan plans from that)
@@ -344,12 +335,8 @@ class Stories(unittest.TestCase):
         self.core.close()
         self.assertEqual((repr(self.core), self.core.is_closed), ('<Core closed>', True))
         calls: list[Callable[[], object]] = [
-            lambda: self.core.next(0),
-            self.core.settlement,
-            self.core.woke,
-            self.core.close,
-            lambda: self.core.place,
-        ]
+            lambda: self.core.next(0), self.core.settlement, self.core.woke, self.core.close, lambda: self.core.place,
+        ]  # fmt: skip
         for closed in calls:
             with self.assertRaises(bully.Closed):
                 closed()

@@ -325,13 +325,9 @@ class Contents(InEtcd):
 
     def test_no_presences(self) -> None:
         cases = (
-            ('life/b', '1.2'),
-            ('life/a', 'x'),
-            ('life/a', '1'),
-            ('promise/a', ''),
-            ('promise/a', '1'),
+            ('life/b', '1.2'), ('life/a', 'x'), ('life/a', '1'), ('promise/a', ''), ('promise/a', '1'),
             ('promise/b', 'x'),
-        )
+        )  # fmt: skip
         for number, (key, value) in enumerate(cases):
             with self.subTest(key=key, value=value):
                 log = self.begun(f'{self.address}/{number}')

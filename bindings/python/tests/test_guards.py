@@ -368,17 +368,9 @@ class Guards(Below):
         if os.getuid() != 0:
             self.skipTest('only root can have clocks of its own')
         words = [
-            'unshare',
-            '--time',
-            '--boottime',
-            '1000000',
-            '--fork',
-            '--kill-child',
-            sys.executable,
-            '-c',
-            CLOCKS,
+            'unshare', '--time', '--boottime', '1000000', '--fork', '--kill-child', sys.executable, '-c', CLOCKS,
             str(self.folder / 'group.db'),
-        ]
+        ]  # fmt: skip
         ran = subprocess.run(words, env=environment(), stdout=subprocess.PIPE, text=True, check=True, timeout=PATIENCE)
         self.assertEqual(ran.stdout, 'not yet\nlost\nTrue\n')
 

@@ -70,13 +70,8 @@ class Processes(InFolder):
         self.assertEqual(token.epoch, 1)
         self.assertTrue(rows[token.events - 1].startswith('plan,1,'))
         settings_told = {
-            'names': ['the only'],
-            'weights': [3],
-            'partitions': 6,
-            'keep': False,
-            'ttl': 2.0,
-            'margin': 0.4,
-        }
+            'names': ['the only'], 'weights': [3], 'partitions': 6, 'keep': False, 'ttl': 2.0, 'margin': 0.4,
+        }  # fmt: skip
         self.assertEqual(json.loads(told['BULLY_SETTINGS']), settings_told)
         self.assertEqual(member.end(), 0)
         self.assertFalse(is_running(worker))
@@ -455,17 +450,9 @@ os.kill(os.getpid(), signal.SIGSTOP)
         begun.kill()
         (self.folder / 'begun').unlink(missing_ok=True)
         words = [
-            'unshare',
-            '--pid',
-            '--fork',
-            '--kill-child',
-            '--mount-proc',
-            'sh',
-            '-c',
-            '"$@"; exit 7',
-            'sh',
+            'unshare', '--pid', '--fork', '--kill-child', '--mount-proc', 'sh', '-c', '"$@"; exit 7', 'sh',
             *begun.words,
-        ]
+        ]  # fmt: skip
         container = started(self.folder, words)
         self.addCleanup(container.wait, PATIENCE)
         self.addCleanup(container.kill)

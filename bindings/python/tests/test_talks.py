@@ -193,20 +193,9 @@ class Talks(Below):
         channel, given = socket.socketpair(socket.AF_UNIX, socket.SOCK_SEQPACKET)
         with channel, given, open(self.folder / 'said', 'wb') as said:
             words = [
-                sys.executable,
-                '-I',
-                '-S',
-                GUARD,
-                str(given.fileno()),
-                '0.2',
-                'talks',
-                '',
-                '1.0',
-                'sh',
-                '-c',
-                worker,
+                sys.executable, '-I', '-S', GUARD, str(given.fileno()), '0.2', 'talks', '', '1.0', 'sh', '-c', worker,
                 str(child),
-            ]
+            ]  # fmt: skip
             guard = subprocess.Popen(words, stdin=subprocess.DEVNULL, stderr=said, pass_fds=[given.fileno()])
             self.addCleanup(guard.kill)
             given.close()
