@@ -1,21 +1,22 @@
 """Logs of `bully.etcd` over a simulated etcd: their calls are done request by request, in simulated time.
 
-A call begins anew with each answer: all that was answered before is told to it again, and it stops at the first request that has no
-answer yet. So it may not change what it begins with before its last answer, and none does.
+A call begins anew with each answer: all that was answered before is told to it again, and it stops at the first request
+that has no answer yet. So it may not change what it begins with before its last answer, and none does.
 """
 from __future__ import annotations
 
-from typing import AbstractSet, Callable, Dict, List, Mapping, NamedTuple, Optional, Tuple, TypeVar, Union
+from collections.abc import Callable, Mapping, Set as AbstractSet
+from typing import NamedTuple, TypeVar
 from unittest import mock
 
 from bully import etcd
 from bully.epochs import Opening
 from bully.etcd import EtcdLog, place_text
 from bully.gateway import Address, Client, Json, Refusal, Silent, behind
-from bully.logs import Wanted, are_idle, orders_of
+from bully.logs import Wanted, are_idle
 from bully.member import Life, Promise, Until
-from bully.sqlite import life_text
-from cluster import SERVERS, Cluster, Outcome
+from bully.stored import life_text, orders_of
+from .cluster import SERVERS, Cluster, Outcome
 
 ADDRESS = f'etcd://{",".join(map(str, SERVERS))}/group'
 
@@ -43,10 +44,10 @@ class Pending(BaseException):
 class Journal:
     """What a call has seen up to now: moments, and what became of its requests."""
 
-    def __init__(self, clock: Callable[[], float], turn: int, seen: Tuple[int, int]) -> None:
+    def __init__(self, clock: Callable[[], float], turn: int, seen: tuple[int, int]) -> None:
         self.turn, self.seen = turn, seen  # the server that was asked first, and what was known then
         self._clock = clock
-        self._seen: List[Union[float, Outcome]] = []
+        self._seen: list[float | Outcome] = []
         self._place = 0
 
     def rewind(self) -> None:
@@ -69,7 +70,7 @@ class Journal:
         assert not isinstance(outcome, float)
         return outcome
 
-    def _next(self) -> Union[float, Outcome]:
+    def _next(self) -> float | Outcome:
         self._place += 1
         return self._seen[self._place - 1]
 
@@ -80,7 +81,7 @@ class Asking(Client):
     def __init__(self, cluster: Cluster, address: Address, patience: float, first: int) -> None:
         super().__init__(address, patience, None, '', '')
         self.cluster = cluster
-        self.journal: Optional[Journal] = None
+        self.journal: Journal | None = None
         self.reads_alone = False  # servers may tell by themselves what is read
         self._turn = first
 
@@ -133,30 +134,32 @@ class KeptLog(EtcdLog):
         return self._client
 
     def wait(
-        self, epoch: int, place: int, lives: Mapping[str, Life], until: Until, seconds: float, woken: Optional[int] = None,
+        self, epoch: int, place: int, lives: Mapping[str, Life], until: Until, seconds: float, woken: int | None = None,
     ) -> None:  # fmt: skip
         """Nobody waits by this."""
 
     def has_news(
         self, epoch: int, place: int, lives: Mapping[str, Life], wanted: Wanted, until: Until, before: AbstractSet[str],
     ) -> bool:  # fmt: skip
-        """Whether a wait is over before its time behind a look that found this wish and these orders, and these idle: of etcd as it is, whatever
-        a server knows."""
+        """Whether a wait is over before its time behind a look that found this wish and these orders, and these idle:
+        of etcd as it is, whatever a server knows."""
         there, here = self.client.cluster.keys, place_text(Promise(epoch, place)).encode()
         end, wished = there.get(self._keys.place).value, there.get(self._keys.next).value
         orders = orders_of(self.address, there.get(self._keys.orders).value)
         if end != here or (None if wished is None else Opening.parse(wished.decode()), orders) != wanted:
             return True
         told = {name.encode(): life_text(life).encode() for name, life in lives.items()}
-        return self._below(self._keys.lives) != told or are_idle(until, self._below(self._keys.promises), here, {name.encode() for name in before})
+        return self._below(self._keys.lives) != told or are_idle(
+            until, self._below(self._keys.promises), here, {name.encode() for name in before}
+        )
 
-    def _below(self, prefix: bytes) -> Dict[bytes, Optional[bytes]]:
+    def _below(self, prefix: bytes) -> dict[bytes, bytes | None]:
         """The values of all keys that begin so, by what is behind that."""
         found = self.client.cluster.keys.found(prefix, behind(prefix))
         return {key[len(prefix) :]: version.value for key, version in found}
 
 
-def opened(cluster: Cluster, kind: 'type[KeptLog]', patience: float, first: int) -> KeptLog:
+def opened(cluster: Cluster, kind: type[KeptLog], patience: float, first: int) -> KeptLog:
     """The log of the cluster, by a client that asks this server first."""
     with mock.patch.object(etcd, 'Client', lambda address, *_: Asking(cluster, address, patience, first)):
         log = kind(ADDRESS)

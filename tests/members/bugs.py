@@ -2,21 +2,25 @@
 from __future__ import annotations
 
 import random
+from collections.abc import Mapping, Sequence, Set as AbstractSet
 from dataclasses import replace
-from typing import AbstractSet, Dict, List, Mapping, NamedTuple, Optional, Sequence, Type
+from typing import NamedTuple
 
-import planted
-from asking import KeptLog
 from bully.epochs import Opening
 from bully.etcd import Held, place_text, same
-from bully.gateway import Json, Pair, number_is, one, pairs_of, put, value_is, value_of
-from bully.logs import Found, Holder, MemoryLog, Unanswered, Wanted, rows_text
+from bully.gateway import Json, Pair, number_is, pairs_of, put_at, range_at, value_is, value_of
+from bully.logs import Found, Holder, Unanswered, Wanted
 from bully.member import Core, Life, Promise, Request, Seen, Until
+from bully.memory import MemoryLog
 from bully.orders import Orders
-from bully.sqlite import life_text
-from over_etcd import OverEtcd
-from over_memory import MemoryStore, OverMemory
-from settling import Maker, Ordered, Simulation, Trouble
+from bully.stored import life_text, rows_text
+from . import planted
+from .asking import KeptLog
+from .driven import Maker
+from .over_etcd import OverEtcd
+from .over_memory import MemoryStore, OverMemory
+from .settling import Simulation
+from .trouble import Ordered, Trouble
 
 
 # ---- Logs in memory.
@@ -92,7 +96,11 @@ class PromisesForAnybody(BrokenLog):
 
     def promise(self, name: str, life: Life, promise: Promise) -> bool:
         holder = self.presences.get(name)
-        return super().promise(name, holder.life if holder else life, promise) and holder is not None and holder.life == life
+        return (
+            super().promise(name, holder.life if holder else life, promise)
+            and holder is not None
+            and holder.life == life
+        )
 
 
 class PromisesFall(BrokenLog):
@@ -208,7 +216,8 @@ class MeetsNoStranger(Core):
 
 
 class PromisesUnderLease(KeptLog):
-    """A promise names the lease that its life has when it is asked for: one that comes late puts it under an old one, and it is lost with that."""
+    """A promise names the lease that its life has when it is asked for: one that comes late puts it under an old one,
+    and it is lost with that."""
 
     def promise(self, name: str, life: Life, promise: Promise) -> bool:
         self._client.begin()
@@ -216,7 +225,12 @@ class PromisesUnderLease(KeptLog):
         is_held = value_is(keys.life(name), life_text(life).encode())
         is_later = {**value_is(keys.promise(name), told.encode()), 'result': 'LESS'}
         under = {'lease': str(self._held.lease)} if self._held is not None else {}
-        answer = self._change([is_held, is_later], [put(keys.promise(name), told, **under)], one(keys.life(name)), one(keys.promise(name)))
+        answer = self._change(
+            [is_held, is_later],
+            [put_at(keys.promise(name), told, **under)],
+            range_at(keys.life(name)),
+            range_at(keys.promise(name)),
+        )
         if answer.is_done:
             return True
         holder, promised = map(value_of, answer.ranges)
@@ -228,8 +242,8 @@ class MovesLifeAlone(KeptLog):
 
     def _move(self, name: str, found: Pair, held: Held) -> bool:
         key = self._keys.life(name)
-        moved = [put(key, life_text(held.life), lease=str(held.lease))]
-        answer = self._change([number_is(key, 'mod_revision', found.modified)], moved, one(key))
+        moved = [put_at(key, life_text(held.life), lease=str(held.lease))]
+        answer = self._change([number_is(key, 'mod_revision', found.modified)], moved, range_at(key))
         if answer.is_done:
             self._held = held
         return answer.is_done
@@ -239,10 +253,13 @@ class MovesPromiseOn(KeptLog):
     """Under a new lease a presence has promised the end of the log."""
 
     def _move(self, name: str, found: Pair, held: Held) -> bool:
-        end = value_of(self._look(one(self._keys.place)).ranges[0]) or b''
+        end = value_of(self._look(range_at(self._keys.place)).ranges[0]) or b''
         key, under = self._keys.life(name), str(held.lease)
-        moved = [put(key, life_text(held.life), lease=under), put(self._keys.promise(name), end.decode(), lease=under)]
-        answer = self._change([number_is(key, 'mod_revision', found.modified)], moved, one(key))
+        moved = [
+            put_at(key, life_text(held.life), lease=under),
+            put_at(self._keys.promise(name), end.decode(), lease=under),
+        ]
+        answer = self._change([number_is(key, 'mod_revision', found.modified)], moved, range_at(key))
         if answer.is_done:
             self._held = held
         return answer.is_done
@@ -254,12 +271,15 @@ class TakesAnyPlaceThere(KeptLog):
     def take(self, name: str, life: Life, promise: Promise, ttl: int) -> bool:
         self._client.begin()
         keys = self._keys
-        answer = self._look(one(keys.life(name), keys_only=True), one(keys.place))
+        answer = self._look(range_at(keys.life(name), keys_only=True), range_at(keys.place))
         if answer.ranges[0].get('kvs') or (value_of(answer.ranges[1]) or b'')[:10] != place_text(promise).encode()[:10]:
             return False
         held = self._granted(life, ttl, answer.term)
         under = str(held.lease)
-        done = [put(keys.life(name), life_text(life), lease=under), put(keys.promise(name), place_text(promise), lease=under)]
+        done = [
+            put_at(keys.life(name), life_text(life), lease=under),
+            put_at(keys.promise(name), place_text(promise), lease=under),
+        ]
         is_done = self._change([number_is(keys.life(name), 'version', 0)], done).is_done
         if is_done:
             self._held = held
@@ -272,13 +292,13 @@ class TakesInTwoSteps(KeptLog):
     def take(self, name: str, life: Life, promise: Promise, ttl: int) -> bool:
         self._client.begin()
         keys = self._keys
-        held = self._granted(life, ttl, self._look(one(keys.place)).term)
+        held = self._granted(life, ttl, self._look(range_at(keys.place)).term)
         conditions = [number_is(keys.life(name), 'version', 0), value_is(keys.place, place_text(promise).encode())]
         under = str(held.lease)
-        is_done = self._change(conditions, [put(keys.life(name), life_text(life), lease=under)]).is_done
+        is_done = self._change(conditions, [put_at(keys.life(name), life_text(life), lease=under)]).is_done
         if is_done:
             self._held = held
-            self._change([], [put(keys.promise(name), place_text(promise), lease=under)])
+            self._change([], [put_at(keys.promise(name), place_text(promise), lease=under)])
         return is_done
 
 
@@ -288,7 +308,7 @@ class RenewsForAnybody(KeptLog):
     def renew(self, name: str, life: Life, ttl: int) -> bool:
         if super().renew(name, life, ttl):
             return True
-        return bool(pairs_of(self._look(one(self._keys.life(name))).ranges[0]))
+        return bool(pairs_of(self._look(range_at(self._keys.life(name))).ranges[0]))
 
 
 class RenewsAcrossGapThere(KeptLog):
@@ -298,10 +318,10 @@ class RenewsAcrossGapThere(KeptLog):
         if super().renew(name, life, ttl):
             return True
         keys = self._keys
-        answer = self._look(one(keys.place))
+        answer = self._look(range_at(keys.place))
         held = self._granted(life, ttl, answer.term)
         under, end = str(held.lease), (value_of(answer.ranges[0]) or b'').decode()
-        done = [put(keys.life(name), life_text(life), lease=under), put(keys.promise(name), end, lease=under)]
+        done = [put_at(keys.life(name), life_text(life), lease=under), put_at(keys.promise(name), end, lease=under)]
         is_done = self._change([number_is(keys.life(name), 'version', 0)], done).is_done
         if is_done:
             self._held = held
@@ -312,9 +332,15 @@ class ReleasesAnyLifeThere(KeptLog):
     """What is given back is gone, whoever holds it by then."""
 
     def release(self, name: str, life: Life) -> None:
-        found = pairs_of(self._look(one(self._keys.life(name))).ranges[0])
+        found = pairs_of(self._look(range_at(self._keys.life(name))).ranges[0])
         if found:
-            self._change([], [{'request_delete_range': one(self._keys.life(name))}, {'request_delete_range': one(self._keys.promise(name))}])
+            self._change(
+                [],
+                [
+                    {'request_delete_range': range_at(self._keys.life(name))},
+                    {'request_delete_range': range_at(self._keys.promise(name))},
+                ],
+            )
 
 
 class PromisesForAnybodyThere(KeptLog):
@@ -324,8 +350,12 @@ class PromisesForAnybodyThere(KeptLog):
         self._client.begin()
         keys, told = self._keys, place_text(promise).encode()
         is_later = {**value_is(keys.promise(name), told), 'result': 'LESS'}
-        kept = same(keys.promise(name), value=put(keys.promise(name), told.decode())['request_put']['value'], ignore_lease=True)
-        answer = self._change([is_later], [kept], one(keys.life(name)), one(keys.promise(name)))
+        kept = same(
+            keys.promise(name),
+            value=put_at(keys.promise(name), told.decode())['request_put']['value'],
+            ignore_lease=True,
+        )
+        answer = self._change([is_later], [kept], range_at(keys.life(name)), range_at(keys.promise(name)))
         if answer.is_done:
             return True
         holder, promised = map(value_of, answer.ranges)
@@ -335,14 +365,14 @@ class PromisesForAnybodyThere(KeptLog):
 class AppendsAnyPlaceThere(KeptLog):
     """Rows are appended where all have promised the place, whatever the log has by then."""
 
-    def _are_idle(self, epoch: int, place: int) -> List[Json]:
+    def _are_idle(self, epoch: int, place: int) -> list[Json]:
         return super()._are_idle(epoch, place)[1:]
 
 
 class AppendsAnywayThere(KeptLog):
     """Rows are appended, and epochs ended, whether all are idle or not."""
 
-    def _are_idle(self, epoch: int, place: int) -> List[Json]:
+    def _are_idle(self, epoch: int, place: int) -> list[Json]:
         return super()._are_idle(epoch, place)[:1]
 
 
@@ -374,7 +404,7 @@ class TrustsRenewals(KeptLog):
 class TakesStaleRenewals(KeptLog):
     """A renewal counts if the server that was asked was in the term of the grant, whatever came behind it."""
 
-    def _counts(self, held: Held, before: Optional[int], behind: int) -> bool:
+    def _counts(self, held: Held, before: int | None, behind: int) -> bool:
         return held.term == before
 
 
@@ -393,7 +423,7 @@ class ForgetsMoves(KeptLog):
 class KeepsLease(KeptLog):
     """It keeps its lease under another leader than that of the grant."""
 
-    def _counts(self, held: Held, before: Optional[int], behind: int) -> bool:
+    def _counts(self, held: Held, before: int | None, behind: int) -> bool:
         return before == behind
 
 
@@ -409,7 +439,9 @@ class SlowTakes(Trouble):
 
     def __init__(self, choice: random.Random) -> None:
         super().__init__(choice)
-        self.lost = self.unanswered = self.slow = self.cuts = self.pauses = self.ends = self.wishes = self.renewal_pauses = 0.0
+        self.lost = (
+            self.unanswered
+        ) = self.slow = self.cuts = self.pauses = self.ends = self.wishes = self.renewal_pauses = 0.0
         self.deaths, self.leaves, self.joins, self.short = 0.7, 0.0, 0.7, 0.0
         self.nodes, self.slowest, self.trip, self.patience, self.room = 1, Request.TAKE, 0.002, 3.0, 10_000
 
@@ -427,20 +459,23 @@ class SlowPromises(SlowTakes):
 
     def __init__(self, choice: random.Random) -> None:
         super().__init__(choice)
-        self.nodes, self.slowest, self.deaths, self.leaves, self.joins, self.short = 3, Request.BE_IDLE, 0.3, 0.3, 2.0, 0.3
+        self.nodes, self.slowest, self.deaths, self.leaves, self.joins, self.short = (
+            3, Request.BE_IDLE, 0.3, 0.3, 2.0, 0.3,
+        )  # fmt: skip
 
 
 class Bug(NamedTuple):
-    """What is broken, and the first seed that shows it, with a part of what it shows; 0, if none did. With what trouble, if not with any."""
+    """What is broken, and the first seed that shows it, with a part of what it shows; 0, if none did. With what
+    trouble, if not with any."""
 
-    log: 'Type[MemoryLog] | Type[KeptLog]'  # noqa: UP007
+    log: type[MemoryLog] | type[KeptLog]  # noqa: UP007
     seed: int
     shows: str
     make: Maker = Core
-    trouble: Type[Trouble] = Trouble
+    trouble: type[Trouble] = Trouble
 
 
-BUGS: Dict[str, Bug] = {
+BUGS: dict[str, Bug] = {
     # In memory: logs by the proved rules, members by broken plain ones.
     'a presence is taken at any place': Bug(TakesAnyPlace, 158, 'by the token', trouble=SlowTakes),
     'a new life works by the old plan': Bug(TakesWithoutPromise, 1, 'by the token', planted.WorksAtOnce),
@@ -449,13 +484,17 @@ BUGS: Dict[str, Bug] = {
     'any life is released': Bug(ReleasesAnyLife, 25, 'works on what'),
     'rows are appended at any place': Bug(AppendsAnyPlace, 2, 'works at an append'),
     'rows are appended while not all are idle': Bug(AppendsAnyway, 2, 'is present and works at', planted.AppendsAnyway),
-    'an epoch ends while not all are idle': Bug(FinishesAnyway, 2, 'works at the end of an epoch', planted.FinishesAnyway),
+    'an epoch ends while not all are idle': Bug(
+        FinishesAnyway, 2, 'works at the end of an epoch', planted.FinishesAnyway
+    ),
     'an epoch ends by an old wish': Bug(FinishesByAnyWish, 53, 'no rest: another wish'),
     'a wait is over for who was idle before': Bug(WakesForTheIdle, 1, 'does not let time go on'),
     'a promise comes before work stops': Bug(MemoryLog, 2, 'is present and works at', planted.PromisesFirst),
     'a presence is released before work stops': Bug(MemoryLog, 150, 'works on what', planted.LeavesFirst),
     'sure from the end of a renewal': Bug(MemoryLog, 2, 'works on what', planted.SureFromEnd),
-    'a promise that was not answered is forgotten': Bug(MemoryLog, 366, 'is present and works at', planted.ForgetsPromise),
+    'a promise that was not answered is forgotten': Bug(
+        MemoryLog, 366, 'is present and works at', planted.ForgetsPromise
+    ),
     'at rest whoever is present': Bug(MemoryLog, 3, 'no rest', planted.RestsWithAnybody),
     'always room': Bug(MemoryLog, 1, 'rows of', planted.HasAlwaysRoom),
     'a pause is told to nobody': Bug(TellsNoPause, 1, 'in a pause', trouble=Ordered),
@@ -471,7 +510,9 @@ BUGS: Dict[str, Bug] = {
     'etcd: a presence is renewed across a gap': Bug(RenewsAcrossGapThere, 4, 'is present and works at an append'),
     'etcd: any life is released': Bug(ReleasesAnyLifeThere, 15, 'works on what'),
     'etcd: rows are appended at any place': Bug(AppendsAnyPlaceThere, 1, 'rows stand at'),
-    'etcd: rows are appended while not all are idle': Bug(AppendsAnywayThere, 1, 'is present and works at', planted.AppendsAnyway),
+    'etcd: rows are appended while not all are idle': Bug(
+        AppendsAnywayThere, 1, 'is present and works at', planted.AppendsAnyway
+    ),
     'etcd: reads are serializable': Bug(ReadsAlone, 1, 'it went back'),
     'etcd: a renewal counts whoever tells it': Bug(TrustsRenewals, 9, 'and it is sure for'),
     'etcd: a lease is kept under another leader': Bug(KeepsLease, 1, 'and it is sure for'),
@@ -482,7 +523,7 @@ BUGS: Dict[str, Bug] = {
 }
 
 # No seed shows these. README.md says why they are harmless.
-HARMLESS: Dict[str, Bug] = {
+HARMLESS: dict[str, Bug] = {
     'etcd: a presence is taken at any place': Bug(TakesAnyPlaceThere, 0, '', trouble=ShortLives),
     'a presence is taken from who holds it': Bug(TakesFromOthers, 0, ''),
     'a promise counts for whoever is present': Bug(PromisesForAnybody, 0, ''),

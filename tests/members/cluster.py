@@ -1,18 +1,21 @@
 """An etcd of three servers in simulated time, as far as a log uses it, and what may become of its leaders.
 
-It has one order of all that is done, as etcd does. Up to chance is what etcd leaves open: what becomes of requests while there is no
-leader; how late a lease ends that isn't renewed; what a server tells by itself, if it is asked so (`serializable`); and what a leader does
-that was cut off or paused, and doesn't know that another one came. That one goes on to renew leases, of which no other server hears. Once
-it is back it may end a lease of its own term that it hasn't renewed for the ttl, whatever was renewed under the new leader. A new leader
-gives each lease its full ttl. And no leader ends a lease earlier than the ttl behind a renewal that was done under it.
+It has one order of all that is done, as etcd does. Up to chance is what etcd leaves open: what becomes of requests
+while there is no leader; how late a lease ends that isn't renewed; what a server tells by itself, if it is asked so
+(`serializable`); and what a leader does that was cut off or paused, and doesn't know that another one came. That one
+goes on to renew leases, of which no other server hears. Once it is back it may end a lease of its own term that it
+hasn't renewed for the ttl, whatever was renewed under the new leader. A new leader gives each lease its full ttl. And
+no leader ends a lease earlier than the ttl behind a renewal that was done under it.
 """
 from __future__ import annotations
 
 import random
 from base64 import b64decode, b64encode
 from bisect import bisect_left, bisect_right, insort
+from collections.abc import Callable
 from dataclasses import dataclass, field
-from typing import Callable, Dict, List, NamedTuple, Optional, Set, Tuple, Union
+from functools import partial
+from typing import NamedTuple, Union
 
 from bully.gateway import KV_RANGE, KV_TXN, LEASE_GRANT, LEASE_KEEPALIVE, Endpoint, Json, Refusal, Silent
 
@@ -41,21 +44,17 @@ class Weather:
 def weather_of(choice: random.Random) -> Weather:
     """The weather of a seed."""
     return Weather(
-        ttl=choice.choice([1.0, 1.0, 0.7, 1.4]),
-        late=choice.choice([0, 0.1, 0.5]),
-        losses=choice.choice([0.1, 0.3, 0.8]),
-        leaderless=choice.choice([0.05, 0.5, 2]),
-        stale=choice.choice([0.3, 1.5, 4]),
-        lag=choice.choice([0, 0.1, 0.5]),
-        watch_late=choice.choice([0, 0.1, 0.5]),
+        ttl=choice.choice([1.0, 1.0, 0.7, 1.4]), late=choice.choice([0, 0.1, 0.5]),
+        losses=choice.choice([0.1, 0.3, 0.8]), leaderless=choice.choice([0.05, 0.5, 2]),
+        stale=choice.choice([0.3, 1.5, 4]), lag=choice.choice([0, 0.1, 0.5]), watch_late=choice.choice([0, 0.1, 0.5]),
         watch_broken=choice.choice([0, 0.1, 0.5]),
-    )
+    )  # fmt: skip
 
 
 class Version(NamedTuple):
     """A key from some revision on. Nothing is its value, if it isn't there."""
 
-    value: Optional[bytes] = None
+    value: bytes | None = None
     created: int = 0
     modified: int = 0
     version: int = 0
@@ -66,9 +65,9 @@ class Keys:
     """All keys, in all revisions."""
 
     def __init__(self) -> None:
-        self.times: List[float] = [0.0]  # of the revisions, from the first on
-        self._names: List[bytes] = []
-        self._versions: Dict[bytes, List[Version]] = {}
+        self.times: list[float] = [0.0]  # of the revisions, from the first on
+        self._names: list[bytes] = []
+        self._versions: dict[bytes, list[Version]] = {}
 
     @property
     def revision(self) -> int:
@@ -77,14 +76,14 @@ class Keys:
     def revision_at(self, moment: float) -> int:
         return max(1, bisect_right(self.times, moment))
 
-    def get(self, key: bytes, revision: Optional[int] = None) -> Version:
+    def get(self, key: bytes, revision: int | None = None) -> Version:
         versions = self._versions.get(key, ())
         for version in reversed(versions):
             if revision is None or version.modified <= revision:
                 return version
         return Version()
 
-    def found(self, key: bytes, end: Optional[bytes], revision: Optional[int] = None) -> List[Tuple[bytes, Version]]:
+    def found(self, key: bytes, end: bytes | None, revision: int | None = None) -> list[tuple[bytes, Version]]:
         """The keys from one on that are before another one, or that one alone."""
         names = [key] if end is None else self._names[bisect_left(self._names, key) : bisect_left(self._names, end)]
         pairs = ((name, self.get(name, revision)) for name in names)
@@ -95,7 +94,9 @@ class Keys:
         is_new = before.value is None
         if key not in self._versions:
             insort(self._names, key)
-        version = Version(value, revision if is_new else before.created, revision, 1 if is_new else before.version + 1, lease)
+        version = Version(
+            value, revision if is_new else before.created, revision, 1 if is_new else before.version + 1, lease
+        )
         self._versions.setdefault(key, []).append(version)
 
     def remove(self, key: bytes, revision: int) -> None:
@@ -107,7 +108,7 @@ class Lease:
     """A lease, as all servers know it."""
 
     seconds: float
-    keys: Set[bytes] = field(default_factory=set)
+    keys: set[bytes] = field(default_factory=set)
 
 
 @dataclass
@@ -116,32 +117,39 @@ class Leader:
 
     term: int
     server: int
-    ends: Dict[int, float]
+    ends: dict[int, float]
 
 
 @dataclass
 class Stale(Leader):
-    """A leader that was cut off from the others, or paused, and knows nothing of a new one: what it knew then, and what it was asked."""
+    """A leader that was cut off from the others, or paused, and knows nothing of a new one: what it knew then, and what
+    it was asked."""
 
-    seconds: Dict[int, float]
+    seconds: dict[int, float]
     revision: int
     is_paused: bool
-    asked: List[Tuple[str, Json, Reply]] = field(default_factory=list)
+    asked: list[tuple[str, Json, Reply]] = field(default_factory=list)
 
 
 class Cluster:
     """The servers."""
 
-    def __init__(self, choice: random.Random, weather: Weather, clock: Callable[[], float], after: Callable[[float, Action], None]) -> None:
+    def __init__(
+        self,
+        choice: random.Random,
+        weather: Weather,
+        clock: Callable[[], float],
+        after: Callable[[float, Action], None],
+    ) -> None:
         self.choice, self.weather, self.clock, self.after = choice, weather, clock, after
         self.keys = Keys()
-        self.leases: Dict[int, Lease] = {}
+        self.leases: dict[int, Lease] = {}
         self.granted = 0
         self.leader = Leader(2, 0, {})
         self.is_led = self.is_up = True
-        self.stale: Optional[Stale] = None
-        self.awaiting: List[Tuple[str, Json, Reply]] = []  # a leader
-        self.changed: Callable[[List[bytes]], None] = lambda keys: None
+        self.stale: Stale | None = None
+        self.awaiting: list[tuple[str, Json, Reply]] = []  # a leader
+        self.changed: Callable[[list[bytes]], None] = lambda keys: None
         self.ends: Callable[[bytes, bytes], None] = lambda key, value: None  # told of what is gone with its lease
 
     # What is asked.
@@ -161,8 +169,8 @@ class Cluster:
             self.await_leader(path, told, reply)
 
     def await_leader(self, path: str, told: Json, reply: Reply) -> None:
-        """A server that knows no leader waits for one. If it was asked to renew a lease, it has noted the term before. The leader that was
-        lost may still do that, too, if it is paused with the request."""
+        """A server that knows no leader waits for one. If it was asked to renew a lease, it has noted the term before.
+        The leader that was lost may still do that, too, if it is paused with the request."""
         term = self.leader.term
 
         def reply_of_term(outcome: Outcome) -> None:
@@ -219,22 +227,26 @@ class Cluster:
 
     # Keys.
 
-    def transact(self, told: Json, revision: int, term: Optional[int] = None) -> Outcome:
+    def transact(self, told: Json, revision: int, term: int | None = None) -> Outcome:
         is_so = all(self.holds(condition, revision) for condition in told['compare'])
         steps = told['success' if is_so else 'failure']
-        refusal = next(filter(None, (self.refusal(step['request_put']) for step in steps if 'request_put' in step)), None)
+        refusal = next(
+            filter(None, (self.refusal(step['request_put']) for step in steps if 'request_put' in step)), None
+        )
         if refusal is not None:
             return refusal
         responses, changed = [], self.change(steps)
         for step in steps:
             ranged = 'request_range' in step
-            responses.append({'response_range': self.found(step['request_range'], revision)} if ranged else {'response_put': {}})
+            responses.append(
+                {'response_range': self.found(step['request_range'], revision)} if ranged else {'response_put': {}}
+            )
         answer = self.answer(term or self.leader.term, succeeded=is_so, responses=responses)
         if changed:
             self.changed(changed)
         return answer
 
-    def refusal(self, put: Json) -> Optional[Refusal]:
+    def refusal(self, put: Json) -> Refusal | None:
         """Why a key isn't put, if it isn't."""
         if (put.get('ignore_value') or put.get('ignore_lease')) and self.keys.get(b64decode(put['key'])).value is None:
             return Refusal(INVALID, 'etcdserver: key not found')
@@ -242,7 +254,7 @@ class Cluster:
             return Refusal(NOT_FOUND, 'etcdserver: requested lease not found')
         return None
 
-    def change(self, steps: List[Json]) -> List[bytes]:
+    def change(self, steps: list[Json]) -> list[bytes]:
         """Does what isn't a range, in one revision. The keys that changed."""
         revision, changed = self.keys.revision + 1, []
         for step in steps:
@@ -251,7 +263,12 @@ class Cluster:
                 changed.append(b64decode(put['key']))
                 before = self.keys.get(changed[-1])
                 value = before.value if put.get('ignore_value') else b64decode(put['value'])
-                self.put(changed[-1], value or b'', before.lease if put.get('ignore_lease') else int(put.get('lease', 0)), revision)
+                self.put(
+                    changed[-1],
+                    value or b'',
+                    before.lease if put.get('ignore_lease') else int(put.get('lease', 0)),
+                    revision,
+                )
             elif 'request_delete_range' in step:
                 for key, _ in self.keys.found(*interval(step['request_delete_range'])):
                     changed.append(key)
@@ -282,12 +299,14 @@ class Cluster:
         target = condition['target']
         if target == 'VALUE':
             value, is_less = b64decode(condition['value']), condition['result'] == 'LESS'
-            return all(each.value is not None and (each.value < value if is_less else each.value == value) for each in versions)
+            return all(
+                each.value is not None and (each.value < value if is_less else each.value == value) for each in versions
+            )
         wanted = int(condition[{'VERSION': 'version', 'CREATE': 'create_revision', 'MOD': 'mod_revision'}[target]])
         numbers = [{'VERSION': each.version, 'CREATE': each.created, 'MOD': each.modified}[target] for each in versions]
         return all(number > wanted if condition['result'] == 'GREATER' else number == wanted for number in numbers)
 
-    def found(self, asked: Json, revision: Optional[int]) -> Json:
+    def found(self, asked: Json, revision: int | None) -> Json:
         """What a range finds."""
         pairs = self.keys.found(*interval(asked), revision)
         if asked.get('sort_order') == 'DESCEND':
@@ -347,7 +366,9 @@ class Cluster:
         if kind in ('cut off', 'paused') and self.stale is None:
             seconds = {number: lease.seconds for number, lease in self.leases.items()}
             ends = {number: self.leader.ends[number] for number in seconds}
-            self.stale = Stale(self.leader.term, self.leader.server, ends, seconds, self.keys.revision, kind == 'paused')
+            self.stale = Stale(
+                self.leader.term, self.leader.server, ends, seconds, self.keys.revision, kind == 'paused'
+            )
             self.after(self.choice.uniform(0, self.weather.stale), self.bring_back)
         self.after(self.choice.uniform(0, self.weather.leaderless), self.elect)
 
@@ -376,7 +397,8 @@ class Cluster:
             reply(Refusal(NO_LEADER, 'etcdserver: leader changed'))
 
     def bring_back(self) -> None:
-        """A stale leader goes on, does what it was asked meanwhile, and then finds the new one. That one may end leases by its word."""
+        """A stale leader goes on, does what it was asked meanwhile, and then finds the new one. That one may end leases
+        by its word."""
         stale, self.stale = self.stale, None
         assert stale is not None
         for path, told, reply in stale.asked:
@@ -386,7 +408,7 @@ class Cluster:
                 self.settle_late(path, told, reply)
         for lease, end in stale.ends.items():
             if end <= self.clock() and self.choice.random() < 0.8:
-                self.after(self.choice.uniform(0, 0.2), lambda lease=lease: self.end_by_word(lease))  # type: ignore[misc]
+                self.after(self.choice.uniform(0, 0.2), partial(self.end_by_word, lease))
 
     def settle_late(self, path: str, told: Json, reply: Reply) -> None:
         if self.choice.random() < 0.5:
@@ -406,14 +428,18 @@ def is_serializable(path: str, told: Json) -> bool:
     return bool(steps) and all(step.get('request_range', {}).get('serializable') for step in steps)
 
 
-def interval(asked: Json) -> Tuple[bytes, Optional[bytes]]:
+def interval(asked: Json) -> tuple[bytes, bytes | None]:
     """The first key of a range, and the first one behind it, if it isn't one key."""
     return b64decode(asked['key']), b64decode(asked['range_end']) if 'range_end' in asked else None
 
 
 def pair_told(key: bytes, version: Version, asked: Json) -> Json:
     """A key, as etcd tells it in JSON."""
-    told = {'key': b64encode(key).decode(), 'create_revision': str(version.created), 'mod_revision': str(version.modified)}
+    told = {
+        'key': b64encode(key).decode(),
+        'create_revision': str(version.created),
+        'mod_revision': str(version.modified),
+    }
     if version.lease:
         told['lease'] = str(version.lease)
     if not asked.get('keys_only'):

@@ -1,23 +1,25 @@
-"""All states of a small store and of what is under way between it and its members, up to a bound: does any reach what must not be?
+"""All states of a small store and of what is under way between it and its members, up to a bound: does any reach what
+must not be?
 
-Abstract: an append is one plan. A place is a number, EPOCH * 100 + ROWS with the header, so places of a later epoch are higher, and the last
-plan stands one before the end of the log, if more than the header is there. A member looks, asks, gives up, begins and stops work whenever it
-may. Requests are done in any order, late, or never. A presence may end at any time, and work by it has ended then: that is the clocks'
-premise. Wrong is that one works by another plan than the last one of the current epoch, or that a node uses a token below one that it used,
-or uses it again in another life.
+Abstract: an append is one plan. A place is a number, EPOCH * 100 + ROWS with the header, so places of a later epoch are
+higher, and the last plan stands one before the end of the log, if more than the header is there. A member looks, asks,
+gives up, begins and stops work whenever it may. Requests are done in any order, late, or never. A presence may end at
+any time, and work by it has ended then: that is the clocks' premise. Wrong is that one works by another plan than the
+last one of the current epoch, or that a node uses a token below one that it used, or uses it again in another life.
 """
 from __future__ import annotations
 
 from collections import deque
-from typing import Deque, Dict, FrozenSet, Iterator, NamedTuple, Optional, Tuple
+from collections.abc import Iterator
+from typing import Deque, NamedTuple
 
 EPOCH = 100
 FIRST = EPOCH + 1  # the end of a log of the first epoch with its header alone
 
 # Conditions that may be left out, one at a time. Each has to lead to what is wrong.
 CONDITIONS = (
-    'append while not idle', 'append anywhere', 'finish while not idle', 'finish anywhere', 'take anywhere', 'take promises nothing',
-    'promise forgotten', 'promises while it works', 'promise lost',
+    'append while not idle', 'append anywhere', 'finish while not idle', 'finish anywhere', 'take anywhere',
+    'take promises nothing', 'promise forgotten', 'promises while it works', 'promise lost',
 )  # fmt: skip
 
 
@@ -35,9 +37,9 @@ ALL = 1_000_000  # states, which none of them has
 
 
 class Node(NamedTuple):
-    """What the store has of a node: a life (0: none), and its promise. And what its process knows: its life; the one that it asks for; how
-    many it asked for; up to where it has read; what its life has promised; the plan by which it works (0: none); and what it used last, in
-    which life."""
+    """What the store has of a node: a life (0: none), and its promise. And what its process knows: its life; the one
+    that it asks for; how many it asked for; up to where it has read; what its life has promised; the plan by which it
+    works (0: none); and what it used last, in which life."""
 
     held: int = 0
     promise: int = 0
@@ -47,7 +49,7 @@ class Node(NamedTuple):
     learned: int = FIRST
     promised: int = 0
     work: int = 0
-    used: Tuple[int, int] = (0, 0)
+    used: tuple[int, int] = (0, 0)
 
 
 class Request(NamedTuple):
@@ -61,11 +63,11 @@ class Request(NamedTuple):
 
 class State(NamedTuple):
     end: int
-    nodes: Tuple[Node, ...]
-    asked: FrozenSet[Request] = frozenset()
+    nodes: tuple[Node, ...]
+    asked: frozenset[Request] = frozenset()
 
 
-Way = Tuple[str, State]
+Way = tuple[str, State]
 
 
 def plan_before(end: int) -> int:
@@ -89,14 +91,17 @@ class Explorer:
     def steps_of(self, state: State, number: int) -> Iterator[Way]:
         node, end = state.nodes[number], state.end
 
-        def to(more: Optional[Request] = None, **changes: object) -> State:
-            nodes = (*state.nodes[:number], node._replace(**changes), *state.nodes[number + 1 :])  # type: ignore[arg-type]
+        def to(more: Request | None = None, **changes: object) -> State:
+            changed = node._replace(**changes)  # type: ignore[arg-type]
+            nodes = (*state.nodes[:number], changed, *state.nodes[number + 1 :])
             return state._replace(nodes=nodes, asked=state.asked | ({more} if more else frozenset()))
 
         has_room = len(state.asked) < self.bounds.under_way
         if not node.life and not node.asking and node.lives < self.bounds.lives and has_room:
             life, promised = node.lives + 1, 0 if self.without == 'take promises nothing' else node.learned
-            yield 'asks for a presence', to(Request('take', number, life, node.learned), asking=life, lives=life, promised=promised)
+            yield 'asks for a presence', to(
+                Request('take', number, life, node.learned), asking=life, lives=life, promised=promised
+            )
         if node.asking:
             yield 'gives up', to(asking=0)
         if node.learned != end:
@@ -131,7 +136,8 @@ class Explorer:
         node = state.nodes[request.node]
 
         def to(**changes: object) -> State:
-            nodes = (*state.nodes[: request.node], node._replace(**changes), *state.nodes[request.node + 1 :])  # type: ignore[arg-type]
+            changed = node._replace(**changes)  # type: ignore[arg-type]
+            nodes = (*state.nodes[: request.node], changed, *state.nodes[request.node + 1 :])
             return state._replace(nodes=nodes)
 
         if request.kind == 'promise':
@@ -144,10 +150,11 @@ class Explorer:
             if node.asking == request.life and not node.life:
                 yield 'is present, and knows', to(held=request.life, promise=promise, life=request.life, asking=0)
 
-    def explore(self, most: int) -> Tuple[Optional[str], int]:
-        """How what must not be is reached, if it is, by the fewest steps; and how many states were seen, which is `most` if there are more."""
+    def explore(self, most: int) -> tuple[str | None, int]:
+        """How what must not be is reached, if it is, by the fewest steps; and how many states were seen, which is
+        `most` if there are more."""
         first = State(FIRST, (Node(),) * self.bounds.nodes)
-        seen: Dict[State, Optional[Tuple[State, str]]] = {first: None}
+        seen: dict[State, tuple[State, str] | None] = {first: None}
         queue: Deque[State] = deque([first])
         while queue and len(seen) < most:
             state = queue.popleft()
@@ -161,7 +168,7 @@ class Explorer:
         return None, len(seen)
 
 
-def path_to(seen: Dict[State, Optional[Tuple[State, str]]], state: State, what: str) -> str:
+def path_to(seen: dict[State, tuple[State, str] | None], state: State, what: str) -> str:
     path, before = [what], seen[state]
     while before is not None:
         path.append(before[1])
@@ -169,11 +176,13 @@ def path_to(seen: Dict[State, Optional[Tuple[State, str]]], state: State, what: 
     return f'{len(path)} steps: {", ".join(reversed(path))}'
 
 
-def wrong_with(before: State, after: State) -> Optional[str]:
+def wrong_with(before: State, after: State) -> str | None:
     last = plan_before(after.end)
     for old, new in zip(before.nodes, after.nodes):
         if new.work and new.work != last:
             return f'a node works by {new.work}, and the last plan is {last}'
-        if new.used != old.used and (new.used[0] < old.used[0] or new.used[0] == old.used[0] and new.used[1] != old.used[1]):
+        if new.used != old.used and (
+            new.used[0] < old.used[0] or new.used[0] == old.used[0] and new.used[1] != old.used[1]
+        ):
             return f'a node uses {new.used} behind {old.used}'
     return None

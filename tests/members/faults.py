@@ -1,16 +1,17 @@
-"""What happens to five members over three servers of etcd: members are killed, paused and cut off, and so are servers."""
+"""What happens to five members over three servers of etcd: members are killed, paused and cut off, and so are
+servers."""
 from __future__ import annotations
 
 import random
 import time
+from collections.abc import Callable, Sequence
 from functools import partial
-from typing import Callable, Dict, List, Optional, Sequence
 
 from bully.gateway import Endpoint
-from etcd_servers import Place, Server, Servers
-from groups import NAMES, PATIENCE, Group
-from laws import wait_until
-from namespaces import CLIENTS, PEERS, Network
+from tests.etcd_servers import Place, Server, Servers
+from tests.waiting import wait_until
+from .groups import NAMES, PATIENCE, Group
+from .namespaces import CLIENTS, PEERS, Network
 
 SERVERS = ('s0', 's1', 's2')
 CLIENT_PORT, PEER_PORT = 2379, 2380
@@ -20,24 +21,30 @@ SETTLED = 1.25  # of the ttl: by then each presence was renewed, or has ended
 Fault = Callable[[], None]
 
 
-def places(network: Network) -> List[Place]:
+def places(network: Network) -> list[Place]:
     """Where the servers listen."""
     return [
-        Place(Endpoint(network.address(name, CLIENTS), CLIENT_PORT), Endpoint(network.address(name, PEERS), PEER_PORT), network.within(name))
+        Place(
+            Endpoint(network.address(name, CLIENTS), CLIENT_PORT),
+            Endpoint(network.address(name, PEERS), PEER_PORT),
+            network.within(name),
+        )
         for name in SERVERS
     ]
 
 
-def addresses(servers: Servers, prefix: str) -> Dict[str, str]:
+def addresses(servers: Servers, prefix: str) -> dict[str, str]:
     """The address of the log for each member, which asks another server first, and for who looks at them."""
     turned = {name: number % len(servers.each) for number, name in enumerate(('', *NAMES))}
-    return {name: servers.address(prefix, *servers.each[first:], *servers.each[:first]) for name, first in turned.items()}
+    return {
+        name: servers.address(prefix, *servers.each[first:], *servers.each[:first]) for name, first in turned.items()
+    }
 
 
 class Faults:
     """The faults, and whom they happen to."""
 
-    def __init__(self, group: Group, servers: Servers, network: Optional[Network], choice: random.Random) -> None:
+    def __init__(self, group: Group, servers: Servers, network: Network | None, choice: random.Random) -> None:
         self.group, self.servers, self.network, self.choice = group, servers, network, choice
         self.settles = SETTLED * group.ttl
         self.done = 0
@@ -45,24 +52,29 @@ class Faults:
 
     # Which faults.
 
-    def of_network(self) -> List[Fault]:
+    def of_network(self) -> list[Fault]:
         """One of each kind, if there is a network."""
         if self.network is None:
             return []
         network, both = self.network, (CLIENTS, PEERS)
         return [
             partial(self.cut_member_shortly, network), partial(self.cut_member, network),
-            partial(self.cut_server, network, False, 'the others', (PEERS,)), partial(self.cut_server, network, True, 'the others', (PEERS,)),
+            partial(self.cut_server, network, False, 'the others', (PEERS,)),
+            partial(self.cut_server, network, True, 'the others', (PEERS,)),
             partial(self.cut_server, network, True, 'all', both),
         ]  # fmt: skip
 
-    def of_processes(self) -> List[Fault]:
+    def of_processes(self) -> list[Fault]:
         """One of each kind; a few of deaths."""
-        pauses = [partial(self.pause, whom, length) for whom in ('member', 'worker', 'member and its worker') for length in (0.5, 2.0)]
+        pauses = [
+            partial(self.pause, whom, length)
+            for whom in ('member', 'worker', 'member and its worker')
+            for length in (0.5, 2.0)
+        ]
         servers = [partial(self.kill_server, leads) for leads in (False, True)]
         return [*[self.kill] * KILLS, *pauses, *servers, self.pause_servers, self.begin_unanswered]
 
-    def chosen(self, count: int) -> List[Fault]:
+    def chosen(self, count: int) -> list[Fault]:
         """So many faults: as many of each kind of the network's first, and then any."""
         first, others = self.of_network(), self.of_processes()
         self.choice.shuffle(others)
@@ -136,7 +148,9 @@ class Faults:
         member.wait(PATIENCE)
         self.group.begin(name)
         wait_until(lambda: 'in time' in said.read_text()[before:])
-        self.come_to_rest('the end of a pause of all servers, in which a member began', partial(self.send_servers, Server.resume))
+        self.come_to_rest(
+            'the end of a pause of all servers, in which a member began', partial(self.send_servers, Server.resume)
+        )
 
     def send_servers(self, call: Callable[[Server], None]) -> None:
         for server in self.servers.each:

@@ -7,19 +7,19 @@ import statistics
 import subprocess
 import sys
 import time
+from collections.abc import Callable, Sequence, Set as AbstractSet
 from dataclasses import dataclass, field
 from pathlib import Path
-from typing import AbstractSet, Callable, Dict, List, Optional, Sequence, Set
 
 from bully import Status, check
 from bully.command import parser
 from bully.logs import Log, Unanswered
 from bully.stores import store_of
 from bully.view import GroupView, LogView
-from processes import children, close_all, own_memory, processor_seconds, send_all, workers_of
-from tables import kept, most_kept, owners_by_name
+from tests.places import environment
+from .processes import children, close_all, own_memory, processor_seconds, send_all, workers_of
+from .tables import kept, most_kept, owners_by_name
 
-ROOT = Path(__file__).resolve().parents[2]
 HERE = Path(__file__).resolve().parent
 NAMES = 'abcde'
 PARTITIONS = 20
@@ -42,14 +42,15 @@ def told_seconds(what: str, seconds: Sequence[float]) -> str:
 
 @dataclass
 class Times:
-    """How long a group took to come to rest behind changes of one kind, and how many rows; the same behind the end of a presence, if one
-    ended, or else behind the begin of the last one, if one began; and until all partitions were worked on, if that was looked for at once."""
+    """How long a group took to come to rest behind changes of one kind, and how many rows; the same behind the end of a
+    presence, if one ended, or else behind the begin of the last one, if one began; and until all partitions were worked
+    on, if that was looked for at once."""
 
-    to_rest: List[float] = field(default_factory=list)
-    behind_end: List[float] = field(default_factory=list)
-    behind_begin: List[float] = field(default_factory=list)
-    to_work: List[float] = field(default_factory=list)
-    rows: List[int] = field(default_factory=list)
+    to_rest: list[float] = field(default_factory=list)
+    behind_end: list[float] = field(default_factory=list)
+    behind_begin: list[float] = field(default_factory=list)
+    to_work: list[float] = field(default_factory=list)
+    rows: list[int] = field(default_factory=list)
 
     def __str__(self) -> str:
         told = told_seconds('to rest in', self.to_rest) + told_seconds("behind a presence's end", self.behind_end)
@@ -66,12 +67,12 @@ class Work:
         self.worker = [sys.executable, '-I', '-S', str(HERE / 'worker.py'), str(folder)]  # its words
         folder.mkdir()
 
-    def sizes(self) -> List[int]:
+    def sizes(self) -> list[int]:
         """How much was done on each partition."""
         files = [self.folder / str(partition) for partition in range(self.partitions)]
         return [file.stat().st_size if file.exists() else 0 for file in files]
 
-    def last_tokens(self) -> List[int]:
+    def last_tokens(self) -> list[int]:
         """The token of the last unit on each partition."""
         return [self._last_token(partition) for partition in range(self.partitions)]
 
@@ -83,11 +84,11 @@ class Work:
             rows = file.read().split(b'\n')[-2:-1]  # of the whole ones
         return int(rows[0].split()[0]) if rows else 0
 
-    def units(self, partition: int) -> List[List[str]]:
+    def units(self, partition: int) -> list[list[str]]:
         """The units on a partition that were done: token and node of each."""
         return [row.split() for row in (self.folder / str(partition)).read_text().split('\n')[:-1]]
 
-    def faults(self, kind: str) -> List[str]:
+    def faults(self, kind: str) -> list[str]:
         """What workers told of faults of this kind."""
         file = self.folder / 'faults'
         rows = file.read_text().splitlines() if file.exists() else []
@@ -98,19 +99,21 @@ class Group:
     """Members, and what came of them."""
 
     def __init__(
-        self, folder: Path, stores: Dict[str, str], ttl: float, within: Callable[[str], Sequence[str]] = lambda _: (),
-        names: Sequence[str] = NAMES, partitions: int = PARTITIONS, words: Sequence[str] = (), work: Callable[[Path, int], Work] = Work,
+        self, folder: Path, stores: dict[str, str], ttl: float, within: Callable[[str], Sequence[str]] = lambda _: (),
+        names: Sequence[str] = NAMES, partitions: int = PARTITIONS, words: Sequence[str] = (),
+        work: Callable[[Path, int], Work] = Work,
     ) -> None:  # fmt: skip
-        """A new group. The store is told for each member, and for who looks at them (''). `within` has the words by which a process is
-        begun where a member is; `words` are more ones for each member; and `work` makes what has the work, in a folder."""
+        """A new group. The store is told for each member, and for who looks at them (''). `within` has the words by
+        which a process is begun where a member is; `words` are more ones for each member; and `work` makes what has the
+        work, in a folder."""
         self.folder, self.ttl, self.words = folder, ttl, list(words)
         self.stores, self.within = stores, within
         self.configs = 0
         self.config = self.configured(names, partitions)
         self.work = work(folder / 'work', partitions)
-        self.members: Dict[str, 'subprocess.Popen[bytes]'] = {}
+        self.members: dict[str, subprocess.Popen[bytes]] = {}
         self.passed = self.failed = 0
-        self.times: Dict[str, Times] = {}
+        self.times: dict[str, Times] = {}
         self.count(self.command('init', '--config', str(self.config)).wait(PATIENCE) == 0, 'no log can be made')
         self.view = LogView(self.opened())
         self.shown = self.view.show()  # as it was seen last
@@ -128,13 +131,14 @@ class Group:
         """The log."""
         return store_of(parser().parse_args(['status', '--log', self.stores['']])).open()
 
-    def command(self, name: str, *more: str, member: str = '') -> 'subprocess.Popen[bytes]':
+    def command(self, name: str, *more: str, member: str = '') -> subprocess.Popen[bytes]:
         """Starts `bully-member`, where the member is, if one is named."""
-        environment = {**os.environ, 'PYTHONPATH': str(ROOT / 'bindings' / 'python')}
         within = self.within(member) if member else ()
-        words = [*within, sys.executable, '-W', 'error', '-m', 'bully.command', name, '--log', self.stores[member], *more]
+        words = [
+            *within, sys.executable, '-W', 'error', '-m', 'bully.command', name, '--log', self.stores[member], *more,
+        ]  # fmt: skip
         with open(self.said(member or name), 'ab') as said:
-            return subprocess.Popen(words, env=environment, stdout=said, stderr=said)
+            return subprocess.Popen(words, env=environment(), stdout=said, stderr=said)
 
     def said(self, name: str) -> Path:
         """The file of what a member, or another command, says."""
@@ -142,7 +146,9 @@ class Group:
 
     def begin(self, name: str) -> None:
         """A process for the node."""
-        more = ['--config', str(self.config), '--node', name, '--ttl', str(self.ttl), *self.words, '--', *self.work.worker]
+        more = [
+            '--config', str(self.config), '--node', name, '--ttl', str(self.ttl), *self.words, '--', *self.work.worker,
+        ]  # fmt: skip
         self.members[name] = self.command('run', *more, member=name)
 
     def begin_all(self, names: Sequence[str] = NAMES) -> None:
@@ -157,9 +163,9 @@ class Group:
 
     # Rest.
 
-    def look(self, present: Optional[AbstractSet[str]] = None) -> Optional[GroupView]:
-        """How the group stands; nothing, if the store doesn't answer. If some are told, it is noted until when these were all present, and until
-        when not all were that have a process."""
+    def look(self, present: AbstractSet[str] | None = None) -> GroupView | None:
+        """How the group stands; nothing, if the store doesn't answer. If some are told, it is noted until when these
+        were all present, and until when not all were that have a process."""
         now = time.monotonic()
         try:
             self.shown = self.view.show()
@@ -187,8 +193,9 @@ class Group:
         normal = [node.name for node in shown.nodes if node.status is Status.NORMAL]
         return up == normal == alive and shown.coordinator == alive[-1] and set(shown.owners) == set(alive)
 
-    def rest(self, settles: float, end: float) -> Optional[float]:
-        """Waits for a rest that lasts for so many seconds at least. When it began; nothing, if it didn't up to the end."""
+    def rest(self, settles: float, end: float) -> float | None:
+        """Waits for a rest that lasts for so many seconds at least. When it began; nothing, if it didn't up to the
+        end."""
         since, rows, present = 0.0, -1, present_in(self.shown)
         while time.monotonic() < end:
             shown, now = self.look(present), time.monotonic()
@@ -201,12 +208,15 @@ class Group:
             time.sleep(0.01)
         return None
 
-    def goes_on(self, end: float, but: str = '') -> Optional[float]:
-        """Waits until one more unit is done on each partition, but those of that node, by the token of the table. When that was."""
+    def goes_on(self, end: float, but: str = '') -> float | None:
+        """Waits until one more unit is done on each partition, but those of that node, by the token of the table. When
+        that was."""
         before = self.work.sizes()
         while time.monotonic() < end:
             shown, sizes, tokens = self.look(), self.work.sizes(), self.work.last_tokens()
-            others = [partition for partition, owner in enumerate(shown.owners) if owner != but] if shown is not None else []
+            others = (
+                [partition for partition, owner in enumerate(shown.owners) if owner != but] if shown is not None else []
+            )
             are_done = all(sizes[partition] > before[partition] for partition in others)
             if shown is not None and are_done and {tokens[partition] for partition in others} == {shown.token}:
                 return time.monotonic()
@@ -214,7 +224,8 @@ class Group:
         return None
 
     def come_to_rest(self, what: str, change: Callable[[], object], settles: float = 0.0) -> None:
-        """Makes a change, and waits until the group is at rest behind it, and works: how long that took, and how many rows."""
+        """Makes a change, and waits until the group is at rest behind it, and works: how long that took, and how many
+        rows."""
         before, begun = self.shown, time.monotonic()
         self.all_present = self.not_present = begun
         change()
@@ -273,7 +284,8 @@ class Group:
         self.come_to_rest('the end of a drain', lambda: self.order('undrain', name))
 
     def halt(self, name: str) -> None:
-        """In a pause of the group the member is killed, and another process comes for its node: the others work on, and nothing is appended."""
+        """In a pause of the group the member is killed, and another process comes for its node: the others work on, and
+        nothing is appended."""
         self.order('pause')
         before, member = self.show(), self.members.pop(name)
         member.kill()
@@ -283,7 +295,9 @@ class Group:
                 self.begin(name)
             self.count(self.sees(name, is_present), f'{name} is {"not " if is_present else ""}present')
             for _ in range(3):
-                self.count(self.goes_on(time.monotonic() + PATIENCE, name) is not None, 'the others do not work on in a pause')
+                self.count(
+                    self.goes_on(time.monotonic() + PATIENCE, name) is not None, 'the others do not work on in a pause'
+                )
             after = self.show()
             same = (after.epoch, after.rows, after.token) == (before.epoch, before.rows, before.token)
             self.count(same and after.is_paused, f'in a pause the group has {after.rows} rows, and had {before.rows}')
@@ -299,7 +313,8 @@ class Group:
         return True
 
     def pause(self, name: str, seconds: float, whom: str) -> None:
-        """The member, its worker or both are stopped for so long; a member for more than the ttl until the others are at rest."""
+        """The member, its worker or both are stopped for so long; a member for more than the ttl until the others are
+        at rest."""
         paused = self.members[name]
         workers = [] if whom == 'member' else workers_of(paused.pid)
         self.count(whom == 'member' or bool(workers), f'{name} has no worker to pause')
@@ -333,7 +348,8 @@ class Group:
     # At rest, and in the end.
 
     def idle(self, seconds: float, most: float) -> None:
-        """What members and their guards cost that have nothing to do: no row, less than this percentage of a processor, and 24 MiB."""
+        """What members and their guards cost that have nothing to do: no row, less than this percentage of a processor,
+        and 24 MiB."""
         processes = {name: [member.pid, *children(member.pid)] for name, member in self.members.items()}
         before, rows, begun = cost(processes), self.show().rows, time.monotonic()
         time.sleep(seconds)
@@ -343,45 +359,54 @@ class Group:
         self.count(shares[-1] < most, f'an idle member took {shares[-1]:.2f} % of a processor')
         memory = sorted(sum(map(own_memory, each)) for each in processes.values())
         self.count(memory[-1] < MEMORY, f'an idle member has {memory[-1]:.1f} MiB of its own')
-        print(f'idle for {length:.0f} s: no row, and {shares[0]:.2f} to {shares[-1]:.2f} % of a processor for a member; '
-              f'{memory[0]:.1f} to {memory[-1]:.1f} MiB of its own')
+        print(
+            f'idle for {length:.0f} s: no row, and {shares[0]:.2f} to {shares[-1]:.2f} % of a processor for a member; '
+            f'{memory[0]:.1f} to {memory[-1]:.1f} MiB of its own'
+        )
 
-    def end(self, program: Optional[Path] = None) -> None:
-        """All leave in order, one of them behind the others, and what they left is judged; also with everything said, if there is the program
-        `bully`."""
+    def end(self, program: Path | None = None) -> None:
+        """All leave in order, one of them behind the others, and what they left is judged; also with everything said,
+        if there is the program `bully`."""
         *others, last = self.members
         for names in (others, [last]):
             for name in names:
                 self.members[name].terminate()
             for name in names:
-                self.count(self.members[name].wait(PATIENCE) == 0, f'{name} ended with status {self.members[name].returncode}')
+                self.count(
+                    self.members[name].wait(PATIENCE) == 0, f'{name} ended with status {self.members[name].returncode}'
+                )
         shown = self.show()
         self.count(not any(node.is_present for node in shown.nodes), 'a member is still present')
         self.count(all(node.status is Status.DOWN for node in shown.nodes), 'a node is still up')
         self.judge_log(program)
         self.judge_work()
 
-    def judge_log(self, program: Optional[Path]) -> None:
+    def judge_log(self, program: Path | None) -> None:
         log = self.opened()
         self.judge_moves(log)
         for epoch in log.epochs():
             trace = '\n'.join([log.opening(epoch).header, *log.read(epoch, 0), '']).encode()
             self.judge_trace(trace, f'the log of epoch {epoch}')
             if program is not None:
-                annotated = subprocess.run([program, 'annotate'], input=trace, stdout=subprocess.PIPE, timeout=PATIENCE, check=False)
+                annotated = subprocess.run(
+                    [program, 'annotate'], input=trace, stdout=subprocess.PIPE, timeout=PATIENCE, check=False
+                )
                 self.count(annotated.returncode == 0, f'`bully annotate` ends with status {annotated.returncode}')
-                self.judge_trace(annotated.stdout, f'the same with everything said, {annotated.stdout.count(10) - 1} rows')
+                self.judge_trace(
+                    annotated.stdout, f'the same with everything said, {annotated.stdout.count(10) - 1} rows'
+                )
         log.close()
 
     def judge_moves(self, log: Log) -> None:
         """No partition moved at a change of the epoch that needn't."""
-        before: List[str] = []
+        before: list[str] = []
         for epoch in log.epochs():
             first, last = owners_by_name(log, epoch)
             stayed, could = kept(before, first), most_kept(before, first)
             self.count(stayed == could, f'epoch {epoch}: {stayed} partitions stayed, and {could} could')
             if before:
-                print(f'from epoch {epoch - 1} to {epoch}, {len(before)} to {len(first)} partitions: {stayed} stayed, as many as could')
+                change = f'from epoch {epoch - 1} to {epoch}, {len(before)} to {len(first)} partitions'
+                print(f'{change}: {stayed} stayed, as many as could')
             before = last
 
     def judge_trace(self, trace: bytes, what: str) -> None:
@@ -400,7 +425,9 @@ class Group:
             self.count(tokens == sorted(tokens), f'a token fell on partition {partition}')
             is_single = len(set(tokens)) == len({(token, node) for token, node in done})
             self.count(is_single, f'partition {partition}: two nodes by one token')
-        print(f'{units} units of work, {len(self.work.faults("old"))} refused by their tokens, {len(overlaps)} overlaps')
+        print(
+            f'{units} units of work, {len(self.work.faults("old"))} refused by their tokens, {len(overlaps)} overlaps'
+        )
 
     def tell(self) -> None:
         print(f'the ttl is {self.ttl:g} s')
@@ -415,11 +442,11 @@ class Group:
         self.view.close()
 
 
-def present_in(shown: GroupView) -> Set[str]:
+def present_in(shown: GroupView) -> set[str]:
     """Who is present."""
     return {node.name for node in shown.nodes if node.is_present}
 
 
-def cost(processes: Dict[str, List[int]]) -> List[float]:
+def cost(processes: dict[str, list[int]]) -> list[float]:
     """How much processor time each member and its processes took."""
     return [sum(map(processor_seconds, each)) for each in processes.values()]

@@ -6,11 +6,11 @@ import random
 import select
 import subprocess
 import time
+from collections.abc import Sequence
 from contextlib import suppress
-from typing import List, Sequence
 
-from etcd_servers import Servers
-from laws import wait_until
+from tests.etcd_servers import Servers
+from tests.waiting import wait_until
 
 PATIENCE = 30.0
 
@@ -21,7 +21,9 @@ class Contender:
     def __init__(self, within: Sequence[str], servers: Servers, name: str, ttl: float) -> None:
         endpoints = ','.join(str(server.place.client) for server in servers.each)
         words = [*within, 'etcdctl', '--endpoints', endpoints, 'lock', name, '--ttl', f'{ttl:.0f}']
-        self.process = subprocess.Popen(words, stdin=subprocess.DEVNULL, stdout=subprocess.PIPE, env={**os.environ, 'ETCDCTL_API': '3'})
+        self.process = subprocess.Popen(
+            words, stdin=subprocess.DEVNULL, stdout=subprocess.PIPE, env={**os.environ, 'ETCDCTL_API': '3'}
+        )
 
     def await_lock(self) -> None:
         """Returns once it holds the lock, which it says. Raises TimeoutError, ValueError."""
@@ -42,7 +44,7 @@ class Contender:
 
 def time_lock(servers: Servers, hosts: Sequence[Sequence[str]], name: str, ttl: float, choice: random.Random) -> float:
     """The holder of a lock is killed at some moment: the seconds until the other contender holds it."""
-    contenders: List[Contender] = []
+    contenders: list[Contender] = []
     try:
         for count, within in enumerate(hosts, 1):
             contenders.append(Contender(within, servers, name, ttl))

@@ -2,16 +2,18 @@
 from __future__ import annotations
 
 import random
+from collections.abc import Callable, Iterator, Sequence
 from dataclasses import replace
-from typing import Callable, Dict, Iterator, List, Optional, Sequence, Tuple, TypeVar
+from typing import TypeVar
 
-import proved
 from bully import BullyError, Owned, Setup
 from bully.member import (
     Ask, Begin, End, Life, Opening, Presence, Present, Promise, Request, Rest, Seen, Step, StoreAnswer, Unknown, Wait,
 )  # fmt: skip
-from plain import SETTLEMENT, Plain, is_at_rest, settle
-from settling import TTL, Maker, Rules, Wrong
+from . import proved
+from .driven import Maker, Rules, Wrong
+from .plain import SETTLEMENT, Plain, is_at_rest, settle
+from .trouble import TTL
 
 Told = TypeVar('Told')
 
@@ -21,18 +23,21 @@ class Differ(Wrong):
 
 
 class Both:
-    """The plain rules, and others beside them. What they do is compared at each step: its kind, its times and lives, and its rows."""
+    """The plain rules, and others beside them. What they do is compared at each step: its kind, its times and lives,
+    and its rows."""
 
     steps = settlements = 0  # how many were compared, in all groups
 
     def __init__(self, opening: Opening, process: int, ttl: int, other: Maker = proved.member) -> None:
         self.plain = Plain(opening, process, ttl)
         self.other: Rules = other(opening, process, ttl)
-        self.told: List[str] = []  # what was told to both last
+        self.told: list[str] = []  # what was told to both last
 
     def _same(self, what: str, plain: Told, other: Told) -> Told:
         if plain != other:
-            raise Differ(f'{what} is {plain} and {other}, behind {self.told}; of {self.plain.state()} and {words_of(self.other)}')
+            raise Differ(
+                f'{what} is {plain} and {other}, behind {self.told}; of {self.plain.state()} and {words_of(self.other)}'
+            )
         return plain
 
     def _note(self, *told: object) -> None:
@@ -49,10 +54,10 @@ class Both:
         self.owned()
         return step
 
-    def owned(self) -> Optional[Owned]:
+    def owned(self) -> Owned | None:
         return self._same('what it owns', self.plain.owned(), self.other.owned())
 
-    def settlement(self) -> List[str]:
+    def settlement(self) -> list[str]:
         Both.settlements += 1
         return self._same('the settlement', self.plain.settlement(), self.other.settlement())
 
@@ -76,9 +81,11 @@ class Both:
         self.plain.passed()
         self.other.passed()
 
-    def followed(self, now: int, opening: Optional[Opening]) -> None:
+    def followed(self, now: int, opening: Opening | None) -> None:
         self._note(now, opening)
-        self._same('what is refused', *(refused(lambda: rules.followed(now, opening)) for rules in (self.plain, self.other)))
+        self._same(
+            'what is refused', *(refused(lambda: rules.followed(now, opening)) for rules in (self.plain, self.other))
+        )
 
     def woke(self) -> None:
         self._note('woke')
@@ -105,9 +112,12 @@ class Both:
         self.other.close()
 
 
-def words_of(rules: Rules) -> Dict[str, object]:
+def words_of(rules: Rules) -> dict[str, object]:
     """What is shown of it, for people."""
-    return {name: getattr(rules, name, None) for name in ('life', 'work', 'ending', 'promised', 'place', 'epoch', 'is_wished')}
+    return {
+        name: getattr(rules, name, None)
+        for name in ('life', 'work', 'ending', 'promised', 'place', 'epoch', 'is_wished')
+    }
 
 
 # ---- Members that are told whatever may be, in any order. A driver wouldn't.
@@ -119,7 +129,9 @@ class Anything:
     def __init__(self, seed: int, other: Maker) -> None:
         self.choice = random.Random(seed)
         nodes = self.choice.randint(1, 4)
-        self.setup = Setup(nodes, self.choice.randint(1, 6), weights=tuple(self.choice.randint(1, 3) for _ in range(nodes)))
+        self.setup = Setup(
+            nodes, self.choice.randint(1, 6), weights=tuple(self.choice.randint(1, 3) for _ in range(nodes))
+        )
         self.process, self.now = self.choice.randint(1, 3), self.choice.choice([0, 5 * TTL])
         self.both = Both(self.opening(1), self.process, TTL, other)
 
@@ -127,17 +139,23 @@ class Anything:
         nodes = self.setup.nodes
         old = tuple(self.choice.randint(0, nodes) for _ in range(self.setup.partitions))
         rows_max = self.choice.choice([22, 40]) * nodes
-        return Opening(self.setup.header(), epoch, self.choice.randint(1, nodes), rows_max, self.choice.choice([None, old]))
+        return Opening(
+            self.setup.header(), epoch, self.choice.randint(1, nodes), rows_max, self.choice.choice([None, old])
+        )
 
     def bad_opening(self, epoch: int) -> Opening:
         opening = self.opening(epoch)
-        changes = self.choice.choice([{'node': self.setup.nodes + 1}, {'rows_max': 22 * self.setup.nodes - 1}, {'old': (1,) * 7}])
+        changes = self.choice.choice(
+            [{'node': self.setup.nodes + 1}, {'rows_max': 22 * self.setup.nodes - 1}, {'old': (1,) * 7}]
+        )
         return replace(opening, **changes)  # type: ignore[arg-type]
 
     def tell(self, step: Step) -> None:
         """Mostly what fits the step."""
         if self.choice.random() < 0.15:
-            self.tell_kind(self.choice.choice(['answer', 'look', 'woke', 'stopped', 'lost', 'follow', 'pass', 'leave', 'nothing']))
+            self.tell_kind(
+                self.choice.choice(['answer', 'look', 'woke', 'stopped', 'lost', 'follow', 'pass', 'leave', 'nothing'])
+            )
         elif isinstance(step, Ask):
             self.tell_kind({Request.LOOK: 'look', Request.FOLLOW: 'follow'}.get(step.request, 'answer'))
         elif not isinstance(step, Begin):
@@ -147,7 +165,9 @@ class Anything:
         choice, both, plain = self.choice, self.both, self.both.plain
         is_rare = choice.random() < 0.1
         if kind == 'answer':
-            both.answered(self.now, choice.choice([StoreAnswer.DONE] * 6 + [StoreAnswer.REFUSED, StoreAnswer.UNANSWERED]))
+            both.answered(
+                self.now, choice.choice([StoreAnswer.DONE] * 6 + [StoreAnswer.REFUSED, StoreAnswer.UNANSWERED])
+            )
         elif kind == 'look':
             both.learn(self.rows())
             both.looked(self.now, self.seen())
@@ -167,7 +187,7 @@ class Anything:
         elif kind == 'leave' and (is_rare or plain.work is not None):
             both.leave()
 
-    def rows(self) -> List[str]:
+    def rows(self) -> list[str]:
         """Mostly what may stand next."""
         choice, plain, nodes = self.choice, self.both.plain, self.setup.nodes
         if plain.place + SETTLEMENT * nodes > 5_000 or choice.random() < 0.6:
@@ -181,9 +201,19 @@ class Anything:
     def seen(self) -> Seen:
         """Mostly that those are present that are up, and its own life."""
         choice, plain = self.choice, self.both.plain
-        up = plain.world.up if choice.random() < 0.8 else {node for node in range(1, self.setup.nodes + 1) if choice.random() < 0.5}
-        life = plain.life.life if isinstance(plain.life, (Present, Unknown)) and choice.random() < 0.95 else Life(choice.choice([self.process, 9]), 0)
-        lives = {node: life if node == plain.node else Life(10 + node, choice.choice([1, 1, 1, 2])) for node in sorted(up)}
+        up = (
+            plain.world.up
+            if choice.random() < 0.8
+            else {node for node in range(1, self.setup.nodes + 1) if choice.random() < 0.5}
+        )
+        life = (
+            plain.life.life
+            if isinstance(plain.life, (Present, Unknown)) and choice.random() < 0.95
+            else Life(choice.choice([self.process, 9]), 0)
+        )
+        lives = {
+            node: life if node == plain.node else Life(10 + node, choice.choice([1, 1, 1, 2])) for node in sorted(up)
+        }
         presences = tuple(Presence(node, life, self.promise()) for node, life in lives.items())
         epoch = plain.opening.epoch + (choice.random() < 0.02)
         return Seen(epoch, presences, choice.random() < 0.05, choice.random() < 0.05)
@@ -212,11 +242,15 @@ class Anything:
         plain = self.both.plain
         present = [presence.node for presence in plain.presences if plain.stay_left(self.now, presence) == 0]
         promised = max(plain.promised, plain.own.place if plain.own.epoch == plain.opening.epoch else 0)
-        is_free = not (plain.work or plain.ending or plain.is_past) and isinstance(plain.life, Present) and self.now < plain.sure_until
+        is_free = (
+            not (plain.work or plain.ending or plain.is_past)
+            and isinstance(plain.life, Present)
+            and self.now < plain.sure_until
+        )
         return is_free and is_at_rest(plain.world, present, promised) and plain.node in plain.world.table
 
 
-def tell_anything(seed: int, other: Maker = proved.member) -> Optional[str]:
+def tell_anything(seed: int, other: Maker = proved.member) -> str | None:
     """What is wrong with a member that is told anything, if something is."""
     anything = Anything(seed, other)
     try:
@@ -236,7 +270,7 @@ def tell_anything(seed: int, other: Maker = proved.member) -> Optional[str]:
 # ---- Beginnings that are refused.
 
 
-def refusals() -> Iterator[Tuple[Opening, int, Optional[str]]]:
+def refusals() -> Iterator[tuple[Opening, int, str | None]]:
     """By the order of the rules: each beginning has all faults of those behind it, too."""
     header = Setup(3, 4).header()
     yield Opening(header, 1, 4, 65, (1, 2)), 999_999, 'BadNode'
@@ -251,7 +285,7 @@ def refusals() -> Iterator[Tuple[Opening, int, Optional[str]]]:
     yield Opening(header, 7, 3, 66, None), 1_000_000, None
 
 
-def refused(call: Callable[[], object]) -> Optional[str]:
+def refused(call: Callable[[], object]) -> str | None:
     """Why the call is refused, if it is."""
     try:
         call()
@@ -262,11 +296,11 @@ def refused(call: Callable[[], object]) -> Optional[str]:
     return None
 
 
-def refused_alike() -> List[Optional[str]]:
+def refused_alike() -> list[str | None]:
     """What is wrong with each beginning that both rules refuse, or don't."""
-    wrongs: List[Optional[str]] = []
+    wrongs: list[str | None] = []
     for opening, ttl, expected in refusals():
-        makers: Tuple[Maker, ...] = (Plain, proved.member)
+        makers: tuple[Maker, ...] = (Plain, proved.member)
         told = [refused(lambda: make(opening, 1, ttl).close()) for make in makers]
         wrongs.append(None if told == [expected, expected] else f'{opening}, {ttl}: {told}, and not {expected}')
     return wrongs

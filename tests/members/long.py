@@ -5,12 +5,11 @@ import gc
 import os
 import random
 from pathlib import Path
-from typing import List
 
 from bully.learned import Learned
 from bully.member import Core
-from over_memory import OverMemory
-from settling import Trouble
+from .over_memory import OverMemory
+from .trouble import Trouble
 
 NODES = 5
 ROWS = 600  # of an epoch, for each node
@@ -39,7 +38,7 @@ class Long:
     def __init__(self) -> None:
         self.choice = random.Random(1)
         self.simulation = OverMemory(1, Core, trouble=Little)
-        self.memory: List[float] = []
+        self.memory: list[float] = []
         self.open = self.rows = self.processes = 0
 
     def run(self, changes: int) -> None:
@@ -89,6 +88,8 @@ class Long:
 
     def __str__(self) -> str:
         simulation = self.simulation
-        return (f'{self.processes + len(simulation.members)} processes, {simulation.store.epoch.number} epochs, '
-                f'{self.rows + len(simulation.store.epoch.rows)} rows, {simulation.now // simulation.ttl} ttl; '
-                f'{" ".join(f"{each:.1f}" for each in self.memory)} MB, {self.open} members open')
+        return (
+            f'{self.processes + len(simulation.members)} processes, {simulation.store.epoch.number} epochs, '
+            f'{self.rows + len(simulation.store.epoch.rows)} rows, {simulation.now // simulation.ttl} ttl; '
+            f'{" ".join(f"{each:.1f}" for each in self.memory)} MB, {self.open} members open'
+        )

@@ -1,7 +1,8 @@
-"""A network of a test's own on this machine: each host is a network namespace, and two bridges in another one join them all.
+"""A network of a test's own on this machine: each host is a network namespace, and two bridges in another one join them
+all.
 
-Each host has an address on both bridges: 10.83.0.N, and 10.83.1.N, over which servers talk to one another. Nothing of the machine's own
-network is touched. It takes root, and the programs `ip` and `bridge`.
+Each host has an address on both bridges: 10.83.0.N, and 10.83.1.N, over which servers talk to one another. Nothing of
+the machine's own network is touched. It takes root, and the programs `ip` and `bridge`.
 """
 from __future__ import annotations
 
@@ -9,8 +10,8 @@ import ctypes
 import os
 import shutil
 import subprocess
+from collections.abc import Sequence
 from pathlib import Path
-from typing import List, Sequence, Tuple
 
 NAMED = Path('/run/netns')  # where `ip` has its namespaces
 PREFIX = 'bully-test-'
@@ -27,7 +28,9 @@ def call(*words: str) -> None:
     """Runs a program. Raises NoNetwork."""
     if shutil.which(words[0]) is None:
         raise NoNetwork(f'there is no program `{words[0]}`')
-    ended = subprocess.run(words, stdin=subprocess.DEVNULL, stdout=subprocess.PIPE, stderr=subprocess.STDOUT, check=False)
+    ended = subprocess.run(
+        words, stdin=subprocess.DEVNULL, stdout=subprocess.PIPE, stderr=subprocess.STDOUT, check=False
+    )
     if ended.returncode != 0:
         raise NoNetwork(f'`{" ".join(words)}`: {ended.stdout.decode(errors="replace").strip()}')
 
@@ -46,7 +49,7 @@ class Network:
     def __init__(self, names: Sequence[str]) -> None:
         """Makes them. This thread, and what it begins, is where the bridges are from then on. Raises NoNetwork."""
         self.hosts = {name: number for number, name in enumerate(names, 11)}
-        self._made: List[str] = []
+        self._made: list[str] = []
         if os.geteuid() != 0:
             raise NoNetwork('this is not root')
         remove_left()
@@ -93,7 +96,7 @@ class Network:
         """The address of a host on a bridge."""
         return f'10.83.{bridge}.{self.hosts[name]}'
 
-    def within(self, name: str) -> Tuple[str, ...]:
+    def within(self, name: str) -> tuple[str, ...]:
         """The words by which a process is begun at a host."""
         return ('ip', 'netns', 'exec', self._space(name))
 

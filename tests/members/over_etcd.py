@@ -1,29 +1,31 @@
 """The same groups over `bully.etcd`, and an etcd whose leaders are lost (`cluster.py`).
 
-Each request of a call has its own way, and may be lost, or its answer; the member waits for it as long as `bully.gateway` does, and then
-asks the next server. A watch tells what is new late, or not at all. What is judged is read from etcd's keys as they are.
+Each request of a call has its own way, and may be lost, or its answer; the member waits for it as long as
+`bully.gateway` does, and then asks the next server. A watch tells what is new late, or not at all. What is judged is
+read from etcd's keys as they are.
 """
 from __future__ import annotations
 
 import random
+from collections.abc import Callable
 from functools import partial
-from typing import Callable, Dict, List, Optional, Tuple, Type
 
-from asking import KeptLog, Pending, Request, made, opened
 from bully import logs
+from bully.clocks import SECOND
 from bully.epochs import FIRST, Opening
 from bully.etcd import AGAIN, FEW, place_of
 from bully.gateway import Json, Silent, behind
-from bully.logs import SECOND, LogError, NoEpoch, Unanswered, orders_of
-from bully.member import Ask, Promise, Until, Wait
-from bully.member import Request as Asked
+from bully.logs import LogError, NoEpoch, Unanswered
+from bully.member import Ask, Promise, Request as Asked, Until, Wait
 from bully.orders import Orders
 from bully.settings import Settings
-from bully.sqlite import life_of
-from cluster import SERVERS, Cluster, Outcome, Version, Weather, interval, pair_told, weather_of
-from over_memory import FoundInLog, LogMember, LogStore, OverMemory, epoch_of
-from settling import GONE, Maker, Member, Trouble, Wrong
-from store import Epoch, Lease
+from bully.stored import life_of, orders_of
+from .asking import KeptLog, Pending, Request, made, opened
+from .cluster import SERVERS, Cluster, Outcome, Version, Weather, interval, pair_told, weather_of
+from .driven import GONE, Maker, Member, Wrong
+from .over_memory import FoundInLog, LogMember, LogStore, OverMemory, epoch_of
+from .store import Epoch, Lease
+from .trouble import Trouble
 
 SHORTEST = 10_000_000  # nanoseconds until somebody asks again
 TROUBLES_OF_ETCD = ('a leader is lost', 'a presence ends with its lease', 'a watch tells nothing')
@@ -36,21 +38,21 @@ class EtcdStore(LogStore):
 
     def __init__(self, cluster: Cluster, settings: Settings, limit: int) -> None:
         self.cluster = cluster
-        self._epochs: List[Epoch] = []
-        self.leases: Dict[str, Lease] = {}
+        self._epochs: list[Epoch] = []
+        self.leases: dict[str, Lease] = {}
         self.log = made(cluster, Opening.first(settings.setup.header(), settings.names, limit))
         self.see([self.log._keys.opening(FIRST)])
 
     @property
-    def epochs(self) -> List[Epoch]:
+    def epochs(self) -> list[Epoch]:
         return self._epochs
 
-    def below(self, prefix: bytes) -> Dict[str, bytes]:
+    def below(self, prefix: bytes) -> dict[str, bytes]:
         """The values of all keys that begin so, by what is behind that."""
         found = self.cluster.keys.found(prefix, behind(prefix))
         return {key[len(prefix) :].decode(): version.value or b'' for key, version in found}
 
-    def see(self, changed: List[bytes]) -> Optional[str]:
+    def see(self, changed: list[bytes]) -> str | None:
         """Keys have changed, in one transaction. Whether that is an append, or the end of an epoch."""
         keys, what = self.log._keys, None
         for key in changed:
@@ -66,24 +68,26 @@ class EtcdStore(LogStore):
             elif key.startswith(keys.logs):
                 here, what = place_of(key[len(keys.logs) :].decode()), 'an append'
                 if here != Promise(self.epoch.number, len(self.epoch.rows)):
-                    raise Wrong(f'rows stand at {here}, and the log ends at place {len(self.epoch.rows)} of epoch {self.epoch.number}')
+                    end = f'place {len(self.epoch.rows)} of epoch {self.epoch.number}'
+                    raise Wrong(f'rows stand at {here}, and the log ends at {end}')
                 self.epoch.rows.extend(value.decode().splitlines())
         if any(key.startswith(keys.presences) for key in changed):
             lives, promises = self.below(keys.lives), self.below(keys.promises)
             none = b'%010d/%010d' % (0, 0)
             self.leases = {
-                name: Lease(life_of(life.decode()), place_of(promises.get(name, none).decode()), 0) for name, life in lives.items()
+                name: Lease(life_of(life.decode()), place_of(promises.get(name, none).decode()), 0)
+                for name, life in lives.items()
             }
         return what
 
-    def held(self) -> Dict[str, Lease]:
+    def held(self) -> dict[str, Lease]:
         return self.leases
 
     @property
     def orders(self) -> Orders:
         return orders_of(self.log.address, self.cluster.keys.get(self.log._keys.orders).value)
 
-    def wished(self) -> Optional[Settings]:
+    def wished(self) -> Settings | None:
         wished = self.cluster.keys.get(self.log._keys.next).value
         return None if wished is None else Opening.parse(wished.decode()).settings
 
@@ -96,7 +100,7 @@ class Call:
         self.simulation = member.simulation
         self.client = member.kept.client
         self.journal = self.client.begun()
-        self.awaited: Optional[Request] = None
+        self.awaited: Request | None = None
 
     def go_on(self) -> None:
         """It goes on up to its next request, or to its end."""
@@ -133,12 +137,16 @@ class Call:
 
     def arrive(self, request: Request) -> None:
         self.simulation.happened['a request comes behind its time'] += self.awaited is not request
-        self.simulation.cluster.receive(request.server, request.path, request.told, lambda outcome: self.answer(request, outcome))
+        self.simulation.cluster.receive(
+            request.server, request.path, request.told, lambda outcome: self.answer(request, outcome)
+        )
 
     def answer(self, request: Request, outcome: Outcome) -> None:
         """The server answers."""
         simulation = self.simulation
-        if simulation.now < self.member.cut_until or simulation.happens('an answer is lost', simulation.trouble.unanswered):
+        if simulation.now < self.member.cut_until or simulation.happens(
+            'an answer is lost', simulation.trouble.unanswered
+        ):
             if simulation.choice.random() < 0.5:
                 return
             outcome = Silent(SERVERS[request.server], 'the connection was ended', may_be_done=True)
@@ -155,8 +163,8 @@ class EtcdMember(LogMember):
     """A member whose log is in etcd."""
 
     simulation: OverEtcd
-    call_type: Type[Call] = Call
-    asked: Optional[Ask] = None
+    call_type: type[Call] = Call
+    asked: Ask | None = None
 
     def opened(self) -> logs.Log:
         simulation = self.simulation
@@ -183,16 +191,20 @@ class EtcdMember(LogMember):
             self.go()
 
         self.call_type(self, call, answer).go_on()
-        if ask.request is Asked.RENEW and self.simulation.happens('a pause with a renewal', self.simulation.trouble.renewal_pauses):
+        if ask.request is Asked.RENEW and self.simulation.happens(
+            'a pause with a renewal', self.simulation.trouble.renewal_pauses
+        ):
             self.simulation.pause(self)
 
 
 class OverEtcd(OverMemory):
     """A group over an etcd."""
 
-    member: Type[Member] = EtcdMember
+    member: type[Member] = EtcdMember
 
-    def __init__(self, seed: int, make: Maker, log_type: Type[KeptLog] = KeptLog, trouble: Type[Trouble] = Trouble) -> None:
+    def __init__(
+        self, seed: int, make: Maker, log_type: type[KeptLog] = KeptLog, trouble: type[Trouble] = Trouble
+    ) -> None:
         self.of_etcd = random.Random(f'{seed} etcd')
         self.weather = self.new_weather()
         self.log_type = log_type
@@ -240,7 +252,7 @@ class OverEtcd(OverMemory):
             if not member.is_dead and member.life == life_of(life.decode()) and self.now < member.worker.until:
                 raise Wrong(f'the presence of {member} ended, and it is sure for {member.worker.until - self.now} ns')
 
-    def see_change(self, changed: List[bytes]) -> None:
+    def see_change(self, changed: list[bytes]) -> None:
         """Something has changed in etcd."""
         what = self.there.see(changed)
         if what is not None:
@@ -248,7 +260,8 @@ class OverEtcd(OverMemory):
         self.tell_all()
 
     def tell(self, member: Member) -> None:
-        """By a watch, which may be late, or broken: then the member hears of the next change, or goes on when its time is over."""
+        """By a watch, which may be late, or broken: then the member hears of the next change, or goes on when its time
+        is over."""
         wait, found = member.awaited, member.found
         if wait is None or found is None or not self.store.has_news(member.epoch, found, wait.until):
             return
@@ -262,12 +275,12 @@ class OverEtcd(OverMemory):
             member.wake()
 
 
-class Watch:
+class Subscription:
     """A watch of a member: what it has yet to tell, and when."""
 
     def __init__(self, is_wide: bool, begin: bytes, end: bytes) -> None:
         self.is_wide, self.begin, self.end = is_wide, begin, end
-        self.events: List[Tuple[int, Json]] = []
+        self.events: list[tuple[int, Json]] = []
 
     def add(self, due: int, event: Json) -> None:
         """It tells all in order."""
@@ -278,7 +291,7 @@ class Watched(EtcdMember):
     """A member that waits by what a watch tells to the package's own log, and looks by what that knows then."""
 
     simulation: Watching
-    watch: Optional[Watch] = None
+    watch: Subscription | None = None
     broken = 0  # when its watch broke
 
     def is_news(self, wait: Wait) -> bool:
@@ -286,9 +299,9 @@ class Watched(EtcdMember):
         log, found = self.kept, self.found
         assert isinstance(found, FoundInLog)
         here = Promise(self.epoch, self.place)
-        known, idle = log._told_idle
+        known, idle = log._seen_idle
         before = idle if known == here else frozenset()
-        return log._news.awaited(here, found.lives, wait.until, log._told_wanted, before)()
+        return log._news.awaited(here, found.lives, wait.until, log._seen_wanted, before)()
 
     def hear(self, wait: Wait) -> bool:
         """Whether there is what it waits for, once what is due has been told."""
@@ -310,7 +323,7 @@ class Watched(EtcdMember):
             log._see_all(log._look(*log._keys.standing(0)), 0)
         begin, end = interval(log._keys.watched(is_wide))
         assert end is not None
-        self.watch = Watch(is_wide, begin, end)
+        self.watch = Subscription(is_wide, begin, end)
         for event in self.simulation.events_since(log._news.revision, begin, end):
             self.watch.add(self.simulation.now, event)
 
@@ -322,16 +335,21 @@ class Watched(EtcdMember):
 class Watching(OverEtcd):
     """A group whose members wait so. A watch is late, or breaks."""
 
-    member: Type[Member] = Watched
+    member: type[Member] = Watched
 
-    def events_since(self, revision: int, begin: bytes, end: bytes) -> List[Json]:
+    def events_since(self, revision: int, begin: bytes, end: bytes) -> list[Json]:
         """What has happened to these keys behind a revision, in order."""
         there = self.cluster.keys
         names = [name for name in there._names if begin <= name < end]
-        found = [(version.modified, name, version) for name in names for version in there._versions[name] if version.modified > revision]
+        found = [
+            (version.modified, name, version)
+            for name in names
+            for version in there._versions[name]
+            if version.modified > revision
+        ]
         return [event_of(name, version) for _, name, version in sorted(found)]
 
-    def see_change(self, changed: List[bytes]) -> None:
+    def see_change(self, changed: list[bytes]) -> None:
         for member in self.members:
             if not isinstance(member, Watched) or member.is_dead or member.watch is None:
                 continue

@@ -1,34 +1,37 @@
-"""The same groups over the log in memory of `bully.logs`, and what all logs of the package have in common here.
+"""The same groups over the log of `bully.memory`, and what all logs of the package have in common here.
 
-A member asks the log as `bully.running` does. What is judged is read from the log as it is, apart from what members ask.
+A member asks the log as `bully.running` does. What is judged is read from the log as it is, apart from what members
+ask.
 """
 from __future__ import annotations
 
+from collections.abc import Callable, Mapping, Sequence, Set as AbstractSet
 from contextlib import suppress
 from dataclasses import dataclass, replace
 from functools import cached_property, partial
-from typing import AbstractSet, Callable, Dict, List, Mapping, Optional, Protocol, Sequence, Set, Tuple, Type, cast
+from typing import Protocol, cast
 
 from bully import Status, logs, ordering
 from bully.asks import Asker
 from bully.epochs import FIRST, Opening
-from bully.logs import MemoryLog
 from bully.looks import awaited, seen_of
-from bully.member import Ask, Core, Ending, Life, Promise, Request, Seen, Until, Wait
-from bully.member import Opening as Terms
+from bully.member import Ask, Core, Ending, Life, Opening as Terms, Promise, Request, Seen, Until, Wait
+from bully.memory import MemoryLog
 from bully.orders import Orders
 from bully.settings import Settings
 from bully.stores import BadWords
-from plain import Plain
-from settling import Maker, Member, Simulation, StoreMaker, Trouble, Wrong
-from store import Epoch, Found, Lease, Standing, table_of
+from .driven import Maker, Member, StoreMaker, Wrong
+from .plain import Plain
+from .settling import Simulation
+from .store import Epoch, Found, Lease, Standing, table_of
+from .trouble import Trouble
 
 
 CHANGES = {Request.APPEND: 'an append', Request.FINISH: 'the end of an epoch'}
 NEVER = 2**63  # nanoseconds
 TROUBLES_OF_ORDERS = [
-    'a node is drained', 'a drained node comes back', 'a group is paused', 'members work on in a pause beside one that is gone',
-    'a change is finished in a pause',
+    'a node is drained', 'a drained node comes back', 'a group is paused',
+    'members work on in a pause beside one that is gone', 'a change is finished in a pause',
 ]  # fmt: skip
 
 
@@ -39,17 +42,17 @@ class FoundInLog(Found):
     told: logs.Found = logs.Found(0, (), {}, None)
 
     @cached_property
-    def lives(self) -> Dict[str, Life]:
+    def lives(self) -> dict[str, Life]:
         """Whose lives it found, by name."""
         return self.told.lives
 
 
-def epoch_of(opening: Opening, rows: List[str]) -> Epoch:
+def epoch_of(opening: Opening, rows: list[str]) -> Epoch:
     """An epoch whose rows are these."""
     return Epoch(opening.epoch, opening.settings, opening.limit, opening.table or None, rows)
 
 
-def terms_of(opening: Opening, name: str) -> Optional[Terms]:
+def terms_of(opening: Opening, name: str) -> Terms | None:
     """What the epoch begins with for the member of this name; none, if it isn't in the group."""
     if name not in opening.names:
         return None
@@ -59,18 +62,27 @@ def terms_of(opening: Opening, name: str) -> Optional[Terms]:
 class Watchable(logs.Log, Protocol):
     """A log that tells whether a wait is over."""
 
-    def has_news(self, epoch: int, place: int, lives: Mapping[str, Life], wanted: logs.Wanted, until: Until, before: AbstractSet[str]) -> bool:
+    def has_news(
+        self,
+        epoch: int,
+        place: int,
+        lives: Mapping[str, Life],
+        wanted: logs.Wanted,
+        until: Until,
+        before: AbstractSet[str],
+    ) -> bool:
         """Behind a look that found this to be wanted, and these idle up to that place."""
 
 
 class LogStore:
-    """What is judged of a log of the package, and what whoever resizes a group asks of it, which is answered at once."""
+    """What is judged of a log of the package, and what whoever resizes a group asks of it, which is answered at
+    once."""
 
     log: Watchable
     kept_from = 0  # no member is told that an epoch was taken away: looks tell of the current one
 
     @property
-    def epochs(self) -> List[Epoch]:
+    def epochs(self) -> list[Epoch]:
         """All that there were."""
         raise NotImplementedError
 
@@ -79,7 +91,7 @@ class LogStore:
         """The current one."""
         return self.epochs[-1]
 
-    def held(self) -> Dict[str, Lease]:
+    def held(self) -> dict[str, Lease]:
         """Who is present, by name."""
         raise NotImplementedError
 
@@ -98,15 +110,15 @@ class LogStore:
     def orders(self) -> Orders:
         raise NotImplementedError
 
-    def wished(self) -> Optional[Settings]:
+    def wished(self) -> Settings | None:
         raise NotImplementedError
 
     @property
-    def wish(self) -> Optional[Settings]:
+    def wish(self) -> Settings | None:
         return self.wished()
 
     @wish.setter
-    def wish(self, settings: Optional[Settings]) -> None:
+    def wish(self, settings: Settings | None) -> None:
         opening = self.log.opening()
         if settings is None or opening.is_of(settings):
             self.log.cancel(opening.epoch)
@@ -121,20 +133,22 @@ class MemoryStore(LogStore):
     """The same of a log in memory."""
 
     log: MemoryLog
-    log_type: Type[MemoryLog] = MemoryLog
+    log_type: type[MemoryLog] = MemoryLog
 
     def __init__(self, settings: Settings, limit: Callable[[int], int], clock: Callable[[], int]) -> None:
-        self.log = self.log_type(Opening.first(settings.setup.header(), settings.names, limit(settings.setup.nodes)), clock)
-        self._epochs: List[Epoch] = []
+        self.log = self.log_type(
+            Opening.first(settings.setup.header(), settings.names, limit(settings.setup.nodes)), clock
+        )
+        self._epochs: list[Epoch] = []
 
     @property
-    def epochs(self) -> List[Epoch]:
+    def epochs(self) -> list[Epoch]:
         while len(self._epochs) < self.log.epoch:
             number = len(self._epochs) + FIRST
             self._epochs.append(epoch_of(self.log.opening(number), self.log._rows[number]))
         return self._epochs
 
-    def held(self) -> Dict[str, Lease]:
+    def held(self) -> dict[str, Lease]:
         there = self.log.presences
         return {name: Lease(holder.life, holder.promise, self.log.leases[name].until) for name, holder in there.items()}
 
@@ -142,7 +156,7 @@ class MemoryStore(LogStore):
     def orders(self) -> Orders:
         return self.log.orders
 
-    def wished(self) -> Optional[Settings]:
+    def wished(self) -> Settings | None:
         return None if self.log.wish is None else self.log.wish.settings
 
 
@@ -157,7 +171,10 @@ class LogMember(Member):
     def __init__(self, simulation: Simulation, name: str, number: int, terms: Terms) -> None:
         super().__init__(simulation, name, number, terms)
         self.log = self.opened()
-        self.opening = Opening(terms.epoch, simulation.store.epoch.header, simulation.store.epoch.settings.names, terms.rows_max, terms.old or ())
+        self.opening = Opening(
+            terms.epoch, simulation.store.epoch.header, simulation.store.epoch.settings.names, terms.rows_max,
+            terms.old or (),
+        )  # fmt: skip
 
     def opened(self) -> logs.Log:
         """The log that it asks."""
@@ -171,7 +188,9 @@ class LogMember(Member):
     def called(self, ask: Ask) -> Callable[[], object]:
         """The call of the package's own driver, and what is noted of it here."""
         self.note(ask)
-        asker = Asker(self.log, self.name, self.opening, self.place, self.simulation.lease, self.rules.settlement, self.after)
+        asker = Asker(
+            self.log, self.name, self.opening, self.place, self.simulation.lease, self.rules.settlement, self.after
+        )
         call, place = asker.call(ask), self.place
 
         def done() -> object:
@@ -199,7 +218,7 @@ class LogMember(Member):
         assert isinstance(self.found, FoundInLog)
         return self.opening.next(self.found.told.wish, self.last_table())
 
-    def last_table(self) -> Tuple[int, ...]:
+    def last_table(self) -> tuple[int, ...]:
         """The last table that it has learned of."""
         rows = self.simulation.store.epochs[self.epoch - FIRST].rows[: self.place]
         plans = [row for row in reversed(rows) if row.startswith('plan,')]
@@ -208,7 +227,9 @@ class LogMember(Member):
     def found_of(self, place: int, found: logs.Found) -> Found:
         """What a look found."""
         rows = tuple(found.rows)
-        standing = Standing(found.epoch, place + len(rows), frozenset(found.lives.items()), found.wish.settings if found.wish else None)
+        standing = Standing(
+            found.epoch, place + len(rows), frozenset(found.lives.items()), found.wish.settings if found.wish else None
+        )
         idle = found.idle(Promise(found.epoch, standing.place))
         return FoundInLog(rows, Seen(found.epoch), standing, idle, found._replace(rows=()))
 
@@ -245,7 +266,7 @@ class LogMember(Member):
         if self.is_drained:
             self.simulation.after(self.simulation.ttl // 4, partial(self.simulation.come_back, self.name))
 
-    def follow(self, opening: Optional[object]) -> None:
+    def follow(self, opening: object | None) -> None:
         assert isinstance(opening, Opening)
         terms = terms_of(opening, self.name)
         if terms is not None and opening.epoch != self.epoch:
@@ -256,11 +277,13 @@ class LogMember(Member):
 class OverMemory(Simulation):
     """A group over a log in memory, or another one of the package."""
 
-    member: Type[Member] = LogMember
+    member: type[Member] = LogMember
 
-    def __init__(self, seed: int, make: Maker, store: StoreMaker = MemoryStore, trouble: Type[Trouble] = Trouble) -> None:
-        self.promised: Set[Tuple[Life, Promise]] = set()  # what lives have asked to promise
-        self.asked: Set[Promise] = set()  # where somebody who couldn't know of a pause has asked to append
+    def __init__(
+        self, seed: int, make: Maker, store: StoreMaker = MemoryStore, trouble: type[Trouble] = Trouble
+    ) -> None:
+        self.promised: set[tuple[Life, Promise]] = set()  # what lives have asked to promise
+        self.asked: set[Promise] = set()  # where somebody who couldn't know of a pause has asked to append
         self.halted_at = NEVER  # when the pause began
         super().__init__(seed, make, store, trouble)
         self.end = Promise(FIRST, 0)  # of the log, behind its last change
@@ -272,10 +295,14 @@ class OverMemory(Simulation):
         return cast(LogStore, self.store)
 
     def changed(self, what: str, done: bool) -> bool:
-        """In a pause a group is settled only if one that was there before has promised to be idle, and can't go on; or if that was asked for
-        before, and comes late."""
+        """In a pause a group is settled only if one that was there before has promised to be idle, and can't go on; or
+        if that was asked for before, and comes late."""
         lives = self.given.orders.lives if done else None
-        if lives is not None and self.end not in self.asked and not any((life, self.end) in self.promised for life in lives.values()):
+        if (
+            lives is not None
+            and self.end not in self.asked
+            and not any((life, self.end) in self.promised for life in lives.values())
+        ):
             raise Wrong(f'{what} in a pause')
         self.happened['a change is finished in a pause'] += lives is not None
         if done:
@@ -299,7 +326,9 @@ class OverMemory(Simulation):
 
     def drain(self) -> None:
         with suppress(BadWords):  # nobody would work
-            self.ordered = ordering.drain(self.given.log, self.choice.choice(self.store.epoch.settings.names), takes_last=False)
+            self.ordered = ordering.drain(
+                self.given.log, self.choice.choice(self.store.epoch.settings.names), takes_last=False
+            )
         self.tell_all()
 
     def undrain(self) -> None:
@@ -344,7 +373,7 @@ class OverMemory(Simulation):
             self.ordered = ordering.undrain(self.given.log, names[0])
         return there or names[:1]
 
-    def unrest(self) -> Optional[str]:
+    def unrest(self) -> str | None:
         orders = self.given.orders
         if orders != self.ordered or orders.drained & set(self.store.held()):
             return f'orders are {orders}, and were {self.ordered}; present are {sorted(self.store.held())}'

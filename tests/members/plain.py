@@ -1,19 +1,21 @@
-"""A member by its rules, in plain Python, of which nothing is proved. It was written from the rules alone, apart from the proved member,
-so that a difference between the two tells something.
+"""A member by its rules, in plain Python, of which nothing is proved. It was written from the rules alone, apart from
+the proved member, so that a difference between the two tells something.
 
-All times are whole nanoseconds of one clock that never goes back. A *place* in a log is how many rows stand behind its header. A token is how
-many events there are up to a plan and with it. So a plan stands at a place or behind it exactly if the place is below its token.
+All times are whole nanoseconds of one clock that never goes back. A *place* in a log is how many rows stand behind its
+header. A token is how many events there are up to a plan and with it. So a plan stands at a place or behind it exactly
+if the place is below its token.
 """
 from __future__ import annotations
 
+from collections.abc import Callable, Sequence
 from dataclasses import dataclass
-from typing import Callable, Dict, FrozenSet, List, Optional, Sequence, Tuple, Union
+from typing import Optional
 
 from bully import NotLearned, Owned, Replica, Setup, Status
 from bully.epochs import setup_of
 from bully.member import (
-    Ask, Begin, End, Ending, Life, Opening, Presence, Present, Promise, Request, Rest, Seen, Step, Stop, StoreAnswer, Unknown, Until, Wait, Way,
-    Work,
+    Ask, Begin, End, Ending, Life, Opening, Presence, Present, Promise, Request, Rest, Seen, Step, Stop, StoreAnswer,
+    Unknown, Until, Wait, Way, Work,
 )  # fmt: skip
 
 ROWS_MAX = 1_000_000
@@ -28,13 +30,14 @@ LEAST = 2 * SETTLEMENT  # times as many rows an epoch has at least: behind a fir
 
 @dataclass(frozen=True)
 class World:
-    """How a group stands behind a log: who is up; whom each Normal node has as coordinator; the last plan, whose token is 0 if there is none."""
+    """How a group stands behind a log: who is up; whom each Normal node has as coordinator; the last plan, whose token
+    is 0 if there is none."""
 
     nodes: int
-    up: FrozenSet[int]
-    coordinators: Dict[int, Optional[int]]
+    up: frozenset[int]
+    coordinators: dict[int, int | None]
     token: int
-    table: Tuple[int, ...]
+    table: tuple[int, ...]
 
 
 def world_of(replica: Replica) -> World:
@@ -45,8 +48,8 @@ def world_of(replica: Replica) -> World:
 
 
 def is_at_rest(world: World, present: Sequence[int], promised: int) -> bool:
-    """Whether those present, and no others, are up; all are Normal under the highest of them; and they may work by the last plan, behind
-    the place that was promised, which is over no others."""
+    """Whether those present, and no others, are up; all are Normal under the highest of them; and they may work by the
+    last plan, behind the place that was promised, which is over no others."""
     there = set(present)
     if world.up != there:
         return False
@@ -56,13 +59,15 @@ def is_at_rest(world: World, present: Sequence[int], promised: int) -> bool:
     return are_normal and promised < world.token and set(world.table) <= there
 
 
-def owned(world: World, node: int, promised: int) -> Optional[Owned]:
+def owned(world: World, node: int, promised: int) -> Owned | None:
     """By which token the node may work behind the place that was promised, and on which partitions, if on any."""
     partitions = tuple(partition for partition, owner in enumerate(world.table) if owner == node)
-    return Owned(world.token, partitions) if node in world.coordinators and partitions and promised < world.token else None
+    return (
+        Owned(world.token, partitions) if node in world.coordinators and partitions and promised < world.token else None
+    )
 
 
-def planned(setup: Setup, members: Sequence[int], old: Optional[Sequence[int]]) -> Tuple[int, ...]:
+def planned(setup: Setup, members: Sequence[int], old: Sequence[int] | None) -> tuple[int, ...]:
     """The table over these members with the fewest moves from the old one."""
     among = sorted(set(members))
     weights = setup.weights or (1,) * setup.nodes
@@ -72,7 +77,7 @@ def planned(setup: Setup, members: Sequence[int], old: Optional[Sequence[int]]) 
     by_need = sorted(among, key=lambda member: (owned[member] <= quotas[member], member))
     for member in by_need[: setup.partitions - sum(quotas.values())]:
         quotas[member] += 1
-    table: List[int] = []
+    table: list[int] = []
     for owner in old or (0,) * setup.partitions:
         stays = quotas.get(owner, 0) > 0
         table.append(owner if stays else 0)
@@ -82,8 +87,9 @@ def planned(setup: Setup, members: Sequence[int], old: Optional[Sequence[int]]) 
     return tuple(owner or next(others) for owner in table)
 
 
-def settle(world: World, setup: Setup, present: Sequence[int], old: Optional[Sequence[int]] = None) -> List[str]:
-    """The rows that bring a group to rest among those present, from whatever its log came to. With nobody present all crash."""
+def settle(world: World, setup: Setup, present: Sequence[int], old: Sequence[int] | None = None) -> list[str]:
+    """The rows that bring a group to rest among those present, from whatever its log came to. With nobody present all
+    crash."""
     there = set(present)
     if not there:
         return [f'crash,{node}' for node in sorted(world.up)]
@@ -94,7 +100,7 @@ def settle(world: World, setup: Setup, present: Sequence[int], old: Optional[Seq
         if node in there and (node not in world.up or node == highest):
             rows.append(f'recover,{node}')
 
-    def call(ends: str) -> List[str]:
+    def call(ends: str) -> list[str]:
         return [f'{word},{highest}' for word in ('start', ends, 'return')]
 
     for _ in range(highest + 1, world.nodes + 1):
@@ -115,7 +121,7 @@ def settle(world: World, setup: Setup, present: Sequence[int], old: Optional[Seq
 class Arrival:
     """Which life was seen for a node last, since when, and for how long it has to stay until it counts."""
 
-    life: Optional[Life] = None
+    life: Life | None = None
     at: int = 0
     stay: int = 0
 
@@ -124,7 +130,7 @@ def setup_in(opening: Opening) -> Setup:
     return setup_of(opening.header if isinstance(opening.header, str) else opening.header.decode())
 
 
-def refusal(opening: Opening, ttl: int) -> Optional[str]:
+def refusal(opening: Opening, ttl: int) -> str | None:
     """Why no member begins so, if none does."""
     try:
         setup = setup_in(opening)
@@ -148,12 +154,12 @@ class Plain:
             raise ValueError(wrong)
         self.process, self.ttl = process, ttl
         self.margin, self.renewal, self.turn, self.again = ttl // 5, ttl // 4, ttl // 5, ttl // 20
-        self.life: Union[None, Unknown, Present] = None
+        self.life: Unknown | Present | None = None
         self.tries = 0
-        self.work: Optional[Work] = None
-        self.ending: Optional[Ending] = None
-        self.paused: Optional[int] = None
-        self.asked: Optional[Tuple[Ask, int]] = None
+        self.work: Work | None = None
+        self.ending: Ending | None = None
+        self.paused: int | None = None
+        self.asked: tuple[Ask, int] | None = None
         self.unrest_at = 0
         self._open(opening)
 
@@ -164,8 +170,8 @@ class Plain:
         self.world = world_of(self.replica)
         self.place = 0
         self.promised, self.own = 0, Promise()
-        self.presences: Tuple[Presence, ...] = ()
-        self.arrivals: Dict[int, Arrival] = {}
+        self.presences: tuple[Presence, ...] = ()
+        self.arrivals: dict[int, Arrival] = {}
         self.has_strangers = self.is_wished = False
         self.must_look, self.is_past, self.has_closed = True, False, False
         self.unrest_place = 0
@@ -173,7 +179,7 @@ class Plain:
     def close(self) -> None:
         self.replica.close()
 
-    def state(self) -> Dict[str, object]:
+    def state(self) -> dict[str, object]:
         """All that it knows but its log, for people."""
         return {name: value for name, value in vars(self).items() if name not in ('replica', 'opening', 'setup')}
 
@@ -192,7 +198,7 @@ class Plain:
         """Until when its presence is sure; 0 without one."""
         return self.life.since + self.ttl - self.margin if isinstance(self.life, Present) else 0
 
-    def _present(self) -> List[int]:
+    def _present(self) -> list[int]:
         return [presence.node for presence in self.presences]
 
     def _is_sure(self, now: int) -> bool:
@@ -214,7 +220,7 @@ class Plain:
         arrival = self.arrivals[presence.node]
         return left(arrival.stay, arrival.at, now)
 
-    def _counted(self, now: int) -> List[Presence]:
+    def _counted(self, now: int) -> list[Presence]:
         return [presence for presence in self.presences if self.stay_left(now, presence) == 0]
 
     def _most_idle(self, now: int) -> int:
@@ -226,13 +232,15 @@ class Plain:
 
     def _rests(self, now: int) -> bool:
         is_free = self.promised < self.world.token and not self.is_wished and self._has_room()
-        return is_free and is_at_rest(self.world, [presence.node for presence in self._counted(now)], self._most_idle(now))
+        return is_free and is_at_rest(
+            self.world, [presence.node for presence in self._counted(now)], self._most_idle(now)
+        )
 
-    def owned(self) -> Optional[Owned]:
+    def owned(self) -> Owned | None:
         """By which token it may work, and on which partitions, if on any."""
         return owned(self.world, self.node, self.promised)
 
-    def _may_work(self) -> Optional[int]:
+    def _may_work(self) -> int | None:
         by = self.owned()
         return by.token if by else None
 
@@ -242,12 +250,16 @@ class Plain:
 
     def _are_all_idle(self) -> bool:
         others = [presence for presence in self.presences if presence.node != self.node]
-        return not self.has_strangers and self.own == self.here and all(presence.promise == self.here for presence in others)
+        return (
+            not self.has_strangers
+            and self.own == self.here
+            and all(presence.promise == self.here for presence in others)
+        )
 
     def _is_alone(self) -> bool:
         return self._present() == [self.node] and not self.has_strangers
 
-    def settlement(self) -> List[str]:
+    def settlement(self) -> list[str]:
         """The rows of an Append."""
         present = [] if self.ending is Ending.LEFT else self._present()
         return settle(self.world, self.setup, present, self.opening.old)
@@ -256,7 +268,9 @@ class Plain:
 
     def next(self, now: int) -> Step:
         """What is to be done now: by the first rule that applies."""
-        step = self._step_of_work(now) or self._step_of_life(now) or self._step_of_leaving(now) or self._step_of_group(now)
+        step = (
+            self._step_of_work(now) or self._step_of_life(now) or self._step_of_leaving(now) or self._step_of_group(now)
+        )
         if isinstance(step, Ask):
             self.asked = (step, now)
             if step.request is Request.TAKE:
@@ -271,7 +285,7 @@ class Plain:
             self.work = Work(Way.STOPPING, self.work.token)
         return step
 
-    def _step_of_work(self, now: int) -> Optional[Step]:
+    def _step_of_work(self, now: int) -> Step | None:
         """Rules 1 to 4: work that may not go on stops, and nothing is asked just behind what wasn't answered."""
         if self.work is not None and self.work.way is Way.STOPPING:
             if not isinstance(self.life, Present):
@@ -286,7 +300,7 @@ class Plain:
             return Rest(quiet if self.work is None else min(quiet, self.sure_until - now))
         return None
 
-    def _step_of_life(self, now: int) -> Optional[Step]:
+    def _step_of_life(self, now: int) -> Step | None:
         """Rules 5 to 11: a life takes its presence, and keeps it."""
         if isinstance(self.life, Unknown):
             return Ask(Request.RELEASE, self.life.life)
@@ -303,8 +317,8 @@ class Plain:
         return self._step_of_taking(now)
 
     def _step_of_taking(self, now: int) -> Step:
-        """Rules 10 and 11: an earlier life of its own process, taken late, is given back; another process's is waited for; and so are others
-        that are there, until they have settled its node Down, or have done nothing for a ttl."""
+        """Rules 10 and 11: an earlier life of its own process, taken late, is given back; another process's is waited
+        for; and so are others that are there, until they have settled its node Down, or have done nothing for a ttl."""
         for presence in self.presences:
             if presence.node == self.node:
                 is_own = presence.life.process == self.process
@@ -314,7 +328,7 @@ class Plain:
             return Wait(to_be_settled, Until.NEWS)
         return Ask(Request.TAKE, Life(self.process, self.tries + 1), self.place)
 
-    def _step_of_leaving(self, now: int) -> Optional[Step]:
+    def _step_of_leaving(self, now: int) -> Step | None:
         """Rules 12 to 14: it looks where something may be new, and ends where it has to."""
         assert isinstance(self.life, Present)
         release = Ask(Request.RELEASE, self.life.life)
@@ -326,7 +340,9 @@ class Plain:
             return None
         if self._is_alone() and self.world.up and self._has_room() and not self.has_closed:
             is_idle = self.own == self.here
-            return Ask(Request.APPEND, place=self.place) if is_idle else Ask(Request.BE_IDLE, self.life.life, self.place)
+            return (
+                Ask(Request.APPEND, place=self.place) if is_idle else Ask(Request.BE_IDLE, self.life.life, self.place)
+            )
         return release
 
     def _step_of_group(self, now: int) -> Step:
@@ -335,7 +351,11 @@ class Plain:
         renewal = left(self.renewal, self.life.since, now)
         if self._rests(now):
             token = self._may_work()
-            return Begin(token) if self.work is None and token is not None else Wait(self._rest_left(now, renewal), Until.ANY_IDLE)
+            return (
+                Begin(token)
+                if self.work is None and token is not None
+                else Wait(self._rest_left(now, renewal), Until.ANY_IDLE)
+            )
         if self.own != self.here:
             return Ask(Request.BE_IDLE, self.life.life, self.place)
         turns = self.turn * sum(node > self.node for node in self._present())
@@ -379,7 +399,8 @@ class Plain:
             self.must_look |= not is_done
 
     def _is_stale(self, ask: Ask) -> bool:
-        """Whether a presence was asked for by another life than it has by now. Then nothing is done about the answer."""
+        """Whether a presence was asked for by another life than it has by now. Then nothing is done about the
+        answer."""
         if ask.request is Request.TAKE:
             return self.life is not None
         return ask.request is Request.RENEW and not (isinstance(self.life, Present) and self.life.life == ask.life)
@@ -421,7 +442,11 @@ class Plain:
         self.presences, self.has_strangers, self.is_wished = seen.presences, seen.has_strangers, seen.is_wished
         self.must_look = False
         if isinstance(self.life, Present):
-            own = [presence for presence in seen.presences if presence.node == self.node and presence.life == self.life.life]
+            own = [
+                presence
+                for presence in seen.presences
+                if presence.node == self.node and presence.life == self.life.life
+            ]
             if own:
                 self.own = own[0].promise
             else:
@@ -443,8 +468,9 @@ class Plain:
         """The epoch was taken away."""
         self.is_past, self.asked = True, None
 
-    def followed(self, now: int, opening: Optional[Opening]) -> None:
-        """With what the current epoch begins; none, if the node isn't in it. Refused as a beginning is, and then nothing changes."""
+    def followed(self, now: int, opening: Opening | None) -> None:
+        """With what the current epoch begins; none, if the node isn't in it. Refused as a beginning is, and then
+        nothing changes."""
         wrong = refusal(opening, self.ttl) if opening is not None else None
         if wrong:
             raise ValueError(wrong)
@@ -482,21 +508,28 @@ def left(span: int, since: int, now: int) -> int:
     return max(0, span - max(0, now - since))
 
 
-# A settler makes the rows that bring a group to rest behind a log: of its header, its rows, who is present, and an old table.
-Settler = Callable[[str, Sequence[str], Sequence[int], Optional[Sequence[int]]], List[str]]
+# A settler makes the rows that bring a group to rest behind a log: of its header, its rows, who is present, and an old
+# table.
+Settler = Callable[[str, Sequence[str], Sequence[int], Optional[Sequence[int]]], list[str]]
 
 
-def settle_behind(header: str, rows: Sequence[str], present: Sequence[int], old: Optional[Sequence[int]] = None) -> List[str]:
+def settle_behind(
+    header: str, rows: Sequence[str], present: Sequence[int], old: Sequence[int] | None = None
+) -> list[str]:
     """The plain settler."""
     with Replica(header) as replica:
         replica.learn(rows)
         return settle(world_of(replica), setup_of(header), present, old)
 
 
-def rests_behind(header: str, rows: Sequence[str], present: Sequence[int], promised: int) -> Tuple[bool, List[Optional[Owned]]]:
-    """Whether the group is at rest behind a log among those present, and by what each node may work, if that place was promised."""
+def rests_behind(
+    header: str, rows: Sequence[str], present: Sequence[int], promised: int
+) -> tuple[bool, list[Owned | None]]:
+    """Whether the group is at rest behind a log among those present, and by what each node may work, if that place was
+    promised."""
     with Replica(header) as replica:
         replica.learn(rows)
         world = world_of(replica)
-        return is_at_rest(world, present, promised), [owned(world, node, promised) for node in range(1, world.nodes + 1)]
-
+        return is_at_rest(world, present, promised), [
+            owned(world, node, promised) for node in range(1, world.nodes + 1)
+        ]

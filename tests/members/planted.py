@@ -1,15 +1,16 @@
 """Members and stores that break one rule, each with the first seed that shows it."""
 from __future__ import annotations
 
+from collections.abc import Callable, Sequence
 from dataclasses import replace
-from typing import Callable, Dict, NamedTuple, Optional, Sequence, Type
+from typing import NamedTuple
 
 from bully.member import Ask, Life, Presence, Present, Promise, Request, Seen, Step, StoreAnswer, Until, Wait, Way
 from bully.settings import Settings
-from plain import Plain, is_at_rest
-from restarting import Restarting
-from settling import Simulation
-from store import Found, Store
+from .plain import Plain, is_at_rest
+from .restarting import Restarting
+from .settling import Simulation
+from .store import Found, Store
 
 
 class AppendsAnyway(Plain):
@@ -76,9 +77,13 @@ class TakesAnyPlace(Store):
 class PromisesFirst(Plain):
     """It promises, and stops its work then."""
 
-    def _step_of_work(self, now: int) -> Optional[Step]:
+    def _step_of_work(self, now: int) -> Step | None:
         is_working = self.work is not None and self.work.way is Way.WORKING and self.ending is None
-        if is_working and not (self._is_quiet(now) or self._is_due(now) or self.must_look or self.is_past) and isinstance(self.life, Present):
+        if (
+            is_working
+            and not (self._is_quiet(now) or self._is_due(now) or self.must_look or self.is_past)
+            and isinstance(self.life, Present)
+        ):
             if not self._rests(now) and self.own != self.here:
                 return Ask(Request.BE_IDLE, self.life.life, self.place)
         return super()._step_of_work(now)
@@ -217,7 +222,11 @@ class OverlooksPromises(Plain):
     """Its turn counts from when the log's end and the lives have been as they are."""
 
     def looked(self, now: int, seen: Seen) -> None:
-        before = self.unrest_at, self.place == self.unrest_place, [(presence.node, presence.life) for presence in self.presences]
+        before = (
+            self.unrest_at,
+            self.place == self.unrest_place,
+            [(presence.node, presence.life) for presence in self.presences],
+        )
         super().looked(now, seen)
         if before[1:] == (True, [(presence.node, presence.life) for presence in self.presences]):
             self.unrest_at = before[0]
@@ -231,17 +240,19 @@ class WakesForTheIdle(Store):
 
 
 class Bug(NamedTuple):
-    rules: Type[Plain]
-    store: Type[Store]
+    rules: type[Plain]
+    store: type[Store]
     seed: int  # the first that shows it
     shows: str  # a part of what it shows
     tries: Callable[..., Simulation] = Simulation
 
 
 # What is harmless stands in README.md.
-BUGS: Dict[str, Bug] = {
+BUGS: dict[str, Bug] = {
     'appends while not all are idle': Bug(AppendsAnyway, ForgetsIdle, 1, 'is present and works at'),
-    'finishes while not all are idle': Bug(FinishesAnyway, FinishesForAnybody, 2, 'is present and works at the end of an epoch'),
+    'finishes while not all are idle': Bug(
+        FinishesAnyway, FinishesForAnybody, 2, 'is present and works at the end of an epoch'
+    ),
     'a new life works by the old plan': Bug(WorksAtOnce, TakesWithoutPromise, 1, 'by the token'),
     'promises before its work stops': Bug(PromisesFirst, Store, 2, 'is present and works at'),
     'leaves before its work stops': Bug(LeavesFirst, Store, 150, 'works on what'),
@@ -262,7 +273,7 @@ BUGS: Dict[str, Bug] = {
 
 
 # Broken rules that no group shows: it only waits longer, or asks more often. Lockstep shows them.
-OTHERS: Dict[str, Type[Plain]] = {
+OTHERS: dict[str, type[Plain]] = {
     'at rest it waits for no stay': WaitsForEver,
     'it renews for ever while it ends': LeavesAnsweredOnly,
     'it waits for its own earlier life': WaitsForItself,
@@ -270,7 +281,7 @@ OTHERS: Dict[str, Type[Plain]] = {
 }
 
 
-def shown(bug: Bug, seed: int) -> Optional[str]:
+def shown(bug: Bug, seed: int) -> str | None:
     """What the seed shows of the bug, if it shows it."""
     return bug.tries(seed, bug.rules, bug.store).tried()
 

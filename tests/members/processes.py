@@ -4,16 +4,17 @@ from __future__ import annotations
 import os
 import select
 import signal
+from collections.abc import Iterable
 from contextlib import suppress
 from pathlib import Path
-from typing import Dict, Iterable, List, NamedTuple
+from typing import NamedTuple
 
-from laws import has_stopped
+from tests.processes import has_stopped
 
 TICK = 1 / os.sysconf('SC_CLK_TCK')
 
 
-def children(process: int) -> List[int]:
+def children(process: int) -> list[int]:
     """The processes that the process has started."""
     try:
         return list(map(int, Path(f'/proc/{process}/task/{process}/children').read_text().split()))
@@ -39,19 +40,21 @@ class Process(NamedTuple):
         return False
 
 
-def workers_of(member: int) -> List[Process]:
+def workers_of(member: int) -> list[Process]:
     """The workers of a member."""
-    found = [(guard, Process(worker, os.pidfd_open(worker))) for guard in children(member) for worker in children(guard)]
+    found = [
+        (guard, Process(worker, os.pidfd_open(worker))) for guard in children(member) for worker in children(guard)
+    ]
     return [worker for guard, worker in found if worker.number in children(guard)]
 
 
-def family(member: int) -> Dict[str, Process]:
+def family(member: int) -> dict[str, Process]:
     """A `member` that has not been waited for, its `guard` and its `worker`; nobody, if not all three are there."""
     guards = children(member)
     workers = [worker for guard in guards for worker in children(guard)]
     if len(guards) != 1 or len(workers) != 1:
         return {}
-    found: Dict[str, Process] = {}
+    found: dict[str, Process] = {}
     with suppress(ProcessLookupError):
         for name, number in (('member', member), ('guard', guards[0]), ('worker', workers[0])):
             found[name] = Process(number, os.pidfd_open(number))

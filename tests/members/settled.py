@@ -2,15 +2,15 @@
 from __future__ import annotations
 
 import random
+from collections.abc import Callable, Iterator, Sequence
 from dataclasses import dataclass, replace
 from pathlib import Path
-from typing import Callable, Dict, Iterator, List, Optional, Sequence, Tuple
 
-import proved
 from bully import BullyError, Replica, Setup, check, plan_table
 from bully.epochs import setup_of
-from plain import SETTLEMENT, Settler, is_at_rest, rests_behind, settle_behind, world_of
-from store import table_of
+from . import proved
+from .plain import SETTLEMENT, Settler, is_at_rest, rests_behind, settle_behind, world_of
+from .store import table_of
 
 
 @dataclass(frozen=True)
@@ -19,9 +19,9 @@ class Case:
 
     name: str
     header: str
-    rows: Tuple[str, ...]
-    present: Tuple[int, ...]
-    old: Optional[Tuple[int, ...]] = None
+    rows: tuple[str, ...]
+    present: tuple[int, ...]
+    old: tuple[int, ...] | None = None
 
     def __str__(self) -> str:
         return f'{self.name}: {self.header} behind {len(self.rows)} rows, with {self.present} and {self.old}'
@@ -30,7 +30,7 @@ class Case:
 # ---- Judging.
 
 
-def wrong_with(case: Case, settled: Sequence[str]) -> Optional[str]:
+def wrong_with(case: Case, settled: Sequence[str]) -> str | None:
     """What is wrong with these rows as a settlement, if something is."""
     setup = setup_of(case.header)
     verdict = check('\n'.join([case.header, *case.rows, *settled, '']))
@@ -52,19 +52,20 @@ def wrong_with(case: Case, settled: Sequence[str]) -> Optional[str]:
     return None
 
 
-def moves(table: Sequence[int], before: Optional[Sequence[int]]) -> int:
+def moves(table: Sequence[int], before: Sequence[int] | None) -> int:
     """How many partitions change their owner."""
     return sum(owner != old for owner, old in zip(table, before)) if before else len(table)
 
 
-def fewest(setup: Setup, members: Sequence[int], before: Optional[Sequence[int]]) -> int:
-    """How many have to, as the library plans. It knows no owner that is gone: here that is one more node, which is no member."""
+def fewest(setup: Setup, members: Sequence[int], before: Sequence[int] | None) -> int:
+    """How many have to, as the library plans. It knows no owner that is gone: here that is one more node, which is no
+    member."""
     weights = (*(setup.weights or (1,) * setup.nodes), 1)
     more = replace(setup, nodes=setup.nodes + 1, weights=weights)
     return plan_table(more, members, before and [owner or more.nodes for owner in before]).moves
 
 
-def try_case(case: Case, settlers: Sequence[Settler]) -> Optional[str]:
+def try_case(case: Case, settlers: Sequence[Settler]) -> str | None:
     """What is wrong with what the settlers make of the case: all have to make the same rows."""
     made = [settler(case.header, case.rows, case.present, case.old) for settler in settlers]
     for settled in made:
@@ -75,8 +76,9 @@ def try_case(case: Case, settlers: Sequence[Settler]) -> Optional[str]:
     return None if wrong is None else f'{case}: {wrong}'
 
 
-def rest_differs(case: Case) -> Optional[str]:
-    """Where plain and proved rules differ about rest and work, behind the log and behind each part of its settlement."""
+def rest_differs(case: Case) -> str | None:
+    """Where plain and proved rules differ about rest and work, behind the log and behind each part of its
+    settlement."""
     choice = random.Random(len(case.rows))
     settled = settle_behind(case.header, case.rows, case.present, case.old)
     for end in (0, len(settled) // 2, len(settled)):
@@ -100,15 +102,17 @@ def random_cases(count: int) -> Iterator[Case]:
         weights = tuple(choice.randint(1, 3) for _ in range(nodes))
         setup = Setup(nodes, choice.randint(1, 20), weights=weights, keeps=choice.random() < 0.5)
         with Replica(setup.header()) as replica:
-            rows: List[str] = []
+            rows: list[str] = []
             for _ in range(choice.choice([0, 1, 1, 1]) * choice.randint(0, 40 * nodes)):
                 rows += random_row(choice, replica, choice.randint(1, nodes))
-        yield Case(f'seed {seed}', setup.header(), tuple(rows), random_present(choice, nodes), random_old(choice, setup))
+        yield Case(
+            f'seed {seed}', setup.header(), tuple(rows), random_present(choice, nodes), random_old(choice, setup)
+        )
 
 
-def random_row(choice: random.Random, replica: Replica, node: int) -> List[str]:
+def random_row(choice: random.Random, replica: Replica, node: int) -> list[str]:
     """A row that may come next, if one was found; the replica has learned it."""
-    kinds: List[Callable[[int], Optional[str]]] = [replica.next] * 12
+    kinds: list[Callable[[int], str | None]] = [replica.next] * 12
     kinds += [replica.timeout, replica.check, replica.crash, replica.recover, replica.recover, replica.drop]
     try:
         row = choice.choice(kinds)(node)
@@ -118,13 +122,13 @@ def random_row(choice: random.Random, replica: Replica, node: int) -> List[str]:
     return [row] if row else []
 
 
-def random_present(choice: random.Random, nodes: int) -> Tuple[int, ...]:
+def random_present(choice: random.Random, nodes: int) -> tuple[int, ...]:
     """Nobody, at times."""
     count = choice.choice([0, nodes, *[choice.randint(1, nodes)] * 6])
     return tuple(sorted(choice.sample(range(1, nodes + 1), count)))
 
 
-def random_old(choice: random.Random, setup: Setup) -> Optional[Tuple[int, ...]]:
+def random_old(choice: random.Random, setup: Setup) -> tuple[int, ...] | None:
     """None, or a table with owners that are gone."""
     if choice.random() < 0.5:
         return None
@@ -148,26 +152,28 @@ def prefix_cases(traces: Sequence[Path], sets: int) -> Iterator[Case]:
 # ---- Settlers that break a rule.
 
 
-def changed(change: Callable[[List[str], Case], List[str]]) -> Settler:
+def changed(change: Callable[[list[str], Case], list[str]]) -> Settler:
     """The plain settler, whose rows are changed."""
 
-    def settler(header: str, rows: Sequence[str], present: Sequence[int], old: Optional[Sequence[int]] = None) -> List[str]:
+    def settler(
+        header: str, rows: Sequence[str], present: Sequence[int], old: Sequence[int] | None = None
+    ) -> list[str]:
         case = Case('', header, tuple(rows), tuple(present), None if old is None else tuple(old))
         return change(settle_behind(header, rows, present, old), case)
 
     return settler
 
 
-def without_a_crash(settled: List[str], case: Case) -> List[str]:
+def without_a_crash(settled: list[str], case: Case) -> list[str]:
     crashes = [row for row in settled if row.startswith('crash,')]
     return [row for row in settled if row not in crashes[:1]]
 
 
-def without_its_last_move(settled: List[str], case: Case) -> List[str]:
+def without_its_last_move(settled: list[str], case: Case) -> list[str]:
     return settled[:-1]
 
 
-def with_more_crashes(settled: List[str], case: Case) -> List[str]:
+def with_more_crashes(settled: list[str], case: Case) -> list[str]:
     """It comes to rest, in more rows than it may have."""
     if not case.present:
         return settled
@@ -177,24 +183,30 @@ def with_more_crashes(settled: List[str], case: Case) -> List[str]:
     return settled[:place] + again + settled[place:]
 
 
-def without_old_tables(settled: List[str], case: Case) -> List[str]:
+def without_old_tables(settled: list[str], case: Case) -> list[str]:
     """It plans as if there were no table before."""
     if not case.present:
         return settled
     table = plan_table(setup_of(case.header), case.present).owners
-    return [f'plan,{max(case.present)},{" ".join(map(str, table))}' if row.startswith('plan,') else row for row in settled]
+    return [
+        f'plan,{max(case.present)},{" ".join(map(str, table))}' if row.startswith('plan,') else row for row in settled
+    ]
 
 
-def with_an_owner_that_is_gone(settled: List[str], case: Case) -> List[str]:
+def with_an_owner_that_is_gone(settled: list[str], case: Case) -> list[str]:
     """It plans over all nodes, whoever is present."""
     if not case.present:
         return settled
     setup = setup_of(case.header)
     table = plan_table(setup, range(1, setup.nodes + 1)).owners
-    return [f'plan,{max(case.present)},{" ".join(map(str, table))}' if row.startswith('plan,') else row for row in settled]
+    return [
+        f'plan,{max(case.present)},{" ".join(map(str, table))}' if row.startswith('plan,') else row for row in settled
+    ]
 
 
-def among_others(header: str, rows: Sequence[str], present: Sequence[int], old: Optional[Sequence[int]] = None) -> List[str]:
+def among_others(
+    header: str, rows: Sequence[str], present: Sequence[int], old: Sequence[int] | None = None
+) -> list[str]:
     """It takes who is up as present."""
     with Replica(header) as replica:
         replica.learn(rows)
@@ -202,11 +214,8 @@ def among_others(header: str, rows: Sequence[str], present: Sequence[int], old: 
     return settle_behind(header, rows, up, old)
 
 
-BROKEN: Dict[str, Settler] = {
-    'leaves out a crash': changed(without_a_crash),
-    'leaves out the last move': changed(without_its_last_move),
-    'takes too many rows': changed(with_more_crashes),
-    'forgets the old table': changed(without_old_tables),
-    'plans over who is gone': changed(with_an_owner_that_is_gone),
-    'settles among who is up': among_others,
-}
+BROKEN: dict[str, Settler] = {
+    'leaves out a crash': changed(without_a_crash), 'leaves out the last move': changed(without_its_last_move),
+    'takes too many rows': changed(with_more_crashes), 'forgets the old table': changed(without_old_tables),
+    'plans over who is gone': changed(with_an_owner_that_is_gone), 'settles among who is up': among_others,
+}  # fmt: skip

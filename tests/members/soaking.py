@@ -1,4 +1,5 @@
-"""A soak: a group works for a long time while its members, guards, workers and servers are killed and paused, and a recorder apart judges it."""
+"""A soak: a group works for a long time while its members, guards, workers and servers are killed and paused, and a
+recorder apart judges it."""
 from __future__ import annotations
 
 import random
@@ -7,17 +8,18 @@ import subprocess
 import sys
 import time
 from collections import Counter
+from collections.abc import Callable, Iterator, Sequence
 from contextlib import suppress
 from functools import partial
 from pathlib import Path
-from typing import Callable, Counter as Counts, Dict, Iterator, List, NamedTuple, Optional, Sequence, Tuple, TypeVar
+from typing import NamedTuple, TypeVar
 
-from etcd_servers import Server, Servers
-from faults import SETTLED
-from groups import HERE, NAMES, PATIENCE, Group, Work, told_seconds
-from laws import wait_until
-from processes import Process, close_all, family, send_all
-from recorder import Record, Unit
+from tests.etcd_servers import Server, Servers
+from tests.waiting import wait_until
+from .faults import SETTLED
+from .groups import HERE, NAMES, PATIENCE, Group, Work, told_seconds
+from .processes import Process, close_all, family, send_all
+from .recorder import Record, Unit
 
 REST_MAX = 12.0  # seconds that the group gets to come to rest: who comes again and again counts later and later
 BEGIN_MAX = 1.0  # seconds behind its end, within which a member is begun again
@@ -25,9 +27,9 @@ SLICE = 0.25  # seconds for which it is waited at once
 PART_MAX = 30.0  # seconds in which a fault has to find whom it can happen to, and is seen
 
 # Whom a fault happens to, at one moment.
-WHOM: Dict[str, Tuple[str, ...]] = {
-    'a member': ('member',), 'a guard': ('guard',), 'a worker': ('worker',), 'a member and its worker': ('member', 'worker'),
-    'a member and its guard': ('member', 'guard'),
+WHOM: dict[str, tuple[str, ...]] = {
+    'a member': ('member',), 'a guard': ('guard',), 'a worker': ('worker',),
+    'a member and its worker': ('member', 'worker'), 'a member and its guard': ('member', 'guard'),
 }  # fmt: skip
 SHORT, LONG = (0.1, 0.4), (1.5, 3.0)  # of the ttl
 Action = Callable[[], object]
@@ -41,7 +43,9 @@ class Recorded(Work):
     def __init__(self, folder: Path, partitions: int) -> None:
         super().__init__(folder, partitions)
         door = folder / 'recorder'
-        self.recorder = subprocess.Popen([sys.executable, '-I', '-S', str(HERE / 'recorder.py'), str(door), str(folder)], stdin=subprocess.PIPE)
+        self.recorder = subprocess.Popen(
+            [sys.executable, '-I', '-S', str(HERE / 'recorder.py'), str(door), str(folder)], stdin=subprocess.PIPE
+        )
         self.worker.append(str(door))
         wait_until(door.exists)
 
@@ -64,22 +68,26 @@ class Later(NamedTuple):
 class Soak:
     """A group, and what happens to it. Who ends is begun again."""
 
-    def __init__(self, group: Group, servers: Optional[Servers], choice: random.Random, share: float) -> None:
+    def __init__(self, group: Group, servers: Servers | None, choice: random.Random, share: float) -> None:
         """Behind this share of the faults the group gets time to come to rest."""
         self.group, self.choice, self.share = group, choice, share
         self.names = [node.name for node in group.shown.nodes]
-        self.happened: Counts[str] = Counter()
-        self.statuses: Counts[int] = Counter()  # of members that ended
-        self.later: List[Later] = []
-        self.rests: List[float] = []  # how long it took to come to rest, if the group did
+        self.happened: Counter[str] = Counter()
+        self.statuses: Counter[int] = Counter()  # of members that ended
+        self.later: list[Later] = []
+        self.rests: list[float] = []  # how long it took to come to rest, if the group did
         self.without_rest = 0
-        self.kinds: Dict[str, Strike] = {**self.of_processes(), **(self.of_servers(servers) if servers is not None else {})}
+        self.kinds: dict[str, Strike] = {
+            **self.of_processes(),
+            **(self.of_servers(servers) if servers is not None else {}),
+        }
 
     # What happens.
 
-    def of_processes(self) -> Dict[str, Strike]:
-        """If member and guard are both paused for long nobody is left who ends the worker, and then nothing is promised."""
-        kinds: Dict[str, Strike] = {}
+    def of_processes(self) -> dict[str, Strike]:
+        """If member and guard are both paused for long nobody is left who ends the worker, and then nothing is
+        promised."""
+        kinds: dict[str, Strike] = {}
         for whom, names in WHOM.items():
             kinds[f'{whom} killed'] = partial(self.strike, names, (), SHORT)
             kinds[f'{whom} paused shortly'] = partial(self.strike, (), names, SHORT)
@@ -89,15 +97,15 @@ class Soak:
         kinds['a guard killed whose member is paused'] = partial(self.strike, ('guard',), ('member',), LONG)
         return kinds
 
-    def of_servers(self, servers: Servers) -> Dict[str, Strike]:
-        kinds: Dict[str, Strike] = {}
+    def of_servers(self, servers: Servers) -> dict[str, Strike]:
+        kinds: dict[str, Strike] = {}
         for what, leads in (('the leader of etcd', True), ('another server', False)):
             kinds[f'{what} killed'] = partial(self.strike_server, servers, leads, Server.kill, Server.start)
             kinds[f'{what} paused'] = partial(self.strike_server, servers, leads, Server.pause, Server.resume)
         kinds['all servers paused'] = partial(self.strike_servers, servers)
         return kinds
 
-    def strike(self, killed: Sequence[str], paused: Sequence[str], span: Tuple[float, float]) -> bool:
+    def strike(self, killed: Sequence[str], paused: Sequence[str], span: tuple[float, float]) -> bool:
         """These of some member are killed, and these paused for so long, at one moment. Whether that was seen."""
         there = self.tend_until(self.some_family, PART_MAX)
         if not there:
@@ -110,7 +118,7 @@ class Soak:
         self.do_later(self.choice.uniform(*span) * self.group.ttl if still else 0.0, partial(resume, still, there))
         return is_seen
 
-    def some_family(self) -> Dict[str, Process]:
+    def some_family(self) -> dict[str, Process]:
         """Those of some member that are all there, and not paused."""
         members = [member for member in self.group.members.values() if member.poll() is None]
         found = family(self.choice.choice(members).pid) if members else {}
@@ -119,7 +127,9 @@ class Soak:
             return {}
         return found
 
-    def strike_server(self, servers: Servers, leads: bool, begin: Callable[[Server], None], end: Callable[[Server], None]) -> bool:
+    def strike_server(
+        self, servers: Servers, leads: bool, begin: Callable[[Server], None], end: Callable[[Server], None]
+    ) -> bool:
         """That happens to the leader, or to another server, for a while."""
         if not self.servers_are_up(servers):
             return False
@@ -180,7 +190,9 @@ class Soak:
         """Faults for so long; each kind once at least."""
         self.group.come_to_rest('the begin', lambda: self.group.begin_all(self.names))
         end, kinds = time.monotonic() + seconds, self.turns()
-        while time.monotonic() < end or time.monotonic() < end + PATIENCE and not all(map(self.happened.get, self.kinds)):
+        while (
+            time.monotonic() < end or time.monotonic() < end + PATIENCE and not all(map(self.happened.get, self.kinds))
+        ):
             kind = next(kinds)
             self.happened[kind] += self.kinds[kind]()
             self.go_on()
@@ -232,7 +244,8 @@ class Soak:
             print(f'{kind}: {self.happened[kind]} times')
         ended = ', '.join(f'{count} with {status}' for status, count in sorted(self.statuses.items()))
         print(f'members that ended and were begun again: {ended}')
-        print(f'at rest behind {len(self.rests)} faults{told_seconds("in", self.rests)}; in {self.without_rest} waits of {REST_MAX:g} s not')
+        rests = f'at rest behind {len(self.rests)} faults{told_seconds("in", self.rests)}'
+        print(f'{rests}; in {self.without_rest} waits of {REST_MAX:g} s not')
 
 
 def waited(is_so: Callable[[], bool]) -> bool:
@@ -243,29 +256,33 @@ def waited(is_so: Callable[[], bool]) -> bool:
     return False
 
 
-def resume(whom: Sequence[Process], there: Dict[str, Process]) -> None:
+def resume(whom: Sequence[Process], there: dict[str, Process]) -> None:
     """They go on, and those who are there aren't looked at any more."""
     send_all(whom, signal.SIGCONT)
     close_all(there.values())
 
 
-Told = Tuple[str, int, int, int]  # what a worker tells, at a moment: its number, and a token
+Told = tuple[str, int, int, int]  # what a worker tells, at a moment: its number, and a token
 
 # What workers tell of one partition, and which faults that is.
-CASES: Tuple[Tuple[str, Sequence[Told], Sequence[str]], ...] = (
+CASES: tuple[tuple[str, Sequence[Told], Sequence[str]], ...] = (
     ('one behind the other', [('begin', 1, 10, 5), ('end', 1, 20, 0), ('begin', 2, 30, 6)], []),
     ('again by one worker', [('begin', 1, 10, 5), ('end', 1, 20, 0), ('begin', 1, 20, 5)], []),
     ('two at once', [('begin', 1, 10, 5), ('begin', 2, 20, 6)], ['overlap']),
     ('two at once by one token', [('begin', 1, 10, 5), ('begin', 2, 20, 5)], ['overlap']),
     ('asked for before the other was over', [('begin', 1, 10, 5), ('end', 1, 30, 0), ('begin', 2, 20, 6)], ['overlap']),
-    ('the same of one that ended', [('begin', 1, 10, 5), ('end', 1, 30, 0), ('gone', 1, 0, 0), ('begin', 2, 20, 6)], ['overlap']),
+    (
+        'the same of one that ended',
+        [('begin', 1, 10, 5), ('end', 1, 30, 0), ('gone', 1, 0, 0), ('begin', 2, 20, 6)],
+        ['overlap'],
+    ),
     ('behind a worker that ended', [('begin', 1, 10, 5), ('gone', 1, 0, 0), ('begin', 2, 20, 6)], []),
     ('by an old token', [('begin', 1, 10, 6), ('end', 1, 20, 0), ('begin', 2, 30, 5)], ['old']),
     ('by an old token at once', [('begin', 1, 10, 6), ('begin', 2, 20, 5)], ['old']),
 )
 
 
-def faults_of(told: Sequence[Told]) -> List[str]:
+def faults_of(told: Sequence[Told]) -> list[str]:
     """The kinds of faults that a record finds."""
     record, found = Record(), []
     for word, worker, moment, token in told:
@@ -279,7 +296,8 @@ def faults_of(told: Sequence[Told]) -> List[str]:
 
 
 def see_faults(group: Group) -> None:
-    """A recorder that sees nothing would pass all: it is told of faults; and member and guard are paused for long, so nobody ends their worker."""
+    """A recorder that sees nothing would pass all: it is told of faults; and member and guard are paused for long, so
+    nobody ends their worker."""
     for case, told, faults in CASES:
         group.count(faults_of(told) == faults, f'units {case}: {faults_of(told)}, and not {faults}')
     group.come_to_rest('the begin', lambda: group.begin_all(NAMES[:2]))

@@ -1,22 +1,23 @@
-"""A store of a group in memory: epochs with a log each, presences by the node's name over all of them, and a wish for other settings. Each
-call is one moment. All times are whole nanoseconds. A promise is an epoch and a place.
+"""A store of a group in memory: epochs with a log each, presences by the node's name over all of them, and a wish for
+other settings. Each call is one moment. All times are whole nanoseconds. A promise is an epoch and a place.
 
 | Call | Done, if |
 |---|---|
-| `take` | nobody holds the presence of that name, and the log of this epoch, the current one, has exactly `place` rows. Then it has this promise |
+| `take` | nobody holds that presence, and the current epoch's log has exactly `place` rows. It has this promise |
 | `renew` | the life holds it, without a gap |
 | `release` | always: the presence is gone, if the life holds it |
 | `promise` | the life holds it. Then the promise is this one, or what it was, if that is more |
-| `append` | the log of this epoch, the current one, has exactly `place` rows, somebody is present, and all that are have this promise |
+| `append` | the current epoch's log has exactly `place` rows, somebody is present, and all that are have this promise |
 | `finish` | the same. Then the next epoch is the current one |
 """
 from __future__ import annotations
 
+from collections.abc import Callable, Sequence
 from dataclasses import dataclass, field, replace
-from typing import Callable, Dict, FrozenSet, List, Optional, Protocol, Sequence, Tuple
+from typing import Protocol
 
-from bully.settings import Settings
 from bully.member import Life, Opening, Presence, Promise, Seen, Until
+from bully.settings import Settings
 
 
 @dataclass(frozen=True)
@@ -30,35 +31,36 @@ class Lease:
 
 @dataclass
 class Epoch:
-    """An epoch: its group, how many rows it may have, the last table of the one before, and its log without the header."""
+    """An epoch: its group, how many rows it may have, the last table of the one before, and its log without the
+    header."""
 
     number: int
     settings: Settings
     rows_max: int
-    old: Optional[Tuple[int, ...]] = None
-    rows: List[str] = field(default_factory=list)
+    old: tuple[int, ...] | None = None
+    rows: list[str] = field(default_factory=list)
 
     def __post_init__(self) -> None:
         self.header = self.settings.setup.header()
 
-    def table(self) -> Optional[Tuple[int, ...]]:
+    def table(self) -> tuple[int, ...] | None:
         """The last table; without one that of the epoch before."""
         plans = [row for row in reversed(self.rows) if row.startswith('plan,')]
         return table_of(plans[0]) if plans else self.old
 
-    def opening(self, name: str) -> Optional[Opening]:
+    def opening(self, name: str) -> Opening | None:
         """What it begins with for the member of this name; none, if it isn't in the group."""
         if name not in self.settings.names:
             return None
         return Opening(self.header, self.number, self.settings.number(name), self.rows_max, self.old)
 
 
-def table_of(plan: str) -> Tuple[int, ...]:
+def table_of(plan: str) -> tuple[int, ...]:
     """The table of a plan's row."""
     return tuple(map(int, plan.split(',')[2].split()))
 
 
-def carried(old: Optional[Sequence[int]], before: Settings, after: Settings) -> Optional[Tuple[int, ...]]:
+def carried(old: Sequence[int] | None, before: Settings, after: Settings) -> tuple[int, ...] | None:
     """A table in the numbers of other settings. Who is gone is 0."""
     if old is None:
         return None
@@ -69,23 +71,23 @@ def carried(old: Optional[Sequence[int]], before: Settings, after: Settings) -> 
 
 @dataclass(frozen=True)
 class Standing:
-    """What a look finds that its member has news of where it is another one: the epoch; how many rows it has, if the member is in it; whose
-    lives are present; and what is wished for."""
+    """What a look finds that its member has news of where it is another one: the epoch; how many rows it has, if the
+    member is in it; whose lives are present; and what is wished for."""
 
     epoch: int
     place: int
-    lives: FrozenSet[Tuple[str, Life]]
-    wish: Optional[Settings]
+    lives: frozenset[tuple[str, Life]]
+    wish: Settings | None
 
 
 @dataclass(frozen=True)
 class Found:
     """What a look finds, at one moment."""
 
-    rows: Tuple[str, ...]
+    rows: tuple[str, ...]
     seen: Seen
     standing: Standing
-    idle: FrozenSet[str] = frozenset()  # who had promised the end of the log
+    idle: frozenset[str] = frozenset()  # who had promised the end of the log
 
 
 class Judged(Protocol):
@@ -94,17 +96,25 @@ class Judged(Protocol):
     kept_from: int  # the first epoch that wasn't taken away, if members are told of that
 
     @property
-    def epochs(self) -> List[Epoch]: ...
+    def epochs(self) -> list[Epoch]: ...
+
     @property
     def epoch(self) -> Epoch: ...
+
     @property
-    def wish(self) -> Optional[Settings]: ...
+    def wish(self) -> Settings | None: ...
+
     @wish.setter
-    def wish(self, settings: Optional[Settings]) -> None: ...
-    def wished(self) -> Optional[Settings]: ...
-    def held(self) -> Dict[str, Lease]: ...
+    def wish(self, settings: Settings | None) -> None: ...
+
+    def wished(self) -> Settings | None: ...
+
+    def held(self) -> dict[str, Lease]: ...
+
     def holds(self, name: str, life: Life) -> bool: ...
+
     def has_news(self, epoch: int, found: Found, until: Until) -> bool: ...
+
     def prune(self) -> None: ...
 
 
@@ -113,9 +123,9 @@ class Store:
 
     def __init__(self, settings: Settings, limit: Callable[[int], int], clock: Callable[[], int]) -> None:
         self.limit, self.clock = limit, clock
-        self.epochs: List[Epoch] = [Epoch(1, settings, limit(settings.setup.nodes))]
-        self.leases: Dict[str, Lease] = {}
-        self.wish: Optional[Settings] = None
+        self.epochs: list[Epoch] = [Epoch(1, settings, limit(settings.setup.nodes))]
+        self.leases: dict[str, Lease] = {}
+        self.wish: Settings | None = None
         self.kept_from = 1  # the first epoch that wasn't taken away
 
     @property
@@ -123,7 +133,7 @@ class Store:
         """The current one."""
         return self.epochs[-1]
 
-    def held(self) -> Dict[str, Lease]:
+    def held(self) -> dict[str, Lease]:
         """Who is present, by name."""
         now = self.clock()
         return {name: lease for name, lease in self.leases.items() if now < lease.until}
@@ -200,7 +210,7 @@ class Store:
         place = len(self.epoch.rows) if epoch == self.epoch.number else 0
         return Standing(self.epoch.number, place, lives, self.wished())
 
-    def wished(self) -> Optional[Settings]:
+    def wished(self) -> Settings | None:
         """What is wished for, if it is something else."""
         return None if self.wish == self.epoch.settings else self.wish
 
@@ -209,11 +219,13 @@ class Store:
         if epoch != self.epoch.number:
             return Found((), Seen(self.epoch.number), standing)
         held, names = self.held(), self.epoch.settings.names
-        presences = tuple(Presence(node, held[name].life, held[name].promise) for node, name in enumerate(names, 1) if name in held)
+        presences = tuple(
+            Presence(node, held[name].life, held[name].promise) for node, name in enumerate(names, 1) if name in held
+        )
         seen = Seen(epoch, presences, len(presences) < len(held), standing.wish is not None)
         return Found(tuple(self.epoch.rows[place:]), seen, standing, self.idle(epoch, standing.place))
 
-    def idle(self, epoch: int, place: int) -> FrozenSet[str]:
+    def idle(self, epoch: int, place: int) -> frozenset[str]:
         """Who has this promise."""
         return frozenset(name for name, lease in self.held().items() if lease.promise == Promise(epoch, place))
 
@@ -222,4 +234,10 @@ class Store:
         if self.standing(epoch) != found.standing:
             return True
         idle = self.idle(epoch, found.standing.place)
-        return until is Until.ANY_IDLE and bool(idle - found.idle) or until is Until.ALL_IDLE and bool(idle) and idle == set(self.held())
+        return (
+            until is Until.ANY_IDLE
+            and bool(idle - found.idle)
+            or until is Until.ALL_IDLE
+            and bool(idle)
+            and idle == set(self.held())
+        )

@@ -1,13 +1,13 @@
 """What became of partitions at a change of the epoch."""
 from __future__ import annotations
 
-from typing import List, Sequence, Tuple
+from collections.abc import Sequence
 
 from bully import Replica
 from bully.logs import Log
 
 
-def owners_by_name(log: Log, epoch: int) -> Tuple[List[str], List[str]]:
+def owners_by_name(log: Log, epoch: int) -> tuple[list[str], list[str]]:
     """The names of the owners by the first and by the last table of an epoch; none, if it has no table."""
     opening, tables = log.opening(epoch), []
     with Replica(opening.header) as replica:

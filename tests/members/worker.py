@@ -2,10 +2,13 @@
 
     worker.py FOLDER [SOCKET]
 
-A unit that finds the lock taken writes `overlap` into FOLDER/faults, and one whose token is below the file's last one is refused there
-and writes `old`. A unit that is done adds `TOKEN NODE` to the file of its partition. With SOCKET it asks the recorder there for each unit, which
-writes the same (`recorder.py`). With BULLY_ANSWERS in its environment it stays over changes.
+A unit that finds the lock taken writes `overlap` into FOLDER/faults, and one whose token is below the file's last one
+is refused there and writes `old`. A unit that is done adds `TOKEN NODE` to the file of its partition. With SOCKET it
+asks the recorder there for each unit, which writes the same (`recorder.py`). With BULLY_ANSWERS in its environment it
+stays over changes.
 """
+from __future__ import annotations
+
 import fcntl
 import json
 import os
@@ -30,7 +33,8 @@ def tell(fault: str, partition: str) -> None:
 
 
 def last_token(file: BinaryIO) -> int:
-    """The token of the last row; 0 without one. What is left of a row that was written when its worker was killed is cut."""
+    """The token of the last row; 0 without one. What is left of a row that was written when its worker was killed is
+    cut."""
     size = file.seek(0, os.SEEK_END)
     file.seek(max(0, size - 2 * ROW))
     *rows, rest = file.read().split(b'\n')

@@ -1,9 +1,9 @@
 """Builds the wheel of the package `bully` for pip, by the standard library alone.
 
-The wheel takes libbully.so with it from the folder BULLY_LIBRARY; or else from `lib` of an archive; or else from out/library at the top
-of the repository, where `bin/library` puts it. Without any it has none, and whoever uses it sets BULLY_LIBRARY. It always has bully.h, which
-the package reads: that of the archive or the repository. The same files make the same bytes; SOURCE_DATE_EPOCH, where it is set, is the
-time of each.
+The wheel takes libbully.so with it from the folder BULLY_LIBRARY; or else from `lib` of an archive; or else from
+out/library at the top of the repository, where `bin/library` puts it. Without any it has none, and whoever uses it sets
+BULLY_LIBRARY. It always has bully.h, which the package reads: that of the archive or the repository. The same files
+make the same bytes; SOURCE_DATE_EPOCH, where it is set, is the time of each.
 """
 from __future__ import annotations
 
@@ -15,35 +15,47 @@ import sysconfig
 import time
 import zipfile
 from pathlib import Path
-from typing import Dict, List, Optional
+from typing import Optional
 
 HERE = Path(__file__).resolve().parents[1]
-NAME = 'bully'
-VERSION = re.findall(r"^__version__ = '([0-9.]+)'", (HERE / NAME / '__init__.py').read_text(encoding='utf-8'), re.MULTILINE)[0]
+FIRST_TIME = 315532800  # the first that a zip can tell: 1980-01-01
+
+Tables = dict[str, dict[str, str]]
+Settings = Optional[dict[str, object]]
+
+
+def tables_of(text: str) -> Tables:
+    """The tables of a document in TOML that have strings of one line. (The standard library reads all of TOML from
+    Python 3.11 on.)"""
+    tables: Tables = {}
+    for head, body in re.findall(r'^\[([^\[\]]+)\]\n((?:[^\[\n].*\n|\n)*)', text, re.MULTILINE):
+        tables[head] = dict(re.findall(r'^([\w-]+) = "(.*)"$', body, re.MULTILINE))
+    return tables
+
+
+TABLES = tables_of((HERE / 'pyproject.toml').read_text(encoding='utf-8'))
+PROJECT = TABLES['project']
+NAME, VERSION = PROJECT['name'], PROJECT['version']
 SAID = f'{NAME}-{VERSION}.dist-info'
 METADATA = f"""\
 Metadata-Version: 2.1
 Name: {NAME}
 Version: {VERSION}
-Summary: A group that elects a coordinator by the Bully algorithm, over a proved library
+Summary: {PROJECT['description']}
 License: none is chosen yet
-Requires-Python: >=3.9
+Requires-Python: {PROJECT['requires-python']}
 """
-ENTRY_POINTS = """\
-[console_scripts]
-bully-member = bully.command:main
-"""
-FIRST_TIME = 315532800  # the first that a zip can tell: 1980-01-01
-
-Settings = Optional[Dict[str, object]]
+ENTRY_POINTS = ''.join(
+    ['[console_scripts]\n', *(f'{name} = {place}\n' for name, place in TABLES['project.scripts'].items())]
+)
 
 
-def get_requires_for_build_wheel(config_settings: Settings = None) -> List[str]:
+def get_requires_for_build_wheel(config_settings: Settings = None) -> list[str]:
     """Nothing is needed."""
     return []
 
 
-def build_wheel(wheel_directory: str, config_settings: Settings = None, metadata_directory: Optional[str] = None) -> str:
+def build_wheel(wheel_directory: str, config_settings: Settings = None, metadata_directory: str | None = None) -> str:
     """Writes the wheel into this folder, with the file that the setting `proved` names, if any. Its name."""
     library = find_library()
     tag = f'py3-none-{platform()}' if library else 'py3-none-any'
@@ -52,7 +64,9 @@ def build_wheel(wheel_directory: str, config_settings: Settings = None, metadata
     if library:
         files[f'{NAME}/libbully.so'] = library.read_bytes()
     files[f'{SAID}/METADATA'] = METADATA.encode()
-    files[f'{SAID}/WHEEL'] = f'Wheel-Version: 1.0\nGenerator: {NAME}\nRoot-Is-Purelib: {str(not library).lower()}\nTag: {tag}\n'.encode()
+    files[
+        f'{SAID}/WHEEL'
+    ] = f'Wheel-Version: 1.0\nGenerator: {NAME}\nRoot-Is-Purelib: {str(not library).lower()}\nTag: {tag}\n'.encode()
     files[f'{SAID}/entry_points.txt'] = ENTRY_POINTS.encode()
     if config_settings and 'proved' in config_settings:
         files[f'{SAID}/PROVED'] = Path(str(config_settings['proved'])).read_bytes()
@@ -71,7 +85,7 @@ def is_source(path: Path) -> bool:
     return path.suffix == '.py' or path.name == 'py.typed'
 
 
-def find_library() -> Optional[Path]:
+def find_library() -> Path | None:
     """The library to take along, if there is one. What BULLY_LIBRARY names has to be there."""
     named = os.environ.get('BULLY_LIBRARY')
     top = HERE.parents[1]
@@ -83,16 +97,18 @@ def find_library() -> Optional[Path]:
     return file
 
 
-def find_header(library: Optional[Path]) -> Path:
+def find_header(library: Path | None) -> Path:
     """The header: that of this tree; or else, if pip took the package out of it, the one with the library."""
     places = [HERE.parents[1] / 'include', *([library.parent, library.parents[1] / 'include'] if library else [])]
     file = next(filter(Path.is_file, (place / 'bully.h' for place in places)), None)
     if not file:
-        raise SystemExit('there is no bully.h: build the wheel in the archive or in the repository, or set BULLY_LIBRARY')
+        raise SystemExit(
+            'there is no bully.h: build the wheel in the archive or in the repository, or set BULLY_LIBRARY'
+        )
     return file
 
 
-def record(files: Dict[str, bytes]) -> str:
+def record(files: dict[str, bytes]) -> str:
     """The list of the files, with their sums."""
     lines = []
     for name, content in files.items():
@@ -101,8 +117,10 @@ def record(files: Dict[str, bytes]) -> str:
     return ''.join(lines) + f'{SAID}/RECORD,,\n'
 
 
-def write(path: Path, files: Dict[str, bytes]) -> None:
-    year, month, day, hour, minute, second = time.gmtime(max(FIRST_TIME, int(os.environ.get('SOURCE_DATE_EPOCH', '0'))))[:6]
+def write(path: Path, files: dict[str, bytes]) -> None:
+    year, month, day, hour, minute, second = time.gmtime(
+        max(FIRST_TIME, int(os.environ.get('SOURCE_DATE_EPOCH', '0')))
+    )[:6]
     with zipfile.ZipFile(path, 'w', zipfile.ZIP_DEFLATED) as wheel:
         for name, content in files.items():
             entry = zipfile.ZipInfo(name, (year, month, day, hour, minute, second))

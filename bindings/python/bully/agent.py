@@ -2,24 +2,27 @@
 from __future__ import annotations
 
 import ctypes
-from typing import List, Optional, Sequence, Tuple
+from collections.abc import Sequence
 
 from .group import Setup, setup_parts
-from .library import UINT32_MAX, Opened, RawState, call_of, line_of, list_of, node_of, number_of, numbers_of, owners_of, state_of
+from .library import (
+    STRUCTURES, UINT32_MAX, Opened, call_of, line_of, list_of, node_of, number_of, numbers_of, owners_of, state_of,
+)  # fmt: skip
 from .values import Answer, Call, Line, State, Status, Want
 
 
 class Agent(Opened):
-    """One node on its own: what a process keeps of it. It has no socket, clock, thread or file: `docs/NODE.md` has the loop of a
-    process, and what the program has to keep.
+    """One node on its own: what a process keeps of it. It has no socket, clock, thread or file: `docs/NODE.md` has the
+    loop of a process, and what the program has to keep.
 
-    Each call that changes it is refused, by an exception, and changes nothing; or it is an event of the group, two where a call
-    failed, and `rows` has them for the log. An agent holds memory of the library until it is closed: `with` closes it."""
+    Each call that changes it is refused, by an exception, and changes nothing; or it is an event of the group, two
+    where a call failed; `rows` has them for the log. It holds memory of the library until it is closed, as by
+    `with`."""
 
     _kind = 'bully_agent'
     _single = 'an agent is not copied: two of them would be two agents of one node'
 
-    def __init__(self, setup: Setup, node: int, events: int = 0, task: Optional[Sequence[int]] = None) -> None:
+    def __init__(self, setup: Setup, node: int, events: int = 0, task: Sequence[int] | None = None) -> None:
         """The agent of a node that is Down, whose log has so many events, and that has kept this task, if any.
 
         Raises BadNodes, BadPartitions, BadLimit, BadWeights, BadNode, TableLength, TableOwner, OutOfMemory."""
@@ -44,7 +47,7 @@ class Agent(Opened):
         self._call('crash')
 
     def check(self) -> None:
-        """The idle node begins to check the others, where it is their coordinator. Raises Closed, Full, IsDown, Busy."""
+        """The idle node, their coordinator, begins to check the others. Raises Closed, Full, IsDown, Busy."""
         self._call('check')
 
     def timeout(self) -> None:
@@ -73,7 +76,7 @@ class Agent(Opened):
         Premise: its request won't run any more."""
         self._call('drop_orphan')
 
-    def prepare(self, old: Optional[Sequence[int]] = None) -> Tuple[int, ...]:
+    def prepare(self, old: Sequence[int] | None = None) -> tuple[int, ...]:
         """The table that the node should plan, from this old one, mostly its `task`. No event.
 
         Raises Closed, TableLength, TableOwner, OutOfMemory."""
@@ -84,8 +87,8 @@ class Agent(Opened):
 
     # What comes from other nodes, or goes to them. Lines have no line end.
 
-    def request(self) -> Optional[str]:
-        """The line of the request of the node's call, while that is under way; to be sent to its callee, once. No event.
+    def request(self) -> str | None:
+        """The request of the node's call, while that is under way; to be sent to its callee, once. No event.
 
         Raises Closed, OutOfMemory."""
         return self._room.text(self._function('request')) or None
@@ -93,15 +96,15 @@ class Agent(Opened):
     def serve(self, line: Line) -> str:
         """The request of this line runs at the node. One event. The line of the reply, for its caller.
 
-        Raises Closed, the LineFaults, OutOfMemory, Full, BadNode, NoCall, CalleeDown. Premise: the request is the caller's call,
-        and runs once, while that is under way."""
+        Raises Closed, the LineFaults, OutOfMemory, Full, BadNode, NoCall, CalleeDown. Premise: the request is the
+        caller's call, and runs once, while that is under way."""
         return self._room.text(self._function('serve'), *line_of(line))
 
     def replied(self, line: Line) -> Answer:
         """The node's call returns with the reply of this line. One event. What the node is told.
 
-        Raises Closed, the LineFaults, Full; NoCall, where it is no reply to the call under way. Premise: the call ran at its
-        callee, and was answered so."""
+        Raises Closed, the LineFaults, Full; NoCall, where it is no reply to the call under way. Premise: the call ran
+        at its callee, and was answered so."""
         return Answer(self._filled(ctypes.c_uint32(), 'replied', *line_of(line)).value)
 
     def failed(self, number: int) -> Answer:
@@ -133,22 +136,22 @@ class Agent(Opened):
         return Status(self._show().status)
 
     @property
-    def coordinator(self) -> Optional[int]:
+    def coordinator(self) -> int | None:
         """The node's coordinator, if it has one."""
         return self._show().coordinator or None
 
     @property
-    def halter(self) -> Optional[int]:
+    def halter(self) -> int | None:
         """The node that halted it last, if any."""
         return self._show().halter or None
 
     @property
-    def up(self) -> Tuple[int, ...]:
+    def up(self) -> tuple[int, ...]:
         """The lower nodes that answered its halts, rising."""
         return list_of(self._setup.nodes, self._function('up'))
 
     @property
-    def task(self) -> Optional[Tuple[int, ...]]:
+    def task(self) -> tuple[int, ...] | None:
         """The owner of each partition in the node's task, if it has one."""
         return list_of(self._setup.partitions, self._function('task')) or None
 
@@ -158,7 +161,7 @@ class Agent(Opened):
         return Want(self._show().wants)
 
     @property
-    def call(self) -> Optional[Call]:
+    def call(self) -> Call | None:
         """The call that the node has under way, if any."""
         return call_of(self._show())
 
@@ -177,8 +180,8 @@ class Agent(Opened):
         """How often the node was stopped or crashed since it was opened."""
         return int(self._show().generation)
 
-    def rows(self) -> List[str]:
-        """The rows of the node's last step, for the log, without their line ends, as `docs/FORMATS.md` has them of version 3.
+    def rows(self) -> list[str]:
+        """The rows of the node's last step, for the log, of version 3, without their line ends.
 
         Raises Closed, OutOfMemory."""
         return self._room.text(self._function('rows')).splitlines()
@@ -187,5 +190,5 @@ class Agent(Opened):
         """The row that says all of the node's vector, without its line end. Raises Closed, OutOfMemory."""
         return self._room.row(self._function('claim'))
 
-    def _show(self) -> RawState:
-        return self._filled(RawState(), 'show')
+    def _show(self) -> ctypes.Structure:
+        return self._filled(STRUCTURES['bully_state'](), 'show')

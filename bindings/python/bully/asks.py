@@ -1,8 +1,9 @@
-"""What a member asks of its log: which call each request of its rules is. Whoever drives a member asks by this, in a process or in a simulation."""
+"""What a member asks of its log: which call each request of its rules is. Whoever drives a member asks by this."""
 from __future__ import annotations
 
+from collections.abc import Callable, Sequence
 from dataclasses import dataclass
-from typing import Callable, Sequence, Union
+from typing import Union
 
 from .epochs import Opening
 from .logs import Found, Log
@@ -13,8 +14,8 @@ Answer = Union[bool, Found, Opening]
 
 @dataclass(frozen=True)
 class Asker:
-    """Who asks: the log; the name of its node; the epoch that it is in, and how many rows of that it has learned; for how long a presence is held;
-    and, by what it has learned, the rows of a settlement, and what the next epoch is to begin with."""
+    """Who asks: the log; the name of its node; its epoch, and how many rows of that it has learned; for how long a
+    presence is held; and, by what it has learned, the rows of a settlement, and with what the next epoch begins."""
 
     log: Log
     name: str

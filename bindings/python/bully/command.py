@@ -1,7 +1,7 @@
 """The command `bully-member`: a member of a group for a worker in any language.
 
     bully-member init --config group.toml --log sqlite:group.db [--ttl 5] [--epoch 1]
-    bully-member run --node b --log sqlite:group.db [--config group.toml] [--ttl 5] [--listen 127.0.0.1:8081] -- WORKER ARGS..
+    bully-member run --node b --log sqlite:group.db [--config group.toml] [--ttl 5] [--listen 8081] -- WORKER ARGS..
     bully-member status --log sqlite:group.db [--json]
     bully-member history --log sqlite:group.db [--epoch 1] [--times] | bully check
     bully-member resize --config new.toml --log sqlite:group.db [--seconds 60]
@@ -14,10 +14,11 @@
     bully-member prune --keep 3 --log sqlite:group.db
     bully-member repair --log sqlite:group.db [--cut PLACE]
 
-`run` starts the worker while its node owns partitions, with BULLY_NODE, BULLY_TOKEN, BULLY_PARTITIONS, BULLY_COORDINATOR and
-BULLY_SETTINGS in its environment, and ends it before anything is appended by which the node owns them no more. The settings of the
-group, names too, stand in its log; a configuration that is given has to be of the same group, also if it was resized since. `resize`
-gives the group other settings, in a new epoch, and `prune` takes old epochs away. `docs/MEMBERS.md` has all of it.
+`run` starts the worker while its node owns partitions, with BULLY_NODE, BULLY_TOKEN, BULLY_PARTITIONS,
+BULLY_COORDINATOR and BULLY_SETTINGS in its environment, and ends it before anything is appended by which the node owns
+them no more. The settings of the group, names too, stand in its log; a configuration that is given has to be of the
+same group, also if it was resized since. `resize` gives the group other settings, in a new epoch, and `prune` takes old
+epochs away. `docs/MEMBERS.md` has all of it.
 """
 from __future__ import annotations
 
@@ -30,11 +31,13 @@ import signal
 import sys
 import threading
 import time
-from typing import Callable, List, Optional, Tuple, Type, TypeVar
+from collections.abc import Callable
+from typing import TypeVar
 
+from .clocks import seconds_of_boot
 from .epochs import FIRST, LATEST, Opening
 from .faults import BullyError
-from .logs import DamagedLog, Log, LogError, OtherLog, Unanswered, found_in, seconds_of_boot
+from .logs import DamagedLog, Log, LogError, OtherLog, Unanswered, found_in
 from .member import Ending
 from .messages import FORMATS, LAST_SECONDS, JsonLines, Messages
 from .ordering import drain, has_left, pause, resume, undrain
@@ -45,7 +48,7 @@ from .service import Service
 from .settings import ConfigFault, Settings, read_settings, shown_name
 from .stores import BadWords, EtcdStore, FileStore, add_words, store_of
 from .view import GroupView, LogView
-from .worker import GuardLost, WorkerEnded, Workers, WorkerStuck
+from .worker import GuardLost, WorkerEnded, WorkerStuck, Workers
 
 OK, FAILED, BAD_WORDS, BAD_INPUT, NO_STORE, NO_NODE = range(6)
 TTL = 5.0  # seconds, if none is told
@@ -53,68 +56,63 @@ LOOK = 1.0  # seconds for which it is looked who isn't idle, if somebody isn't
 AGAIN = 0.1  # seconds before a log that didn't answer is asked again
 
 _Answer = TypeVar('_Answer')
-_told = logging.getLogger('bully')
+_logger = logging.getLogger('bully')
 
 
 def parser() -> argparse.ArgumentParser:
     """The words that the command takes."""
-    words = argparse.ArgumentParser('bully-member', description=__doc__, formatter_class=argparse.RawDescriptionHelpFormatter)
+    as_it_is = argparse.RawDescriptionHelpFormatter
+    words = argparse.ArgumentParser('bully-member', description=__doc__, formatter_class=as_it_is)
     commands = words.add_subparsers(dest='command', required=True, metavar='COMMAND')
-    init = commands.add_parser('init', help='make the log of a group')
-    run = commands.add_parser('run', help='take part for a node, and run a worker')
-    status = commands.add_parser('status', help='tell how the group stands')
-    history = commands.add_parser('history', help='write the log of an epoch as a trace')
-    resize = commands.add_parser('resize', help='give the group other settings, in a new epoch')
-    prune = commands.add_parser('prune', help='take old epochs away')
-    switchover = commands.add_parser('switchover', help='have another node lead, in a new epoch')
-    repair = commands.add_parser('repair', help='tell what of a log is damaged, and cut it')
-    for command in (init, run, status, history, resize, switchover, prune, repair):
+    of = {name: commands.add_parser(name, help=about) for name, (_, about) in COMMANDS.items()}
+    for command in of.values():
         add_words(command)
-    for command in (init, run):
-        command.add_argument('--config', required=command is init, metavar='FILE')
-        command.add_argument('--ttl', type=seconds, metavar='SECONDS', help='how long a node stays present without a renewal')
-    init.add_argument('--epoch', type=count, default=FIRST, metavar='NUMBER', help='with which it begins: behind those of a log before it')
-    for command in (run, switchover):
-        command.add_argument('--node', required=True, metavar='NAME')
-    for command in (resize, switchover):
-        command.add_argument('--seconds', type=seconds, default=60.0, metavar='SECONDS', help='how long to wait until the new epoch has begun')
-    add_words_of_run(run)
-    status.add_argument('--json', action='store_true')
-    history.add_argument('--epoch', type=count, metavar='NUMBER', help='which one; else the current one')
-    history.add_argument('--times', action='store_true', help='write TIME,ROW, so no trace, with the time of UTC at which a row was appended')
-    wanted = resize.add_mutually_exclusive_group(required=True)
+    for name in ('init', 'run'):
+        of[name].add_argument('--config', required=name == 'init', metavar='FILE')
+        add_seconds(of[name], '--ttl', 'how long a node stays present without a renewal')
+    add_count(of['init'], '--epoch', 'NUMBER', 'with which it begins: behind those of a log before it', FIRST)
+    for name in ('run', 'switchover'):
+        of[name].add_argument('--node', required=True, metavar='NAME')
+    for name in ('resize', 'switchover'):
+        add_seconds(of[name], '--seconds', 'how long to wait until the new epoch has begun', 60.0)
+    add_words_of_run(of['run'])
+    of['status'].add_argument('--json', action='store_true')
+    add_count(of['history'], '--epoch', 'NUMBER', 'which one; else the current one')
+    times = 'write TIME,ROW, so no trace, with the time of UTC at which a row was appended'
+    of['history'].add_argument('--times', action='store_true', help=times)
+    wanted = of['resize'].add_mutually_exclusive_group(required=True)
     wanted.add_argument('--config', metavar='FILE')
     wanted.add_argument('--cancel', action='store_true', help='nothing is wished for any more')
-    resize.add_argument('--all-new', action='store_true', help='also if no member that is there is in it, so that all end')
-    prune.add_argument('--keep', type=count, required=True, metavar='COUNT', help='how many epochs stay, the current one too')
-    add_orders(commands)
-    repair.add_argument('--cut', type=int, metavar='PLACE', help='cut what is told to be damaged from this place on; all members have to have ended')
+    all_new = 'also if no member that is there is in it, so that all end'
+    of['resize'].add_argument('--all-new', action='store_true', help=all_new)
+    keep = 'how many epochs stay, the current one too'
+    of['prune'].add_argument('--keep', type=count, required=True, metavar='COUNT', help=keep)
+    cut = 'cut what is told to be damaged from this place on; all members have to have ended'
+    of['repair'].add_argument('--cut', type=int, metavar='PLACE', help=cut)
+    for name in ('drain', 'undrain'):
+        of[name].add_argument('node', metavar='NODE')
+    add_seconds(of['drain'], '--seconds', 'how long to wait until it has left', 60.0)
+    of['drain'].add_argument('--all', action='store_true', help='also if nobody would work then')
     return words
-
-
-def add_orders(commands: 'argparse._SubParsersAction[argparse.ArgumentParser]') -> None:
-    """The command takes the words of an operator's orders."""
-    drain = commands.add_parser('drain', help='have a node take no part, up to undrain, also if its process begins again')
-    undrain = commands.add_parser('undrain', help='have it take part again')
-    pause = commands.add_parser('pause', help='have nobody settle the group: who works goes on, up to resume')
-    resume = commands.add_parser('resume', help='end a pause')
-    for command in (drain, undrain, pause, resume):
-        add_words(command)
-    for command in (drain, undrain):
-        command.add_argument('node', metavar='NODE')
-    drain.add_argument('--seconds', type=seconds, default=60.0, metavar='SECONDS', help='how long to wait until it has left')
-    drain.add_argument('--all', action='store_true', help='also if nobody would work then')
 
 
 def add_words_of_run(run: argparse.ArgumentParser) -> None:
     """The command takes the words of a member."""
-    run.add_argument('--stop-seconds', type=seconds, default=10.0, metavar='SECONDS', help='from SIGTERM to SIGKILL of the worker')
+    add_seconds(run, '--stop-seconds', 'from SIGTERM to SIGKILL of the worker', 10.0)
     run.add_argument('--talk', action='store_true', help='the worker stays over changes, and is told of them by lines')
     run.add_argument('--listen', metavar='HOST:PORT', help='tell the group over HTTP')
     run.add_argument('--quiet', action='store_true', help='say only what goes wrong')
     run.add_argument('--log-format', choices=FORMATS, default='text', help='of what is said on standard error')
-    run.add_argument('--keep', type=count, metavar='COUNT', help='how many epochs stay: whoever has partition 0 takes older ones away')
+    add_count(run, '--keep', 'COUNT', 'how many epochs stay: whoever has partition 0 takes older ones away')
     run.add_argument('worker', nargs='+', metavar='WORKER ARGS', help='the command of the worker, behind --')
+
+
+def add_seconds(command: argparse.ArgumentParser, word: str, about: str, default: float | None = None) -> None:
+    command.add_argument(word, type=seconds, default=default, metavar='SECONDS', help=about)
+
+
+def add_count(command: argparse.ArgumentParser, word: str, kind: str, about: str, default: int | None = None) -> None:
+    command.add_argument(word, type=count, default=default, metavar=kind, help=about)
 
 
 def seconds(word: str) -> float:
@@ -153,7 +151,8 @@ def init(options: argparse.Namespace) -> int:
     settings = settings_of(options.config)
     if options.epoch > LATEST:
         raise BadWords(f'--epoch is {options.epoch}, and may be {LATEST} at most')
-    store_of(options).create(Opening.first(settings.setup.header(), settings.names, epoch=options.epoch, ttl=options.ttl)).close()
+    opening = Opening.first(settings.setup.header(), settings.names, epoch=options.epoch, ttl=options.ttl)
+    store_of(options).create(opening).close()
     return OK
 
 
@@ -171,7 +170,8 @@ def change(options: argparse.Namespace) -> int:
             return cancel(log)
         present = found_in(log).lives
         if present and not set(present) & set(settings.names) and not options.all_new:
-            raise ConfigFault(f'none of those present ({", ".join(present)}) is in it, so all would end; --all-new takes it')
+            names = ', '.join(present)
+            raise ConfigFault(f'none of those present ({names}) is in it, so all would end; --all-new takes it')
         opening = resize(log, settings, options.seconds)
     print(f'epoch {opening.epoch}: {settings.setup.nodes} nodes, {settings.setup.partitions} partitions')
     return OK
@@ -239,7 +239,8 @@ def mend(options: argparse.Namespace) -> int:
         else:
             print(damage.told, *map(repr, damage.rows), sep='\n')
             if options.cut != damage.place or not repair(log, damage):
-                why = 'somebody is present' if options.cut == damage.place else f'--cut {damage.place} cuts that, once all members have ended'
+                how = f'--cut {damage.place} cuts that, once all members have ended'
+                why = 'somebody is present' if options.cut == damage.place else how
                 print(f'bully-member: nothing is cut: {why}', file=sys.stderr)
                 return FAILED
     return OK
@@ -252,23 +253,24 @@ def status(options: argparse.Namespace) -> int:
         while shown.behind and seconds_of_boot() < end:
             time.sleep(LOOK / 10)
             shown = view.show()
-    print(json.dumps(shown.told(), ensure_ascii=False) if options.json else text_of(shown))
+    print(json.dumps(shown.document(), ensure_ascii=False) if options.json else text_of(shown))
     return OK if shown.is_well else FAILED
 
 
 def text_of(group: GroupView) -> str:
     """The group, for people."""
-    about = f'epoch {group.epoch}, events {group.events}, token {group.token or "-"}, coordinator {shown_name(group.coordinator)}'
+    about = f'epoch {group.epoch}, events {group.events}, token {group.token or "-"}'
     rows = [('node', 'status', 'present', 'coordinator', 'partitions')]
     for node in group.nodes:
+        name, coordinator = shown_name(node.name), shown_name(node.coordinator)
         partitions = ' '.join(map(str, node.partitions)) or '-'
-        rows.append((shown_name(node.name), str(node.status), node.told_present, shown_name(node.coordinator), partitions))
+        rows.append((name, str(node.status), node.told_present, coordinator, partitions))
     widths = [max(map(len, column)) for column in zip(*rows)]
     table = ['  '.join(word.ljust(width) for word, width in zip(row, widths)).rstrip() for row in rows]
-    return '\n'.join([about + group.told_more, *table])
+    return '\n'.join([f'{about}, coordinator {shown_name(group.coordinator)}{group.told_more}', *table])
 
 
-def address_of(words: str) -> Tuple[str, int]:
+def address_of(words: str) -> tuple[str, int]:
     """Where to listen: on this machine alone, if there is a port alone."""
     host, colon, port = words.rpartition(':')
     if not port.isdecimal() or int(port) > 65_535:
@@ -282,11 +284,11 @@ def answered(ask: Callable[[], _Answer]) -> _Answer:
         try:
             return ask()
         except Unanswered as unanswered:
-            _told.warning('%s', unanswered)
+            _logger.warning('%s', unanswered)
             time.sleep(AGAIN)
 
 
-def ttl_of(store: 'FileStore | EtcdStore', told: Optional[float]) -> float:
+def ttl_of(store: FileStore | EtcdStore, told: float | None) -> float:
     """The ttl of all members: that of the log, if it has one. Else each is told its own."""
     with contextlib.closing(store.open(reads=True)) as log:
         kept = log.opening().ttl
@@ -315,7 +317,8 @@ def run(options: argparse.Namespace) -> int:
         log = answered(lambda: store.open(patience=min(1.0, ttl / 5)))
         closing.callback(log.close)
         workers = Workers(options.worker, options.node, options.stop_seconds, options.talk)
-        member = answered(lambda: Member(log, options.node, workers.start, workers.stop, ttl, settings, sure=workers.hear_until))
+        works = workers.start, workers.stop
+        member = answered(lambda: Member(log, options.node, *works, ttl, settings, sure=workers.hear_until))
         service = Service(member, workers)  # before anything begins that would take its environment
         workers.begin(member, store.path if isinstance(store, FileStore) else '')
         closing.callback(workers.close)
@@ -341,33 +344,43 @@ def run(options: argparse.Namespace) -> int:
     return OK
 
 
-COMMANDS = {
-    'init': init, 'run': run, 'status': status, 'history': history, 'resize': change, 'switchover': switch_over, 'prune': prune, 'repair': mend,
-    'drain': take_out, 'undrain': give_order, 'pause': give_order, 'resume': give_order,
-}  # fmt: skip
+COMMANDS: dict[str, tuple[Callable[[argparse.Namespace], int], str]] = {
+    'init': (init, 'make the log of a group'),
+    'run': (run, 'take part for a node, and run a worker'),
+    'status': (status, 'tell how the group stands'),
+    'history': (history, 'write the log of an epoch as a trace'),
+    'resize': (change, 'give the group other settings, in a new epoch'),
+    'switchover': (switch_over, 'have another node lead, in a new epoch'),
+    'drain': (take_out, 'have a node take no part, up to undrain, also if its process begins again'),
+    'undrain': (give_order, 'have it take part again'),
+    'pause': (give_order, 'have nobody settle the group: who works goes on, up to resume'),
+    'resume': (give_order, 'end a pause'),
+    'prune': (prune, 'take old epochs away'),
+    'repair': (mend, 'tell what of a log is damaged, and cut it'),
+}
 
 # What ends a command, and its status.
-STATUSES: Tuple[Tuple[Type[Exception], int], ...] = (
-    (BadWords, BAD_WORDS), (ConfigFault, BAD_INPUT), (OtherGroup, BAD_INPUT), (NotInGroup, NO_NODE), (BullyError, BAD_INPUT),
-    (DamagedLog, BAD_INPUT), (OtherLog, BAD_INPUT), (LogError, NO_STORE), (OSError, NO_STORE),
+STATUSES: tuple[tuple[type[Exception], int], ...] = (
+    (BadWords, BAD_WORDS), (ConfigFault, BAD_INPUT), (OtherGroup, BAD_INPUT), (NotInGroup, NO_NODE),
+    (BullyError, BAD_INPUT), (DamagedLog, BAD_INPUT), (OtherLog, BAD_INPUT), (LogError, NO_STORE), (OSError, NO_STORE),
     (WorkerEnded, FAILED), (GuardLost, FAILED), (WorkerStuck, FAILED), (NotEnded, FAILED),
 )  # fmt: skip
 
 
-def main(words: Optional[List[str]] = None) -> int:
-    """Runs the command by these words. Its status: 0; 1, if the worker ended by itself or its guard did, or it doesn't end, or the epoch didn't, or
-    the group isn't well; 2 of bad words; 3 of a fault of the configuration, or a log of another group, or damaged; 4, if the log or a file can't be
-    used; 5, if the group has no such node, or none any more."""
+def main(words: list[str] | None = None) -> int:
+    """Runs the command by these words. Its status: 0; 1, if the worker or its guard ended by itself, the worker or the
+    epoch didn't end, or the group isn't well; 2 of bad words; 3 of a bad configuration, or a log that is another
+    group's, or damaged; 4, if the log or a file can't be used; 5, if the group has no such node."""
     options = parser().parse_args(words)
     try:
-        return COMMANDS[options.command](options)
+        return COMMANDS[options.command][0](options)
     except Exception as fault:
         status = next((status for kind, status in STATUSES if isinstance(fault, kind)), None)
         if status is None:
             raise
         said = shown_name(f'config: {fault}' if isinstance(fault, ConfigFault) else str(fault))
-        is_json = getattr(options, 'log_format', '') == 'json'
-        say_last(JsonLines().format(logging.makeLogRecord({'levelname': 'ERROR', 'msg': said})) if is_json else f'bully-member: {said}', status)
+        is_json, record = getattr(options, 'log_format', '') == 'json', {'levelname': 'ERROR', 'msg': said}
+        say_last(JsonLines().format(logging.makeLogRecord(record)) if is_json else f'bully-member: {said}', status)
         return status
 
 

@@ -1,15 +1,15 @@
 """Epochs: a log has room for 1,000,000 rows, so a group's history is one log after the other.
 
-Each epoch has a log of its own, behind the header that it began with. `docs/MEMBERS.md` says when an epoch ends. Tokens rise over all of
-them.
+Each epoch has a log of its own, behind the header that it began with. `docs/MEMBERS.md` says when an epoch ends. Tokens
+rise over all of them.
 """
 from __future__ import annotations
 
 import dataclasses
 import json
 import re
+from collections.abc import Sequence
 from dataclasses import dataclass
-from typing import Optional, Sequence, Tuple
 
 from .group import Setup
 from .settings import Settings
@@ -22,8 +22,8 @@ SETTLEMENT = 11  # rows for each node: what settles a group has no more
 
 
 class Token(int):
-    """The token of a table: one number, EPOCH * 10,000,000 + EVENTS, where so many events of the epoch stand up to the table's plan and
-    with it. A later table has a higher one, also in a later epoch."""
+    """The token of a table: one number, EPOCH * 10,000,000 + EVENTS, where so many events of the epoch stand up to the
+    table's plan and with it. A later table has a higher one, also in a later epoch."""
 
     SPAN = 10_000_000  # more than an epoch has events
 
@@ -56,44 +56,45 @@ def room_of(nodes: int, limit: int) -> int:
 
 @dataclass(frozen=True)
 class Opening:
-    """What an epoch begins with: its header, and the names of its nodes; how many rows it may have; the last table of the epoch before,
-    by this one's numbers of nodes, with 0 where the owner is none of them; and the ttl of all members, if the log has one."""
+    """What an epoch begins with: its header, and the names of its nodes; how many rows it may have; the last table of
+    the epoch before, by this one's numbers, 0 where the owner is none of its nodes; and the ttl, if the log has one."""
 
     epoch: int
     header: str
-    names: Tuple[str, ...]
+    names: tuple[str, ...]
     limit: int
-    table: Tuple[int, ...] = ()
-    ttl: Optional[float] = None
+    table: tuple[int, ...] = ()
+    ttl: float | None = None
 
     @staticmethod
     def first(
-        header: str, names: Sequence[str] = (), limit: int = EVENTS_MAX, epoch: int = FIRST, ttl: Optional[float] = None
+        header: str, names: Sequence[str] = (), limit: int = EVENTS_MAX, epoch: int = FIRST, ttl: float | None = None
     ) -> Opening:  # fmt: skip
         """That of the first epoch, which has this number. Nodes without names are called by their numbers."""
         nodes = setup_of(header).nodes
-        told = tuple(names) or tuple(map(str, range(1, nodes + 1)))
-        return Opening(epoch, header, told, room_of(nodes, limit), ttl=ttl)
+        called = tuple(names) or tuple(map(str, range(1, nodes + 1)))
+        return Opening(epoch, header, called, room_of(nodes, limit), ttl=ttl)
 
     @staticmethod
     def parse(text: str) -> Opening:
         """The one that `text` told. A ValueError, a KeyError, a TypeError or a BullyError tells that it is none."""
-        told = json.loads(text)
-        names, table, limit = tuple(told['names']), tuple(told['table']), int(told['limit'])
-        ttl = float(told['ttl']) if 'ttl' in told else None
-        opening = Opening(int(told['epoch']), str(told['header']), names, limit, table, ttl)
+        document = json.loads(text)
+        names, table, limit = tuple(document['names']), tuple(document['table']), int(document['limit'])
+        ttl = float(document['ttl']) if 'ttl' in document else None
+        opening = Opening(int(document['epoch']), str(document['header']), names, limit, table, ttl)
         setup = setup_of(opening.header)
         setup.header()  # which is refused, if there can be no such group
         if setup.nodes != len(names) or len(table) not in (0, setup.partitions):
             raise ValueError(f'{opening.header} is told of {len(names)} nodes, with a table of {len(table)} partitions')
-        if not all(isinstance(name, str) for name in names) or not set(table) <= set(range(setup.nodes + 1)) or limit != room_of(setup.nodes, limit):
+        are_owners = set(table) <= set(range(setup.nodes + 1))
+        if not all(isinstance(name, str) for name in names) or not are_owners or limit != room_of(setup.nodes, limit):
             raise ValueError(f'names {names}, owners {table} or limit {limit} are none')
         return opening
 
     def text(self) -> str:
         """The same as JSON, for a store."""
-        told = dataclasses.asdict(self)
-        return json.dumps({key: value for key, value in told.items() if value is not None}, ensure_ascii=False)
+        document = dataclasses.asdict(self)
+        return json.dumps({key: value for key, value in document.items() if value is not None}, ensure_ascii=False)
 
     @property
     def settings(self) -> Settings:
@@ -111,14 +112,15 @@ class Opening:
 
     def wish(self, settings: Settings) -> Opening:
         """The opening of the next epoch with other settings, but for its table, which is known once this one ends."""
-        return Opening(self.epoch + 1, settings.setup.header(), settings.names, room_of(settings.setup.nodes, self.limit), ttl=self.ttl)
+        limit = room_of(settings.setup.nodes, self.limit)
+        return Opening(self.epoch + 1, settings.setup.header(), settings.names, limit, ttl=self.ttl)
 
-    def after(self, wish: Optional[Opening]) -> Opening:
+    def after(self, wish: Opening | None) -> Opening:
         """The opening of the next epoch but for its table: what is wished for, or else as this one."""
         return (wish or dataclasses.replace(self, epoch=self.epoch + 1)).bare
 
-    def next(self, wish: Optional[Opening], table: Sequence[int]) -> Opening:
-        """The opening of the next epoch: with what is wished for, or else as this one; and with this epoch's last table, if it has one."""
+    def next(self, wish: Opening | None, table: Sequence[int]) -> Opening:
+        """The opening of the next epoch: with what is wished for, or else as this one; and with this last table."""
         after = self.after(wish)
         there = {name: number for number, name in enumerate(after.names, 1)}
         numbers = {number: there.get(name, 0) for number, name in enumerate(self.names, 1)}

@@ -4,38 +4,44 @@ Below a log's prefix stand
 
 - `name`, which no other log has, with the form of the log; all that is asked is asked of the log of that name;
 - `opening/EPOCH`, and `first`, the first epoch whose rows are there;
-- `place`, the end of the log, which is EPOCH/PLACE of the current epoch; and `log/EPOCH/PLACE`, the rows of one append, each with its line
-  end, by where they begin;
+- `place`, the end of the log, which is EPOCH/PLACE of the current epoch; and `log/EPOCH/PLACE`, the rows of one append,
+  each with its line end, by where they begin;
 - `time/EPOCH/PLACE`, when that append was done, by the wall clock of who appended: milliseconds since 1970;
 - `next`, what the next epoch is to begin with, if something is wished for; and `orders`, if some are given;
 - `presence/life/NAME` and `presence/promise/NAME`, EPOCH/PLACE, under one lease of etcd's.
 
-EPOCH and PLACE have ten digits, so what is later is greater. What a call finds is of one revision, and no read is `serializable`.
+EPOCH and PLACE have ten digits, so what is later is greater. A call finds one revision; no read is `serializable`.
 
-A presence is renewed by its lease, without a write, while etcd has the leader under which the lease was granted. A leader of an earlier
-term that was paused may tell of renewals that no other knows, and may end a lease that was renewed under a later one. So a
-renewal counts only if etcd's term is the same before and behind it, and that of the grant. Else life and promise move to a new lease, in one
-transaction that keeps what was promised. No other write names a lease: one that came late would put a key under an old one, and lose it.
+A presence is renewed by its lease, without a write, while etcd has the leader under which the lease was granted. A
+leader of an earlier term that was paused may tell of renewals that no other knows, and may end a lease that was renewed
+under a later one. So a renewal counts only if etcd's term is the same before and behind it, and that of the grant. Else
+life and promise move to a new lease, in one transaction that keeps what was promised. No other write names a lease: one
+that came late would put a key under an old one, and lose it.
 """
 from __future__ import annotations
 
 import ssl
+from collections.abc import Callable, Iterator, Sequence, Set as AbstractSet
 from contextlib import closing
-from typing import AbstractSet, Callable, Dict, FrozenSet, Iterator, List, Mapping, NamedTuple, Optional, Sequence, Tuple
+from typing import NamedTuple
 
+from .clocks import SECOND, seconds_of_boot, slept, wall_clock
 from .epochs import FIRST, Opening
 from .gateway import (
-    KV_RANGE, LEASE_GRANT, LEASE_KEEPALIVE, Answer, Client, Compacted, Json, Pair, Silent, Watch, behind, below, coded, exists,
-    number_is, one, pair_of, pairs_of, put, ranges, read_address, value_is, value_of,
+    KV_RANGE, LEASE_GRANT, LEASE_KEEPALIVE, Answer, Client, Compacted, Json, Pair, Silent, Subscription, behind, coded,
+    exists, number_is, pair_of, pairs_of, put_at, range_at, range_below, range_from, ranges, read_address, value_is,
+    value_of,
 )  # fmt: skip
 from .logs import (
-    BY_HISTORY, SECOND, BadPresence, DamagedLog, ForeignLog, Found, Holder, LogError, LogExists, NoLog, OtherLog, Unanswered, are_idle,
-    log_name, no_epoch, opening_of, orders_of, rows_of, rows_text, see_end, seconds_of_boot, slept, wall_clock, wish_of,
+    BadPresence, DamagedLog, ForeignLog, Found, Holder, Lives, LogError, LogExists, NoLog, OtherLog, Unanswered,
+    are_idle,
 )  # fmt: skip
 from .member import Life, Promise, Until
 from .orders import Orders
 from .repairing import NOWHERE, Kept
-from .sqlite import life_of, life_text
+from .stored import (
+    BY_HISTORY, life_of, life_text, log_name, no_epoch, opening_of, orders_of, rows_of, rows_text, see_end, wish_of,
+)  # fmt: skip
 from .values import Rows
 
 FORM = 3
@@ -93,28 +99,28 @@ class Keys:
         """The name of a key that begins so. Raises ValueError."""
         return key[len(prefix) :].decode()
 
-    def begin(self, opening: Opening) -> List[Json]:
+    def begin(self, opening: Opening) -> list[Json]:
         """The epoch of this opening begins."""
-        here = put(self.place, place_text(Promise(opening.epoch, 0)))
-        return [here, put(self.opening(opening.epoch), BEGIN + opening.text()[1:])]
+        here = put_at(self.place, place_text(Promise(opening.epoch, 0)))
+        return [here, put_at(self.opening(opening.epoch), BEGIN + opening.text()[1:])]
 
     def page(self, begin: bytes, epoch: int) -> Json:
         """The range of an epoch's appends from one key on that are read together."""
-        return one(begin, range_end=coded(behind(self.rows(epoch))), limit=PAGE)
+        return range_from(begin, behind(self.rows(epoch)), limit=PAGE)
 
-    def standing(self, since: int) -> List[Json]:
-        """The ranges of all that isn't a row: the end of the log, the wish, the orders, and the lives and promises that were put behind a
-        revision."""
+    def standing(self, since: int) -> list[Json]:
+        """The ranges of all but rows: end of the log, wish, orders, and lives and promises put behind a revision."""
         newer = {'min_mod_revision': str(since + 1)}
-        return [one(self.place), one(self.next), one(self.orders), below(self.lives, **newer), below(self.promises, **newer)]
+        whole = map(range_at, (self.place, self.next, self.orders))
+        return [*whole, *(range_below(prefix, **newer) for prefix in (self.lives, self.promises))]
 
     def watched(self, is_wide: bool) -> Json:
         """The range of what changes, with promises or without them; rows aren't told, since they are looked for."""
-        return one(self.next, range_end=coded(behind(self.presences) if is_wide else self.promises))
+        return range_from(self.next, behind(self.presences) if is_wide else self.promises)
 
 
 class Held(NamedTuple):
-    """The lease under which a life holds its presence, for how many seconds, and a term of etcd's that had begun when it was granted."""
+    """The lease under which a life holds its presence, for how many seconds, and etcd's term when it was granted."""
 
     life: Life
     lease: int
@@ -125,23 +131,25 @@ class Held(NamedTuple):
 class EtcdLog:
     """A log in etcd. One thread at a time uses it."""
 
-    def __init__(self, address: str, patience: float = 1.0, tls: Optional[ssl.SSLContext] = None, user: str = '', password: str = '') -> None:
-        """The log at this address, `etcd://HOST:PORT,HOST:PORT/PREFIX`, which `create` made; over TLS if it begins with `etcds`. Each call
-        takes this many seconds at most, and a read for each of its parts.
+    def __init__(
+        self, address: str, patience: float = 1.0, tls: ssl.SSLContext | None = None, user: str = '', password: str = ''
+    ) -> None:
+        """The log at this address, `etcd://HOST:PORT,HOST:PORT/PREFIX`, which `create` made; over TLS if it begins with
+        `etcds`. Each call takes this many seconds at most, and a read for each of its parts.
 
         Raises NoLog, ForeignLog, DamagedLog, Denied, LogError, Unanswered; ValueError of an address that is none."""
         read = read_address(address)
         self.address = address
         self._keys = Keys(read.prefix)
         self._client = Client(read, patience, tls, user, password)
-        self._held: Optional[Held] = None
-        self._told_wanted: Tuple[Optional[bytes], Optional[bytes]] = None, None
-        self._told_idle: Tuple[Promise, FrozenSet[str]] = (Promise(), frozenset())
+        self._held: Held | None = None
+        self._seen_wanted: tuple[bytes | None, bytes | None] = None, None
+        self._seen_idle: tuple[Promise, frozenset[str]] = (Promise(), frozenset())
         self._news = News(self._keys)
-        self._watch: Optional[Watch] = None
+        self._watch: Subscription | None = None
         self._is_wide = False  # whether it tells of promises
         self._broken = float('-inf')  # when a watch broke
-        self._woken: Optional[int] = None  # that ends a wait
+        self._woken: int | None = None  # that ends a wait
         try:
             self._name = self._open()
         except BaseException:
@@ -150,8 +158,9 @@ class EtcdLog:
 
     @staticmethod
     def create(
-        address: str, opening: Opening, patience: float = 1.0, tls: Optional[ssl.SSLContext] = None, user: str = '', password: str = ''
-    ) -> 'EtcdLog':  # fmt: skip
+        address: str, opening: Opening, patience: float = 1.0, tls: ssl.SSLContext | None = None, user: str = '',
+        password: str = '',
+    ) -> EtcdLog:  # fmt: skip
         """Makes a log at this address that begins so, if there is nothing below its prefix. The log.
 
         Raises LogExists, ForeignLog, Denied, LogError, Unanswered; ValueError of an address that is none."""
@@ -165,7 +174,8 @@ class EtcdLog:
         """Sees that there is a log. Its name."""
         self._client.begin()
         keys = self._keys
-        named, older, first = self._client.transact([], ranges(one(keys.name), one(keys.older), below(keys.root, limit=1))).ranges
+        asked = ranges(range_at(keys.name), range_at(keys.older), range_below(keys.root, limit=1))
+        named, older, first = self._client.transact([], asked).ranges
         name, opening = value_of(named), value_of(older) or b''
         if name is not None and name.startswith(NAMED):
             return name
@@ -173,7 +183,8 @@ class EtcdLog:
             raise NoLog(f'{self.address}: there is none; bully-member init makes a log')
         if name is None and opening.startswith(OLDER):
             raise ForeignLog(f'{self.address}: a log by an older version, and not of form {FORM}{BY_HISTORY}')
-        if name is None and (opening.startswith(BEGIN.encode()) or pairs_of(first)[0].key.startswith((keys.first, keys.logs, keys.presences))):
+        is_ours = pairs_of(first)[0].key.startswith((keys.first, keys.logs, keys.presences))
+        if name is None and (opening.startswith(BEGIN.encode()) or is_ours):
             raise DamagedLog(f'{self.address}: the log has no name')
         raise ForeignLog(f'{self.address}: something else than a log of form {FORM} is below its prefix')
 
@@ -181,16 +192,16 @@ class EtcdLog:
 
     def epochs(self) -> range:
         self._client.begin()
-        return self._there(self._look(one(self._keys.place), one(self._keys.first)))
+        return self._there(self._look(range_at(self._keys.place), range_at(self._keys.first)))
 
     def _there(self, answer: Answer) -> range:
-        """The same, by an answer with the end of the log and the first epoch. (Rows of earlier ones may be left, in part.)"""
+        """The same, by an answer with the end of the log and the first epoch. (Rows of earlier ones may be left.)"""
         return range(int(value_of(answer.ranges[1]) or FIRST), self._end_of(answer.ranges[0]).epoch + 1)
 
-    def opening(self, epoch: Optional[int] = None) -> Opening:
+    def opening(self, epoch: int | None = None) -> Opening:
         number = self.epochs()[-1] if epoch is None else epoch
         self._client.begin()
-        found = pairs_of(self._look(one(self._keys.opening(number))).ranges[0])
+        found = pairs_of(self._look(range_at(self._keys.opening(number))).ranges[0])
         if not found:
             raise no_epoch(self.address, number, self.epochs())
         return opening_of(self.address, number, found[0].value)
@@ -199,7 +210,7 @@ class EtcdLog:
         """What is wished for is looked at first, and has to be the same then."""
         self._client.begin()
         keys = self._keys
-        *asked, there = self._look(one(keys.opening(epoch)), one(keys.next), one(keys.place)).ranges
+        *asked, there = self._look(range_at(keys.opening(epoch)), range_at(keys.next), range_at(keys.place)).ranges
         end, here = self._end_of(there), Promise(epoch, place)
         see_end(self.address, end, here)
         found, wished = map(pairs_of, asked)
@@ -209,26 +220,26 @@ class EtcdLog:
         if opening.bare != opening_of(self.address, epoch, found[0].value).after(wish):
             return False
         is_same = number_is(keys.next, 'mod_revision', wished[0].modified if wished else 0)
-        return self._add(epoch, place, [*keys.begin(opening), removed(one(keys.next))], is_same)
+        return self._add(epoch, place, [*keys.begin(opening), removed(range_at(keys.next))], is_same)
 
     def ask(self, wish: Opening, epoch: int) -> bool:
         self._client.begin()
         is_of_next = wish.epoch == epoch + 1
-        return is_of_next and self._change(self._is_current(epoch), [put(self._keys.next, wish.bare.text())]).is_done
+        return is_of_next and self._change(self._is_current(epoch), [put_at(self._keys.next, wish.bare.text())]).is_done
 
     def cancel(self, epoch: int) -> None:
         self._client.begin()
-        self._change(self._is_current(epoch), [removed(one(self._keys.next))])
+        self._change(self._is_current(epoch), [removed(range_at(self._keys.next))])
 
-    def order(self, orders: Orders, before: Optional[Orders]) -> bool:
+    def order(self, orders: Orders, before: Orders | None) -> bool:
         """What is ordered is looked at first, and has to be the same then."""
         self._client.begin()
         key = self._keys.orders
-        found = pairs_of(self._look(one(key)).ranges[0])
+        found = pairs_of(self._look(range_at(key)).ranges[0])
         if before is not None and before != orders_of(self.address, found[0].value if found else None):
             return False
         is_same, text = number_is(key, 'mod_revision', found[0].modified if found else 0), orders.text()
-        return self._change([is_same], [put(key, text) if text else removed(one(key))]).is_done
+        return self._change([is_same], [put_at(key, text) if text else removed(range_at(key))]).is_done
 
     def prune(self, first: int) -> None:
         """The epochs are gone at once. Their rows follow, a part at a time, so that nobody waits for long."""
@@ -236,17 +247,18 @@ class EtcdLog:
         first = min(first, there[-1])
         if first > there[0]:
             self._client.begin()
-            self._change([{**value_is(keys.first, b'%010d' % first), 'result': 'LESS'}], [put(keys.first, f'{first:010}')])
+            is_later = {**value_is(keys.first, b'%010d' % first), 'result': 'LESS'}
+            self._change([is_later], [put_at(keys.first, f'{first:010}')])
         while True:
             self._client.begin()
-            asked = one(keys.logs, range_end=coded(keys.rows(first)), keys_only=True, limit=PAGE)
+            asked = range_from(keys.logs, keys.rows(first), keys_only=True, limit=PAGE)
             found = pairs_of(self._look(asked).ranges[0])
             if not found:
                 return
             ends = found[0].key, found[-1].key + b'\0'
-            self._change([], [removed(one(begin, range_end=coded(end))) for begin, end in (ends, tuple(map(keys.time, ends)))])
+            self._change([], [removed(range_from(begin, end)) for begin, end in (ends, tuple(map(keys.time, ends)))])
 
-    def _is_current(self, epoch: int) -> List[Json]:
+    def _is_current(self, epoch: int) -> list[Json]:
         """That the epoch has begun, and none behind it."""
         keys = self._keys
         return [exists(keys.opening(epoch)), number_is(keys.opening(epoch + 1), 'version', 0)]
@@ -257,20 +269,20 @@ class EtcdLog:
         """First it is looked whether it may be, so that no lease is granted for nothing."""
         self._client.begin()
         keys, here = self._keys, place_text(promise)
-        answer = self._look(one(keys.life(name), keys_only=True), one(keys.place))
+        answer = self._look(range_at(keys.life(name), keys_only=True), range_at(keys.place))
         if answer.ranges[0].get('kvs') or value_of(answer.ranges[1]) != here.encode():
             return False
         self._held = self._granted(life, ttl, answer.term)
         conditions = [number_is(keys.life(name), 'version', 0), value_is(keys.place, here.encode())]
         under = str(self._held.lease)
-        done = [put(keys.life(name), life_text(life), lease=under), put(keys.promise(name), here, lease=under)]
+        done = [put_at(keys.life(name), life_text(life), lease=under), put_at(keys.promise(name), here, lease=under)]
         return self._change(conditions, done).is_done
 
     def renew(self, name: str, life: Life, ttl: int) -> bool:
         self._client.begin()
         held = self._held if self._held is not None and self._held[::2] == (life, seconds_of(ttl)) else None
         term = self._keep_alive(held) if held is not None else None
-        answer = self._look(one(self._keys.life(name)))
+        answer = self._look(range_at(self._keys.life(name)))
         found = pairs_of(answer.ranges[0])
         if [pair.value for pair in found] != [life_text(life).encode()]:
             return False
@@ -282,7 +294,7 @@ class EtcdLog:
         self._client.begin()
         keys = self._keys
         is_held = value_is(keys.life(name), life_text(life).encode())
-        self._change([is_held], [removed(one(keys.life(name))), removed(one(keys.promise(name)))])
+        self._change([is_held], [removed(range_at(keys.life(name))), removed(range_at(keys.promise(name)))])
 
     def promise(self, name: str, life: Life, promise: Promise) -> bool:
         """Under whatever lease the presence has by then."""
@@ -291,19 +303,19 @@ class EtcdLog:
         is_held = value_is(keys.life(name), life_text(life).encode())
         is_later = {**value_is(keys.promise(name), told), 'result': 'LESS'}
         kept = same(keys.promise(name), value=coded(told), ignore_lease=True)
-        answer = self._change([is_held, is_later], [kept], one(keys.life(name)), one(keys.promise(name)))
+        answer = self._change([is_held, is_later], [kept], range_at(keys.life(name)), range_at(keys.promise(name)))
         if answer.is_done:
             return True
         holder, promised = map(value_of, answer.ranges)
         return holder == life_text(life).encode() and (promised or b'') >= told
 
-    def _keep_alive(self, held: Held) -> Optional[int]:
+    def _keep_alive(self, held: Held) -> int | None:
         """Renews a lease. The term of etcd before that; nothing, if there is no such lease."""
         answer = self._client.ask(LEASE_KEEPALIVE, {'ID': str(held.lease)}, repeats=True)
         return int(answer['header']['raft_term']) if int(answer.get('TTL', 0)) > 0 else None
 
-    def _counts(self, held: Held, before: Optional[int], behind: int) -> bool:
-        """Whether a renewal counts, with etcd's terms before and behind it: no other leader than that of the grant has done it."""
+    def _counts(self, held: Held, before: int | None, behind: int) -> bool:
+        """Whether a renewal counts, by etcd's terms before and behind it: the leader of the grant has done it."""
         return held.term == before == behind
 
     def _granted(self, life: Life, ttl: int, term: int) -> Held:
@@ -315,16 +327,17 @@ class EtcdLog:
         return Held(life, int(granted['ID']), seconds, term)
 
     def _move(self, name: str, found: Pair, held: Held) -> bool:
-        """Puts a presence under a new lease, if nothing has been done to it since it was found. What was promised, also meanwhile, stays."""
+        """Puts a presence under a new lease, if nothing was done to it since it was found. What is promised stays."""
         key, under = self._keys.life(name), str(held.lease)
         is_same = number_is(key, 'mod_revision', found.modified)
-        moved = [put(key, life_text(held.life), lease=under), same(self._keys.promise(name), lease=under, ignore_value=True)]
+        promise = same(self._keys.promise(name), lease=under, ignore_value=True)
+        moved = [put_at(key, life_text(held.life), lease=under), promise]
         try:
-            answer = self._change([is_same], moved, one(key))
+            answer = self._change([is_same], moved, range_at(key))
             if not answer.is_done and value_of(answer.ranges[0]) == found.value:
                 raise Unanswered(f'{self.address}: an earlier renewal was done just now')
         except Unanswered:
-            self._held = None  # since a move may be done later, which ends with its lease, none counts before another move was done
+            self._held = None  # since a move may be done later, and ends with its lease, none counts before the next
             raise
         if answer.is_done:
             self._held = held
@@ -336,45 +349,48 @@ class EtcdLog:
         """All that are present are in one comparison, which isn't so if nobody is."""
         text = rows_text(rows)
         self._client.begin()
-        keys, behind_them, row = self._keys, Promise(epoch, place + len(rows)), self._keys.row(epoch, place)
-        done = [put(row, text), put(keys.time(row), str(wall_clock())), put(keys.place, place_text(behind_them))]
+        keys, end, row = self._keys, place_text(Promise(epoch, place + len(rows))), self._keys.row(epoch, place)
+        done = [put_at(row, text), put_at(keys.time(row), str(wall_clock())), put_at(keys.place, end)]
         return self._add(epoch, place, done)
 
     def _add(self, epoch: int, place: int, done: Sequence[Json], *more: Json) -> bool:
         """Whether this is done at the end of the log, while all are idle, and on more conditions."""
-        answer = self._change([*more, *self._are_idle(epoch, place)], done, one(self._keys.place))
+        answer = self._change([*more, *self._are_idle(epoch, place)], done, range_at(self._keys.place))
         if not answer.is_done:
             see_end(self.address, self._end_of(answer.ranges[0]), Promise(epoch, place))
         return answer.is_done
 
-    def _are_idle(self, epoch: int, place: int) -> List[Json]:
+    def _are_idle(self, epoch: int, place: int) -> list[Json]:
         """That the log ends there, and all promises, of which there is one at least, are of that place."""
         keys, here = self._keys, place_text(Promise(epoch, place)).encode()
-        return [value_is(keys.place, here), {**value_is(keys.promises, here), **below(keys.promises)}]
+        return [value_is(keys.place, here), {**value_is(keys.promises, here), **range_below(keys.promises)}]
 
     def read(self, epoch: int, place: int) -> Rows:
         keys = self._keys
-        answer, rows = self._read_with(epoch, place, lambda answer: epoch in self._there(answer), one(keys.place), one(keys.first))
+        ends = map(range_at, (keys.place, keys.first))
+        answer, rows = self._read_with(epoch, place, lambda answer: epoch in self._there(answer), *ends)
         if rows is None:
             raise no_epoch(self.address, epoch, self.epochs())
         see_end(self.address, self._end_of(answer.ranges[0]), Promise(epoch, place))
         return rows
 
-    def times(self, epoch: int) -> Dict[int, Optional[int]]:
+    def times(self, epoch: int) -> dict[int, int | None]:
         begin = self._keys.time(self._keys.rows(epoch))
-        times: Dict[int, Optional[int]] = {}
+        times: dict[int, int | None] = {}
         after = begin
         while True:
             self._client.begin()
-            found = pairs_of(self._look(one(after, range_end=coded(behind(begin)), limit=PAGE)).ranges[0])
+            found = pairs_of(self._look(range_from(after, behind(begin), limit=PAGE)).ranges[0])
             times.update({int(pair.key[-10:]): int(pair.value) if pair.value.isdigit() else None for pair in found})
             if len(found) < PAGE:
                 return times
             after = found[-1].key + b'\0'
 
-    def _read_with(self, epoch: int, place: int, is_there: Callable[[Answer], bool], *more: Json) -> 'tuple[Answer, Optional[Rows]]':
-        """The rows behind that place, if they are there by the answer, and the answer with what more was asked for at the same revision: the end
-        of the log first."""
+    def _read_with(
+        self, epoch: int, place: int, is_there: Callable[[Answer], bool], *more: Json
+    ) -> tuple[Answer, Rows | None]:
+        """The rows behind that place, if they are there by the answer, and the answer with what more was asked for at
+        the same revision: the end of the log first."""
         page = self._keys.page(self._keys.row(epoch, place), epoch)
         for _ in range(READS):
             try:
@@ -386,7 +402,7 @@ class EtcdLog:
         raise Unanswered(f'{self.address}: each revision was compacted while it was read: {cause}') from cause
 
     def _rows(self, epoch: int, place: int, answer: Answer) -> Rows:
-        """The rows of an epoch behind that place: the first appends were found, as the last range, and the others are read."""
+        """The rows of an epoch behind that place: the first appends were found as the last range, others are read."""
         keys, end = self._keys, self._end_of(answer.ranges[0])
         last = end.place if end.epoch == epoch else None  # of an epoch that is over it isn't known
         if last is not None and place >= last:
@@ -405,7 +421,7 @@ class EtcdLog:
         return rows_of(self.address, epoch, place, b''.join(texts))
 
     def _pages(self, epoch: int, found: Json, revision: int) -> Iterator[Pair]:
-        """The appends of an epoch, part by part, as they stand at one revision; the first part was found. Raises Compacted."""
+        """The appends of an epoch as they stand at one revision; the first part was found. Raises Compacted."""
         while True:
             pairs = pairs_of(found)
             yield from pairs
@@ -416,7 +432,7 @@ class EtcdLog:
     def _within(self, epoch: int, place: int, revision: int) -> bytes:
         """The rows behind a place at which no append begins, up to the end of its append."""
         keys = self._keys
-        asked = one(keys.rows(epoch), range_end=coded(keys.row(epoch, place)), limit=1, sort_order='DESCEND', sort_target='KEY')
+        asked = range_from(keys.rows(epoch), keys.row(epoch, place), limit=1, sort_order='DESCEND', sort_target='KEY')
         found = pairs_of(self._more(asked, revision))
         begin = found[0].key[len(keys.rows(epoch)) :] if found else b''
         return b'\n'.join(found[0].value.split(b'\n')[place - int(begin) :]) if begin.isdigit() else b''
@@ -427,40 +443,46 @@ class EtcdLog:
         return self._client.ask(KV_RANGE, {**asked, 'revision': str(revision)}, repeats=True)
 
     def _damaged(self, epoch: int, place: int) -> DamagedLog:
-        return DamagedLog(f'{self.address}: rows of epoch {epoch} are missing behind place {place}, or something else is between them')
+        rows = f'rows of epoch {epoch} are missing behind place {place}'
+        return DamagedLog(f'{self.address}: {rows}, or something else is between them')
 
     def kept(self) -> Kept:
         self._client.begin()
-        place = self._look(one(self._keys.place))
+        place = self._look(range_at(self._keys.place))
         end, keys = self._end_of(place.ranges[0]), self._keys
-        found = self._pages(end.epoch, self._more(keys.page(keys.row(end.epoch, 0), end.epoch), place.revision), place.revision)
-        begins = [(pair.key[len(keys.rows(end.epoch)) :], pair.value) for pair in found]
-        return Kept(end, [(int(begin) if begin.isdigit() and len(begin) == 10 else NOWHERE, text) for begin, text in begins])
+        page = self._more(keys.page(keys.row(end.epoch, 0), end.epoch), place.revision)
+        pairs = list(self._pages(end.epoch, page, place.revision))
+        begins = [pair.key[len(keys.rows(end.epoch)) :] for pair in pairs]
+        places = [int(begin) if begin.isdigit() and len(begin) == 10 else NOWHERE for begin in begins]
+        return Kept(end, list(zip(places, (pair.value for pair in pairs))))
 
     def cut(self, end: Promise, append: int, text: str, opening: Opening) -> bool:
         self._client.begin()
         keys = self._keys
-        nobody = {**below(keys.presences), **number_is(keys.presences, 'version', 0)}
+        nobody = {**range_below(keys.presences), **number_is(keys.presences, 'version', 0)}
         begin, behind_all = keys.row(end.epoch, append), behind(keys.rows(end.epoch))
         rest = begin + b'\0' * bool(text), behind_all
-        gone = [removed(one(first, range_end=coded(last))) for first, last in (rest, tuple(map(keys.time, rest)))]
-        done = [*gone, *([put(begin, text)] if text else []), removed(one(keys.next)), *keys.begin(opening)]
+        gone = [removed(range_from(first, last)) for first, last in (rest, tuple(map(keys.time, rest)))]
+        done = [*gone, *([put_at(begin, text)] if text else []), removed(range_at(keys.next)), *keys.begin(opening)]
         return self._change([nobody, value_is(keys.place, place_text(end).encode())], done).is_done
 
     # Looks and waits.
 
     def look(self, epoch: int, place: int) -> Found:
-        """Of lives and promises only those are read that are newer than the last look. If others are gone of which nothing was told, all
-        are."""
+        """Only lives and promises newer than the last look are read; all, if one is gone of which nothing told."""
+
+        def is_there(answer: Answer) -> bool:
+            return self._end_of(answer.ranges[0]).epoch == epoch
+
         for since in (self._news.known, 0):
-            answer, rows = self._read_with(epoch, place, lambda answer: self._end_of(answer.ranges[0]).epoch == epoch, *self._keys.standing(since))
+            answer, rows = self._read_with(epoch, place, is_there, *self._keys.standing(since))
             end = self._end_of(answer.ranges[0])
             see_end(self.address, end, Promise(epoch, place))
             if self._see_all(answer, since):
                 break
         wish, orders = wish_of(self.address, end.epoch, self._news.wish), orders_of(self.address, self._news.orders)
         found = Found(end.epoch, rows or Rows(''), self._news.presences(), wish, orders)
-        self._told_wanted, self._told_idle = self._news.wanted, (end, found.idle(end))
+        self._seen_wanted, self._seen_idle = self._news.wanted, (end, found.idle(end))
         return found
 
     def _see_all(self, answer: Answer, since: int) -> bool:
@@ -470,16 +492,16 @@ class EtcdLog:
         except (ValueError, KeyError) as fault:
             raise BadPresence(f'{self.address}: a presence is none: {fault}') from fault
 
-    def wait(self, epoch: int, place: int, lives: Mapping[str, Life], until: Until, seconds: float, woken: Optional[int] = None) -> None:
-        """By a watch. While many are present it tells of promises only where they are waited for: else each of them would be told to all."""
+    def wait(self, epoch: int, place: int, lives: Lives, until: Until, seconds: float, wake: int | None = None) -> None:
+        """By a watch. While many are present it tells of promises only who waits for them."""
         end = seconds_of_boot() + seconds
-        known, idle = self._told_idle
+        known, idle = self._seen_idle
         here = Promise(epoch, place)
-        is_news = self._news.awaited(here, lives, until, self._told_wanted, idle if known == here else frozenset())
+        is_news = self._news.awaited(here, lives, until, self._seen_wanted, idle if known == here else frozenset())
         is_wide = until is not Until.NEWS or len(lives) <= FEW
-        self._woken = woken
+        self._woken = wake
         while not self._hear(is_news, is_wide, max(0.0, end - seconds_of_boot())):
-            if seconds_of_boot() >= end or slept(0.0, woken):
+            if seconds_of_boot() >= end or slept(0.0, wake):
                 return
 
     def _hear(self, is_news: Callable[[], bool], is_wide: bool, seconds: float) -> bool:
@@ -506,7 +528,8 @@ class EtcdLog:
             self._see_all(self._look(*self._keys.standing(0)), 0)
         if is_news():
             return True
-        self._watch = self._client.watch({**self._keys.watched(is_wide), 'start_revision': str(self._news.revision + 1)})
+        behind_found = {'start_revision': str(self._news.revision + 1)}
+        self._watch = self._client.watch({**self._keys.watched(is_wide), **behind_found})
         self._is_wide = is_wide
         return False
 
@@ -529,16 +552,16 @@ class EtcdLog:
 
     def _look(self, *asked: Json) -> Answer:
         """What these ranges find, at one revision, in the log that was opened."""
-        return self._checked(self._client.transact([], ranges(one(self._keys.name), *asked)))
+        return self._checked(self._client.transact([], ranges(range_at(self._keys.name), *asked)))
 
     def _change(self, conditions: Sequence[Json], done: Sequence[Json], *refused: Json) -> Answer:
         """What is done if the conditions are so, and else what is found, in the log that was opened."""
         named = self._keys.name
-        answer = self._client.transact([value_is(named, self._name), *conditions], done, [one(named), *refused])
+        answer = self._client.transact([value_is(named, self._name), *conditions], done, [range_at(named), *refused])
         return answer if answer.is_done else self._checked(answer)
 
     def _checked(self, answer: Answer) -> Answer:
-        """The answer, without the range of the name. Raises NoLog, OtherLog, if the log isn't the one that was opened."""
+        """The answer, without the range of the name. Raises NoLog, OtherLog, if it isn't the log that was opened."""
         named, *others = answer.ranges
         name = value_of(named)
         if name is None:
@@ -561,11 +584,11 @@ class News:
     def __init__(self, keys: Keys) -> None:
         self.revision = 0  # of what was found
         self.is_fresh = False  # whether a watch told nothing since, and none broke
-        self.end: Optional[bytes] = None
-        self.wish: Optional[bytes] = None
-        self.orders: Optional[bytes] = None
-        self.lives: Dict[str, Life] = {}
-        self.promises: Dict[str, Promise] = {}
+        self.end: bytes | None = None
+        self.wish: bytes | None = None
+        self.orders: bytes | None = None
+        self.lives: dict[str, Life] = {}
+        self.promises: dict[str, Promise] = {}
         self._keys = keys
         self._is_odd = False  # whether something is for a look to find
 
@@ -575,16 +598,18 @@ class News:
         return 0 if self._is_odd else self.revision
 
     @property
-    def wanted(self) -> Tuple[Optional[bytes], Optional[bytes]]:
+    def wanted(self) -> tuple[bytes | None, bytes | None]:
         return self.wish, self.orders
 
     def see_all(self, answer: Answer, since: int) -> bool:
-        """What the ranges of `standing` found, behind a revision up to which all is known. Whether that tells all: what is gone can't be
-        found. Else nothing changes. Raises ValueError, KeyError of what is no presence."""
+        """What the ranges of `standing` found, behind a revision up to which all is known. Whether that tells all: what
+        is gone can't be found. Else nothing changes. Raises ValueError, KeyError of what is no presence."""
         keys, (place, wish, orders, *found) = self._keys, answer.ranges[:5]
         lives, promises = (dict(self.lives), dict(self.promises)) if since else ({}, {})
-        lives.update((keys.node(pair.key, keys.lives), life_of(pair.value.decode())) for pair in pairs_of(found[0]))
-        promises.update((keys.node(pair.key, keys.promises), place_of(pair.value.decode())) for pair in pairs_of(found[1]))
+        for pair in pairs_of(found[0]):
+            lives[keys.node(pair.key, keys.lives)] = life_of(pair.value.decode())
+        for pair in pairs_of(found[1]):
+            promises[keys.node(pair.key, keys.promises)] = place_of(pair.value.decode())
         if [len(lives), len(promises)] != [int(each.get('count', 0)) for each in found]:
             return False
         for name in lives:
@@ -594,7 +619,7 @@ class News:
         self.revision, self.is_fresh = answer.revision, True
         return True
 
-    def presences(self) -> Dict[str, Holder]:
+    def presences(self) -> dict[str, Holder]:
         """Who is present."""
         return {name: Holder(life, self.promises[name]) for name, life in self.lives.items()}
 
@@ -625,7 +650,8 @@ class News:
             self._is_odd = True
 
     def awaited(
-        self, here: Promise, lives: Mapping[str, Life], until: Until, wanted: Tuple[Optional[bytes], Optional[bytes]], before: AbstractSet[str],
+        self, here: Promise, lives: Lives, until: Until, wanted: tuple[bytes | None, bytes | None],
+        before: AbstractSet[str],
     ) -> Callable[[], bool]:  # fmt: skip
         """What tells whether there is what is waited for, by what was wanted and who was idle before."""
         end = place_text(here).encode()
@@ -655,12 +681,13 @@ def removed(asked: Json) -> Json:
 
 def make(client: Client, address: str, keys: Keys, opening: Opening) -> None:
     """Makes a log. Raises LogExists, ForeignLog."""
-    there = [one(keys.name, keys_only=True), one(keys.older, keys_only=True), below(keys.root, limit=1, keys_only=True)]
+    named, older = (range_at(key, keys_only=True) for key in (keys.name, keys.older))
+    there = [named, older, range_below(keys.root, limit=1, keys_only=True)]
     answer = client.transact([exists(keys.name)], [], there)  # so that the keys of a long log aren't compared
     if not answer.is_done and not answer.ranges[-1].get('kvs'):
-        is_empty = {**below(keys.root), **number_is(keys.root, 'version', 0)}
-        named = put(keys.name, NAMED.decode() + log_name())
-        answer = client.transact([is_empty], [named, *keys.begin(opening), put(keys.first, f'{opening.epoch:010}')], there)
+        is_empty = {**range_below(keys.root), **number_is(keys.root, 'version', 0)}
+        begun = [put_at(keys.name, NAMED.decode() + log_name()), put_at(keys.first, f'{opening.epoch:010}')]
+        answer = client.transact([is_empty], [*begun, *keys.begin(opening)], there)
         if answer.is_done:
             return
     if answer.is_done or any(found.get('kvs') for found in answer.ranges[:2]):

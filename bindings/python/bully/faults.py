@@ -1,16 +1,16 @@
 """What the library refuses: an exception for each of its statuses."""
 from __future__ import annotations
 
-from typing import TYPE_CHECKING, Dict, Type
+from typing import TYPE_CHECKING
 
 from .header import statuses
 
 _STATUSES = statuses()
-FAULTS: Dict[int, Type[BullyError]] = {}  # by their statuses
+FAULTS: dict[int, type[BullyError]] = {}  # by their statuses
 
 
 class BullyError(Exception):
-    """A call that the library refused, for the cause that its status names. Nothing has changed, but as NotLearned says."""
+    """A call that the library refused, for the cause that its status names. Nothing has changed, but see NotLearned."""
 
     status: int = 0
 
@@ -44,13 +44,14 @@ class TraceFault(BullyError):
 
 
 class NotLearned(BullyError):
-    """A row of a log isn't learned, nor are those behind it. `cause` is the exception that names why: one below Refused, if the
-    row's event is refused; RowDiffers; BadRow or TooManyRows; or OutOfMemory. `taken` is how many rows were learned before it, and
-    stay so; `row` is its number in the log, whose header is row 1. The status is that of the cause."""
+    """A row of a log isn't learned, nor are those behind it. `cause` is the exception that names why: one below
+    Refused, if the row's event is refused; RowDiffers; BadRow or TooManyRows; or OutOfMemory. `taken` is how many rows
+    were learned before it, and stay so; `row` is its number in the log, whose header is row 1; `status` is the
+    cause's."""
 
     taken: int = 0
     row: int = 0
-    cause: Type[BullyError] = BullyError
+    cause: type[BullyError] = BullyError
 
 
 class Full(Refused, status='FULL'):

@@ -9,9 +9,11 @@ import socket
 import ssl
 import threading
 from base64 import b64decode, b64encode
-from typing import Any, Dict, List, NamedTuple, NoReturn, Optional, Sequence, Tuple, Union
+from collections.abc import Sequence
+from typing import Any, NamedTuple, NoReturn
 
-from .logs import DamagedLog, ForeignLog, LogError, Unanswered, seconds_of_boot, slept
+from .clocks import seconds_of_boot, slept
+from .logs import DamagedLog, ForeignLog, LogError, Unanswered
 
 PORT = 2379
 LEAST_LIMIT = 0.01  # seconds that a request is given at least
@@ -22,11 +24,11 @@ LEASE_GRANT, LEASE_KEEPALIVE = '/v3/lease/grant', '/v3/lease/keepalive'
 
 # Codes of gRPC, by which etcd says why it refuses.
 PERMISSION_DENIED, OUT_OF_RANGE, UNAUTHENTICATED = 7, 11, 16
-MAY_PASS = frozenset({1, 2, 4, 5, 8, 10, 13, 14})  # whether it was done isn't known: also, if etcd is full, or a lease has ended already
+MAY_PASS = frozenset({1, 2, 4, 5, 8, 10, 13, 14})  # it may be done: also if etcd is full, or a lease has ended already
 
 TARGETS = {'version': 'VERSION', 'create_revision': 'CREATE', 'mod_revision': 'MOD'}  # of a condition, by the number
 
-Json = Dict[str, Any]
+Json = dict[str, Any]
 
 
 class Denied(LogError):
@@ -49,13 +51,13 @@ class Endpoint(NamedTuple):
 class Address(NamedTuple):
     """Where a log is: the servers, what its keys begin with, and whether TLS is asked for."""
 
-    endpoints: Tuple[Endpoint, ...]
+    endpoints: tuple[Endpoint, ...]
     prefix: str
     is_secure: bool
 
 
 def read_address(words: str) -> Address:
-    """The address `etcd://HOST:PORT,HOST:PORT/PREFIX`, or with `etcds`. The prefix is taken as it is spelled, without slashes at its end.
+    """The address `etcd://HOST:PORT,HOST:PORT/PREFIX`, or with `etcds`. The prefix has no slash at its end.
 
     Raises ValueError."""
     kind, mark, rest = words.partition('://')
@@ -64,7 +66,8 @@ def read_address(words: str) -> Address:
     if kind not in ('etcd', 'etcds') or not mark or not prefix:
         raise ValueError(f'{words} has to be etcd://HOST:PORT,HOST:PORT/PREFIX')
     if not {'log', 'opening', 'presence', 'time'}.isdisjoint(prefix.split('/')):
-        raise ValueError(f'{words}: no part of a prefix may be `log`, `opening`, `presence` or `time`, which stand below another one')
+        parts = '`log`, `opening`, `presence` or `time`, which stand below another one'
+        raise ValueError(f'{words}: no part of a prefix may be {parts}')
     prefix.encode()
     return Address(tuple(map(read_endpoint, servers.split(','))), prefix, kind == 'etcds')
 
@@ -90,18 +93,18 @@ class Pair(NamedTuple):
     lease: int
 
 
-def pair_of(told: Json) -> Pair:
+def pair_of(document: Json) -> Pair:
     """What is told of a key."""
-    created, modified, lease = (int(told.get(name, 0)) for name in ('create_revision', 'mod_revision', 'lease'))
-    return Pair(b64decode(told['key']), b64decode(told.get('value', '')), created, modified, lease)
+    created, modified, lease = (int(document.get(name, 0)) for name in ('create_revision', 'mod_revision', 'lease'))
+    return Pair(b64decode(document['key']), b64decode(document.get('value', '')), created, modified, lease)
 
 
-def pairs_of(found: Json) -> List[Pair]:
+def pairs_of(found: Json) -> list[Pair]:
     """What a range found."""
-    return [pair_of(told) for told in found.get('kvs', ())]
+    return [pair_of(document) for document in found.get('kvs', ())]
 
 
-def value_of(found: Json) -> Optional[bytes]:
+def value_of(found: Json) -> bytes | None:
     """The value of a key that was asked for, if it is there."""
     return next((pair.value for pair in pairs_of(found)), None)
 
@@ -116,14 +119,19 @@ def behind(prefix: bytes) -> bytes:
     return prefix[:-1] + bytes([prefix[-1] + 1])
 
 
-def one(key: bytes, **more: object) -> Json:
+def range_at(key: bytes, **more: object) -> Json:
     """The range of one key."""
     return {'key': coded(key), **more}
 
 
-def below(prefix: bytes, **more: object) -> Json:
+def range_from(begin: bytes, end: bytes, **more: object) -> Json:
+    """The range of the keys from one on, up to the end, which isn't of it."""
+    return range_at(begin, range_end=coded(end), **more)
+
+
+def range_below(prefix: bytes, **more: object) -> Json:
     """The range of all keys that begin so."""
-    return {'key': coded(prefix), 'range_end': coded(behind(prefix)), **more}
+    return range_from(prefix, behind(prefix), **more)
 
 
 def number_is(key: bytes, name: str, number: int) -> Json:
@@ -136,12 +144,12 @@ def value_is(key: bytes, value: bytes) -> Json:
     return {'key': coded(key), 'target': 'VALUE', 'result': 'EQUAL', 'value': coded(value)}
 
 
-def ranges(*asked: Json) -> List[Json]:
+def ranges(*asked: Json) -> list[Json]:
     """Ranges, as a transaction takes them."""
     return [{'request_range': each} for each in asked]
 
 
-def put(key: bytes, value: str, **more: str) -> Json:
+def put_at(key: bytes, value: str, **more: str) -> Json:
     """A key is put."""
     return {'request_put': {'key': coded(key), 'value': coded(value.encode()), **more}}
 
@@ -179,7 +187,8 @@ class Refusal(Exception):
     def denies(self) -> bool:
         """Whether it is of the user."""
         said = str(self)
-        return self.code in (PERMISSION_DENIED, UNAUTHENTICATED) or any(part in said for part in ('permission', 'auth', 'user name'))
+        is_told = any(part in said for part in ('permission', 'auth', 'user name'))
+        return is_told or self.code in (PERMISSION_DENIED, UNAUTHENTICATED)
 
 
 class Compacted(Exception):
@@ -188,9 +197,9 @@ class Compacted(Exception):
 
 def refusal_of(error: object) -> Refusal:
     """What an error in an answer says: of 3.4 or later, in a stream or not."""
-    told = error if isinstance(error, dict) else {}
-    code = told.get('code', told.get('grpc_code', 0))
-    said = told.get('message') or told.get('error') or error
+    document = error if isinstance(error, dict) else {}
+    code = document.get('code', document.get('grpc_code', 0))
+    said = document.get('message') or document.get('error') or error
     return Refusal(code if isinstance(code, int) else 0, str(said))
 
 
@@ -214,7 +223,7 @@ def silent_of(endpoint: Endpoint, error: Exception, may_be_done: bool) -> Silent
     return Silent(endpoint, f'TLS: {why}' if is_of_tls else why, may_be_done, is_final)
 
 
-def alert_of(connection: http.client.HTTPConnection) -> Optional[ssl.SSLError]:
+def alert_of(connection: http.client.HTTPConnection) -> ssl.SSLError | None:
     """What the other side said by TLS before it ended the connection, if it did."""
     try:
         if isinstance(connection.sock, ssl.SSLSocket):
@@ -232,7 +241,7 @@ def is_over(connection: http.client.HTTPConnection) -> bool:
 
 
 class Answer(NamedTuple):
-    """What a transaction came to: whether its conditions were so; what its ranges found; and the revision and the term of etcd."""
+    """What a transaction came to: whether its conditions were so; what its ranges found; etcd's revision and term."""
 
     is_done: bool
     ranges: Sequence[Json]
@@ -244,13 +253,14 @@ class Names:
     """Looks up where servers are, in threads, since no time-out bounds that."""
 
     def __init__(self) -> None:
-        self._asked: Dict[Endpoint, 'queue.SimpleQueue[Union[List[Any], OSError]]'] = {}
+        self._asked: dict[Endpoint, queue.SimpleQueue[list[Any] | OSError]] = {}
 
-    def places(self, endpoint: Endpoint, seconds: float) -> List[Any]:
+    def places(self, endpoint: Endpoint, seconds: float) -> list[Any]:
         """What `getaddrinfo` tells of it. What isn't told in time is waited for by the next call. Raises Silent."""
         if endpoint not in self._asked:
             self._asked[endpoint] = queue.SimpleQueue()
-            threading.Thread(target=look_up, args=[endpoint, self._asked[endpoint]], name='bully names', daemon=True).start()
+            words = endpoint, self._asked[endpoint]
+            threading.Thread(target=look_up, args=words, name='bully names', daemon=True).start()
         try:
             found = self._asked[endpoint].get(timeout=seconds)
         except queue.Empty:
@@ -261,13 +271,13 @@ class Names:
         return found
 
 
-def look_up(endpoint: Endpoint, told: 'queue.SimpleQueue[Union[List[Any], OSError]]') -> None:
+def look_up(endpoint: Endpoint, answers: queue.SimpleQueue[list[Any] | OSError]) -> None:
     try:
-        told.put(socket.getaddrinfo(endpoint.host, endpoint.port, type=socket.SOCK_STREAM))
+        answers.put(socket.getaddrinfo(endpoint.host, endpoint.port, type=socket.SOCK_STREAM))
     except OSError as error:
-        told.put(error)
+        answers.put(error)
     except UnicodeError as error:
-        told.put(OSError(str(error)))
+        answers.put(OSError(str(error)))
 
 
 def reached(places: Sequence[Any], end: float) -> socket.socket:
@@ -289,7 +299,7 @@ def reached(places: Sequence[Any], end: float) -> socket.socket:
 class Client:
     """Asks the servers of an etcd, one request at a time, and the next server if one doesn't answer."""
 
-    def __init__(self, address: Address, patience: float, tls: Optional[ssl.SSLContext], user: str, password: str) -> None:
+    def __init__(self, address: Address, patience: float, tls: ssl.SSLContext | None, user: str, password: str) -> None:
         if tls is not None and not address.is_secure:
             raise ValueError('TLS is for an address that begins with etcds://')
         self._endpoints = address.endpoints
@@ -299,8 +309,8 @@ class Client:
         self._token = ''
         self._turn = 0
         self._end = 0.0
-        self._connection: Optional[http.client.HTTPConnection] = None
-        self._cluster: Optional[str] = None
+        self._connection: http.client.HTTPConnection | None = None
+        self._cluster: str | None = None
         self._names = Names()
         self.seen = 0, 0  # the highest revision and term of a transaction
 
@@ -319,27 +329,29 @@ class Client:
 
     def transact(self, conditions: Sequence[Json], done: Sequence[Json], refused: Sequence[Json] = ()) -> Answer:
         """One transaction: what is done if all conditions are so, and else the ranges that are told."""
-        told = {'compare': list(conditions), 'success': list(done), 'failure': ranges(*refused)}
+        request = {'compare': list(conditions), 'success': list(done), 'failure': ranges(*refused)}
         changes = any('request_range' not in each for each in done)
-        answer = self.ask(KV_TXN, told, repeats=not changes)
+        answer = self.ask(KV_TXN, request, repeats=not changes)
         found = [each['response_range'] for each in answer.get('responses', ()) if 'response_range' in each]
         revision, term = int(answer['header']['revision']), int(answer['header']['raft_term'])
         if revision < self.seen[0] or term < self.seen[1]:
-            raise DamagedLog(f'{self.endpoint}: etcd was at revision {self.seen[0]} and term {self.seen[1]}, and is at {revision} and {term}: '
-                             'it went back, as one does that is restored')  # fmt: skip
+            was, now = f'revision {self.seen[0]} and term {self.seen[1]}', f'{revision} and {term}'
+            back = 'it went back, as one does that is restored'
+            raise DamagedLog(f'{self.endpoint}: etcd was at {was}, and is at {now}: {back}')
         self.seen = revision, term
         return Answer(bool(answer.get('succeeded')), found, revision, term)
 
-    def ask(self, path: str, told: Json, repeats: bool = False) -> Json:
-        """What etcd answers. If a server doesn't answer, the next one is asked: also of what may have been done, if that `repeats`.
+    def ask(self, path: str, request: Json, repeats: bool = False) -> Json:
+        """What etcd answers. If a server doesn't, the next one is asked; for what may have been done only if it
+        `repeats`.
 
         Raises Unanswered, Denied and other LogErrors, Compacted."""
-        causes: List[Silent] = []
+        causes: list[Silent] = []
         for count in range(len(self._endpoints), 0, -1):
             now = self._now()
             reached = now + (self._end - now) / count
             try:
-                return self._ask_here(path, told, reached, reached if repeats else self._end)
+                return self._ask_here(path, request, reached, reached if repeats else self._end)
             except Silent as silent:
                 causes.append(silent)
                 self._move_on()
@@ -348,20 +360,19 @@ class Client:
         said = '; '.join(map(str, causes))
         raise (Denied if all(cause.is_final for cause in causes) else Unanswered)(said) from causes[-1]
 
-    def watch(self, told: Json) -> Watch:
+    def watch(self, request: Json) -> Subscription:
         """A watch at the server that is asked now. Raises Silent."""
         self.begin()
         connection = self._connect(self._end)
-        body = json.dumps({'create_request': told}).encode()
-        lines = [f'POST {WATCH} HTTP/1.0', f'Host: {self.endpoint}', f'Content-Length: {len(body)}', 'Grpc-Metadata-hasleader: true']
-        if self._token:
-            lines.append(f'Authorization: {self._token}')
+        body = json.dumps({'create_request': request}).encode()
+        lines = [f'POST {WATCH} HTTP/1.0', f'Host: {self.endpoint}', f'Content-Length: {len(body)}']
+        lines += ['Grpc-Metadata-hasleader: true', *([f'Authorization: {self._token}'] if self._token else [])]
         try:
             connection.sock.sendall('\r\n'.join([*lines, '', '']).encode() + body)
         except OSError as error:
             connection.close()
             raise silent_of(self.endpoint, error, may_be_done=False) from error
-        return Watch(self.endpoint, connection)
+        return Subscription(self.endpoint, connection)
 
     def close(self) -> None:
         if self._connection is not None:
@@ -373,27 +384,28 @@ class Client:
         self.close()
         self._turn = (self._turn + 1) % len(self._endpoints)
 
-    def _ask_here(self, path: str, told: Json, reached: float, end: float) -> Json:
-        """What this server answers up to the end, if it is reached up to then. If it doesn't know the user any more, that one logs in again,
-        once."""
+    def _ask_here(self, path: str, request: Json, reached: float, end: float) -> Json:
+        """What this server answers up to the end, if it is reached up to then. If it doesn't know the user any more,
+        that one logs in again, once."""
         try:
             if self._user and not self._token:
                 self._log_in(reached, end)
             try:
-                return self._exchange(path, told, reached, end)
+                return self._exchange(path, request, reached, end)
             except Refusal as refusal:
                 if not (self._user and refusal.is_of_token):
                     raise
                 self._log_in(reached, end)
-                return self._exchange(path, told, reached, end)
+                return self._exchange(path, request, reached, end)
         except Refusal as refusal:
             fail(self.endpoint, refusal)
 
     def _log_in(self, reached: float, end: float) -> None:
         self._token = ''
-        self._token = str(self._exchange(LOGIN, {'name': self._user, 'password': self._password}, reached, end)['token'])
+        who = {'name': self._user, 'password': self._password}
+        self._token = str(self._exchange(LOGIN, who, reached, end)['token'])
 
-    def _exchange(self, path: str, told: Json, reached: float, end: float) -> Json:
+    def _exchange(self, path: str, request: Json, reached: float, end: float) -> Json:
         """A request and its answer. Raises Silent, Refusal, ForeignLog, LogError."""
         if self._connection is None or is_over(self._connection):
             self.close()
@@ -402,7 +414,7 @@ class Client:
         headers = {'Content-Type': 'application/json', **({'Authorization': self._token} if self._token else {})}
         try:
             limit(connection, end)
-            connection.request('POST', path, json.dumps(told).encode(), headers)
+            connection.request('POST', path, json.dumps(request).encode(), headers)
             response = connection.getresponse()
             limit(connection, end)
             text = response.read()
@@ -430,16 +442,17 @@ class Client:
     def _checked(self, status: int, text: bytes) -> Json:
         """What an answer says, if it is one of this etcd."""
         try:
-            told = json.loads(text)
+            document = json.loads(text)
         except ValueError:
-            told = None
-        if not isinstance(told, dict) and (status >= 500 or not text):
+            document = None
+        if not isinstance(document, dict) and (status >= 500 or not text):
             raise Silent(self.endpoint, f'status {status}', may_be_done=True)
-        if isinstance(told, dict) and ('error' in told or 'code' in told):
-            raise refusal_of(told['error'] if isinstance(told.get('error'), dict) else told)
-        answer: Json = told.get('result', told) if isinstance(told, dict) else {}
+        if isinstance(document, dict) and ('error' in document or 'code' in document):
+            raise refusal_of(document['error'] if isinstance(document.get('error'), dict) else document)
+        answer: Json = document.get('result', document) if isinstance(document, dict) else {}
         if status != 200 or 'raft_term' not in answer.get('header', {}):
-            raise LogError(f'{self.endpoint}: it does not answer as etcd 3.4 does, but with status {status}: {text[:80]!r}')
+            what = f'with status {status}: {text[:80]!r}'
+            raise LogError(f'{self.endpoint}: it does not answer as etcd 3.4 does, but {what}')
         cluster = answer['header'].get('cluster_id')
         if self._cluster not in (None, cluster):
             raise ForeignLog(f'{self.endpoint}: it is a server of another etcd')
@@ -447,8 +460,8 @@ class Client:
         return answer
 
 
-class Watch:
-    """What a server tells of changes, as it comes, over a connection of its own. (In HTTP/1.0 an answer isn't cut into chunks.)"""
+class Subscription:
+    """What a server tells of changes, over a connection of its own. (In HTTP/1.0 an answer isn't cut into chunks.)"""
 
     def __init__(self, endpoint: Endpoint, connection: http.client.HTTPConnection) -> None:
         self.endpoint = endpoint
@@ -456,12 +469,12 @@ class Watch:
         self._text = b''
         self._has_begun = False
 
-    def events(self, seconds: float, woken: Optional[int] = None) -> List[Json]:
-        """The next events, for which it waits so long at most, and until the descriptor has something to read. Raises Silent, Denied."""
+    def events(self, seconds: float, wake: int | None = None) -> list[Json]:
+        """The next events, once some come, the time is over, or the descriptor can be read. Raises Silent, Denied."""
         try:
             there = self._connection.sock
             is_left = isinstance(there, ssl.SSLSocket) and there.pending() > 0
-            if not is_left and there.fileno() not in slept(seconds, there.fileno(), woken):
+            if not is_left and there.fileno() not in slept(seconds, there.fileno(), wake):
                 return []
             there.settimeout(LEAST_LIMIT)
             received = there.recv(RECEIVED)
@@ -477,7 +490,7 @@ class Watch:
     def close(self) -> None:
         self._connection.close()
 
-    def _lines(self) -> List[bytes]:
+    def _lines(self) -> list[bytes]:
         """The whole lines that came, behind the head of the answer."""
         if not self._has_begun:
             head, end, text = self._text.partition(b'\r\n\r\n')
@@ -489,21 +502,22 @@ class Watch:
         *lines, self._text = self._text.split(b'\n')
         return lines
 
-    def _events_of(self, line: bytes) -> List[Json]:
+    def _events_of(self, line: bytes) -> list[Json]:
         try:
-            told = json.loads(line)
+            document = json.loads(line)
         except ValueError as error:
             raise Silent(self.endpoint, f'no watch, but {line[:80]!r}', may_be_done=False) from error
-        result = told.get('result', {})
-        if 'error' in told or result.get('canceled'):
-            why = refusal_of(told['error']) if 'error' in told else Refusal(0, result.get('cancel_reason', 'compacted'))
+        result = document.get('result', {})
+        if 'error' in document or result.get('canceled'):
+            why = refusal_of(document['error']) if 'error' in document else result.get('cancel_reason', 'compacted')
             said = f'the watch was ended: {why}'
-            raise Denied(f'{self.endpoint}: {said}') if 'permission' in said else Silent(self.endpoint, said, may_be_done=False)
-        events: List[Json] = result.get('events', [])
+            is_denied = 'permission' in said
+            raise Denied(f'{self.endpoint}: {said}') if is_denied else Silent(self.endpoint, said, may_be_done=False)
+        events: list[Json] = result.get('events', [])
         return events
 
 
 def limit(connection: http.client.HTTPConnection, end: float) -> None:
-    """What is done next over the connection takes no longer than up to then. (Who is told that it ends with an answer has no socket.)"""
+    """What is done next over the connection ends by then. (If it is to end with its answer it has no socket.)"""
     if connection.sock is not None:
         connection.sock.settimeout(max(LEAST_LIMIT, end - seconds_of_boot()))

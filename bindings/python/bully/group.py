@@ -2,39 +2,44 @@
 from __future__ import annotations
 
 import ctypes
+from collections.abc import Iterable, Sequence
 from dataclasses import dataclass
-from typing import Any, Iterable, Optional, Sequence, Tuple, Union
+from typing import Any
 
 from .faults import FAULTS, expect_ok
-from .library import UINT16_MAX, UINT32_MAX, RawSetup, RawVerdict, Room, line_bytes, loaded, number_of, numbers_of, owners_of
+from .library import STRUCTURES, UINT16_MAX, UINT32_MAX, Room, line_bytes, loaded, number_of, numbers_of, owners_of
 from .values import EVENTS_MAX, PARTITIONS_MAX, TablePlan, Verdict, VerdictKind
+
+__all__ = ['Setup', 'check', 'plan_table', 'status_name', 'version']
 
 
 @dataclass(frozen=True)
 class Setup:
-    """What the group is set up with. `weights` are those of nodes 1, 2 and so on; where there are none each node weighs 1. With
-    `keeps` a node keeps its task over a crash. The calls that take a setup judge it."""
+    """What the group is set up with. `weights` are those of nodes 1, 2 and so on; where there are none each node weighs
+    1. With `keeps` a node keeps its task over a crash. The calls that take a setup judge it."""
 
     nodes: int
     partitions: int
     events_max: int = EVENTS_MAX
-    weights: Tuple[int, ...] = ()
+    weights: tuple[int, ...] = ()
     keeps: bool = False
 
     def header(self) -> str:
-        """The header of a log of this setup, without its line end: of version 1 if that can tell it, and else of version 2, as
-        `docs/FORMATS.md` says. It doesn't tell `events_max`: the bound of a log is always EVENTS_MAX.
+        """The header of a log of this setup, without its line end: of version 1 if that can tell it, and else of
+        version 2, as `docs/FORMATS.md` says. It doesn't tell `events_max`: the bound of a log is always EVENTS_MAX.
 
         Raises BadNodes, BadPartitions, BadLimit, BadWeights, OutOfMemory."""
         return Room().row(loaded().bully_header, *setup_parts(self))
 
 
-def setup_parts(setup: Setup) -> Tuple[Any, ...]:
+def setup_parts(setup: Setup) -> tuple[Any, ...]:
     """A setup, as the three arguments that it is to the library."""
     weights = numbers_of('a weight', setup.weights)
-    nodes, partitions = number_of('nodes', setup.nodes, UINT16_MAX), number_of('partitions', setup.partitions, UINT16_MAX)
-    told = RawSetup(nodes, partitions, number_of('events_max', setup.events_max, UINT32_MAX), 1 if setup.keeps else 0)
-    return (ctypes.byref(told), *weights)
+    nodes = number_of('nodes', setup.nodes, UINT16_MAX)
+    partitions = number_of('partitions', setup.partitions, UINT16_MAX)
+    events = number_of('events_max', setup.events_max, UINT32_MAX)
+    raw = STRUCTURES['bully_setup'](nodes, partitions, events, 1 if setup.keeps else 0)
+    return (ctypes.byref(raw), *weights)
 
 
 def version() -> str:
@@ -47,24 +52,24 @@ def status_name(status: int) -> str:
     return str(loaded().bully_status_name(number_of('status', status, UINT32_MAX)), 'ascii')
 
 
-def check(trace: Union[str, bytes, bytearray, memoryview]) -> Verdict:
+def check(trace: str | bytes | bytearray | memoryview) -> Verdict:
     """Judges a trace, its text or the bytes of that, as `bully check` does. Other threads may run meanwhile.
 
     Raises BadHeader, BadRow or TooManyRows, with the row of the first fault; OutOfMemory."""
     if not isinstance(trace, (str, bytes, bytearray, memoryview)):
         raise TypeError(f'a trace is str or bytes, and not {type(trace).__name__}')
     text = line_bytes(trace) if isinstance(trace, str) else bytes(trace)
-    told = RawVerdict()
-    status = loaded(for_long=True).bully_check(text, len(text), ctypes.byref(told))
-    expect_ok(status, told.number)
-    return Verdict(VerdictKind(told.kind), told.number, FAULTS[told.cause] if told.cause else None)
+    raw = STRUCTURES['bully_verdict']()
+    status = loaded(for_long=True).bully_check(text, len(text), ctypes.byref(raw))
+    expect_ok(status, raw.number)
+    return Verdict(VerdictKind(raw.kind), raw.number, FAULTS[raw.cause] if raw.cause else None)
 
 
-def plan_table(setup: Setup, members: Iterable[int], old: Optional[Sequence[int]] = None) -> TablePlan:
-    """Plans the table over these members, balanced by weight, with the fewest moves from the old table; without one all move.
+def plan_table(setup: Setup, members: Iterable[int], old: Sequence[int] | None = None) -> TablePlan:
+    """Plans the table over these members, balanced by weight, with the fewest moves from the old one, if any.
 
-    Raises BadNodes, BadPartitions, BadLimit, BadWeights; BadNode of a member; TableLength or TableOwner of the old table;
-    NoMember; OutOfMemory."""
+    Raises BadNodes, BadPartitions, BadLimit, BadWeights; BadNode of a member; TableLength or TableOwner of the old
+    table; NoMember; OutOfMemory."""
     among, before = numbers_of('a member', members), owners_of(old)
     parts = setup_parts(setup)
     count = setup.partitions if setup.partitions <= PARTITIONS_MAX else 0

@@ -1,4 +1,4 @@
-"""The guard: the one small process beside a member, for as long as that is there. It starts, ends and kills the member's workers.
+"""The guard: one small process beside a member, as long as that is there. It starts, ends and kills its workers.
 
     guard.py CHANNEL PATIENCE KIND FILE TTL WORKER ARGS..
 
@@ -9,17 +9,20 @@ CHANNEL is a socket to the member, by its number. The member says
     begin WORDS      a worker begins, by these words: NAME=VALUE for its environment, parted by zero bytes
     stop             the worker has to end: by SIGTERM, and after PATIENCE seconds by SIGKILL
 
-and the guard says `begun`; `stopped` behind a stop, once nothing of the worker is left; `lost`, if it has killed the worker since its time
-was over; `ended STATUS`, if that ended by itself; and before these `held PROCESSES`, if these are still there a twentieth of the ttl behind
-SIGKILL, as one of another user is. It kills a worker with all that it started, also while the member is stopped or dead, and behind a sleep of
-the machine. If the member is gone, that is as if it had said stop.
+and the guard says `begun`; `stopped` behind a stop, once nothing of the worker is left; `lost`, if it has killed the
+worker since its time was over; `ended STATUS`, if that ended by itself; and before these `held PROCESSES`, if these are
+still there a twentieth of the ttl behind SIGKILL, as one of another user is. It kills a worker with all that it
+started, also while the member is stopped or dead, and behind a sleep of the machine. One that is gone has said stop.
 
-If KIND is `talks`, a worker stays over changes: WORDS is then a line for its standard input, and so is {"stop": true}. It answers such a stop by
-a line `stopped` on the descriptor BULLY_ANSWERS, or it ends. What it answered before isn't heard.
+If KIND is `talks`, a worker stays over changes: WORDS is then a line for its standard input, and so is {"stop": true}.
+It answers such a stop by a line `stopped` on the descriptor BULLY_ANSWERS, or it ends. Earlier answers aren't heard.
 
-The guard also kills a member that stays stopped in the middle of a write to FILE, the one with the end `-shm` of a file of SQLite, on which
-whoever writes has a lock, within two fifths of the ttl: else others couldn't renew before theirs is over. It imports nothing of its package.
+The guard also kills a member that stays stopped in the middle of a write to FILE, the one with the end `-shm` of a file
+of SQLite, on which whoever writes has a lock, within two fifths of the ttl: else others couldn't renew before theirs is
+over. It imports nothing of its package.
 """
+from __future__ import annotations
+
 import contextlib
 import ctypes
 import os
@@ -29,8 +32,8 @@ import socket
 import struct
 import sys
 import time
+from collections.abc import Callable, Sequence, Set as AbstractSet
 from pathlib import Path
-from typing import AbstractSet, Callable, Dict, List, Optional, Sequence, Set
 
 CLOCK_BOOTTIME = 7
 TIMER_ABSOLUTE = 1
@@ -61,9 +64,9 @@ def now() -> int:
     return time.clock_gettime_ns(CLOCK_BOOTTIME)
 
 
-def children() -> Set[int]:
+def children() -> set[int]:
     """The processes that this one has to wait for."""
-    found: List[str] = []
+    found: list[str] = []
     for task in os.listdir('/proc/self/task'):
         with contextlib.suppress(OSError):  # the thread has ended
             found += Path(f'/proc/self/task/{task}/children').read_text(encoding='ascii').split()
@@ -75,11 +78,11 @@ def adopt() -> None:
     checked(_libc.prctl(PR_SET_CHILD_SUBREAPER, 1, 0, 0, 0))
 
 
-def end_children(spared: AbstractSet[int], seconds: float, tell: Callable[[List[int]], object]) -> Dict[int, int]:
-    """Kills the children of this process but these, with all that they leave, and waits for that. Which are still there in so many seconds
-    is told, those that may work on first, and once more if others come. Their statuses."""
-    statuses: Dict[int, int] = {}
-    told: Set[int] = set()
+def end_children(spared: AbstractSet[int], seconds: float, tell: Callable[[list[int]], object]) -> dict[int, int]:
+    """Kills the children of this process but these, with all that they leave, and waits for that. Which are still there
+    in so many seconds is told, those that may work on first, and once more if others come. Their statuses."""
+    statuses: dict[int, int] = {}
+    told: set[int] = set()
     end, sleep = now() + int(seconds * NANOSECONDS), LONGEST_SLEEP / 16
     while left := children() - spared:
         for child in left:
@@ -92,7 +95,7 @@ def end_children(spared: AbstractSet[int], seconds: float, tell: Callable[[List[
     return statuses
 
 
-def killed(child: int) -> Dict[int, int]:
+def killed(child: int) -> dict[int, int]:
     """Kills a child, if it may. Its status, if it has ended."""
     with contextlib.suppress(PermissionError):  # nobody else waits for children meanwhile, so the number is the child's
         os.kill(child, signal.SIGKILL)
@@ -115,8 +118,8 @@ def may_kill(process: int) -> bool:
 # ---- Who writes to a file
 
 
-def writer_of(file: str) -> Optional[int]:
-    """The process that writes, if that can be told. (To open and close the file itself would lose the locks of this process on it.)"""
+def writer_of(file: str) -> int | None:
+    """The process that writes, if that can be told. (To open and close the file itself would lose the locks on it.)"""
     with contextlib.suppress(OSError):
         inode = str(os.stat(file).st_ino)
         found = (writer_in(inode, Path('/proc/locks').read_text(encoding='ascii')) for _ in range(TIMES))
@@ -124,7 +127,7 @@ def writer_of(file: str) -> Optional[int]:
     return None
 
 
-def writer_in(inode: str, locks: str) -> Optional[int]:
+def writer_in(inode: str, locks: str) -> int | None:
     """The same, by this list of the locks that processes have."""
     for line in locks.splitlines():
         words = line.split()
@@ -150,14 +153,14 @@ def say(text: str) -> None:
             os.write(2, text.encode())
 
 
-class Watch:
+class Watchdog:
     """Looks after a member, which may not stay stopped in the middle of a write."""
 
     def __init__(self, file: str, ttl: float) -> None:
         self.member, self.file, self.span = os.getppid(), file, int(ttl / LOOKS * NANOSECONDS)
-        self.stopped_at: Optional[int] = None
+        self.stopped_at: int | None = None
 
-    def pause(self) -> Optional[int]:
+    def pause(self) -> int | None:
         """For how many milliseconds it needn't look, at most."""
         if not self.file:
             return None
@@ -180,10 +183,10 @@ class Watch:
 class Worker:
     """A worker, which has begun."""
 
-    def __init__(self, words: List[str], environment: List[bytes], talks: bool) -> None:
+    def __init__(self, words: list[str], environment: list[bytes], talks: bool) -> None:
         """A signal that comes to it before it is there waits."""
         self.is_busy, self.unread = False, b''
-        self.stop_by: Optional[int] = None  # when the patience with it is over, if it was told to stop
+        self.stop_by: int | None = None  # when the patience with it is over, if it was told to stop
         self.lines, given = socket.socketpair() if talks else (None, None)  # it has room for all that can be unread
         self.answers, taken = os.pipe() if talks else (-1, -1)
         parent = os.getpid()
@@ -210,7 +213,7 @@ class Worker:
                     with contextlib.suppress(PermissionError):
                         os.kill(self.process, signal.SIGKILL)
 
-    def heard(self) -> List[bytes]:
+    def heard(self) -> list[bytes]:
         """The lines that it has answered. One read takes all that a pipe holds: more may come without end."""
         with contextlib.suppress(BlockingIOError):
             part = os.read(self.answers, MESSAGE_MAX)
@@ -229,8 +232,8 @@ class Worker:
             self.heard()  # no answer to this stop
         self.tell(STOP)
 
-    def end_all(self, seconds: float, tell: Callable[[List[int]], object]) -> int:
-        """Kills all that is left of it, and waits for that. Which processes are still there in so many seconds is told. Its status."""
+    def end_all(self, seconds: float, tell: Callable[[list[int]], object]) -> int:
+        """Kills what is left of it, and waits for that. Its status. What is there still in so many seconds is told."""
         closed(self.end)
         closed(self.answers)
         if self.lines is not None:
@@ -247,7 +250,7 @@ def has_room(lines: socket.socket, line: bytes) -> bool:
 
 def terminate(process: int) -> None:
     """SIGTERM for the process group of a worker that wasn't waited for; for it alone, if it has left that."""
-    with contextlib.suppress(PermissionError, ProcessLookupError):  # it is another user's, or its group has ended just now
+    with contextlib.suppress(PermissionError, ProcessLookupError):  # it is another user's, or its group has just ended
         (os.killpg if os.getpgid(process) == process else os.kill)(process, signal.SIGTERM)
 
 
@@ -258,7 +261,7 @@ def closed(descriptor: int) -> int:
     return -1
 
 
-def become(words: List[str], environment: List[bytes], pipes: Sequence[int], parent: int) -> None:
+def become(words: list[str], environment: list[bytes], pipes: Sequence[int], parent: int) -> None:
     """This process becomes the worker, which dies with its parent and has a process group of its own."""
     try:
         os.setpgid(0, 0)
@@ -284,13 +287,15 @@ def become(words: List[str], environment: List[bytes], pipes: Sequence[int], par
 class Guard:
     """The guard of a member."""
 
-    def __init__(self, channel: socket.socket, patience: float, talks: bool, ttl: float, watch: Watch, words: List[str]) -> None:
-        self.channel, self.watch, self.words, self.talks, self.ttl = channel, watch, words, talks, ttl
+    def __init__(
+        self, channel: socket.socket, patience: float, talks: bool, ttl: float, watchdog: Watchdog, words: list[str]
+    ) -> None:
+        self.channel, self.watchdog, self.words, self.talks, self.ttl = channel, watchdog, words, talks, ttl
         self.patience = int(patience * NANOSECONDS)
         self.until = 0
         self.parts = b''  # of the words of the next begin
         self.timer = checked(_libc.timerfd_create(CLOCK_BOOTTIME, os.O_CLOEXEC | os.O_NONBLOCK))
-        self.worker: Optional[Worker] = None
+        self.worker: Worker | None = None
         self.is_alone = False  # whether the member is gone
 
     def go_on(self) -> None:
@@ -300,11 +305,11 @@ class Guard:
             if self.worker is not None:
                 self.see(self.worker, ready)
             if self.channel.fileno() in ready:
-                with contextlib.suppress(ConnectionResetError):  # comes once, if the member didn't read all that it was told
+                with contextlib.suppress(ConnectionResetError):  # comes once, if the member didn't read all
                     self.hear(self.channel.recv(MESSAGE_MAX))
-            self.watch.look()
+            self.watchdog.look()
 
-    def awaited(self) -> Set[int]:
+    def awaited(self) -> set[int]:
         """Which descriptors are ready, once some are, or the member is to be looked at."""
         told = struct.pack('qqqq', 0, 0, *divmod(self.last_moment() or 0, NANOSECONDS))  # of 0: never
         checked(_libc.timerfd_settime(self.timer, TIMER_ABSOLUTE, told, None))
@@ -314,16 +319,16 @@ class Guard:
         for descriptor in there:
             if descriptor >= 0:
                 poll.register(descriptor, select.POLLIN)
-        return {descriptor for descriptor, _ in poll.poll(self.watch.pause())}
+        return {descriptor for descriptor, _ in poll.poll(self.watchdog.pause())}
 
-    def last_moment(self) -> Optional[int]:
+    def last_moment(self) -> int | None:
         """When the worker is killed, if it is at work, or has to end."""
         if self.worker is None:
             return None
         moments = [self.until if self.worker.is_busy else None, self.worker.stop_by]
         return min((moment for moment in moments if moment is not None), default=None)
 
-    def see(self, worker: Worker, ready: Set[int]) -> None:
+    def see(self, worker: Worker, ready: set[int]) -> None:
         """What has become of the worker, and of what that left to this process."""
         for child in children() - {worker.process}:
             os.waitpid(child, os.WNOHANG)
@@ -377,7 +382,7 @@ def main() -> None:
     for quiet in QUIET:
         signal.signal(quiet, signal.SIG_IGN)
     adopt()
-    Guard(channel, float(patience), kind == 'talks', float(ttl), Watch(file, float(ttl)), words).go_on()
+    Guard(channel, float(patience), kind == 'talks', float(ttl), Watchdog(file, float(ttl)), words).go_on()
 
 
 if __name__ == '__main__':

@@ -1,20 +1,21 @@
-"""What `bully.h` declares, by its names and as ctypes takes it. That header is the one source of the statuses' numbers, of structures and of
-functions, so none of them is written down here a second time."""
+"""What `bully.h` declares, by its names and as ctypes takes it. That header is the one source of the statuses' numbers,
+of structures and of functions, so none of them is written down here a second time."""
 from __future__ import annotations
 
 import ctypes
 import os
 import re
-from typing import Any, Dict, Iterator, List, Mapping, NamedTuple, Tuple
+from collections.abc import Iterator, Mapping
+from typing import Any, NamedTuple
 
 FILE = 'bully.h'
-HERE = os.path.dirname(os.path.abspath(__file__))
+HERE = os.path.dirname(__file__)
 
-_NUMBERS: Dict[str, Any] = {
+_NUMBERS: dict[str, Any] = {
     'uint8_t': ctypes.c_uint8, 'uint16_t': ctypes.c_uint16, 'uint32_t': ctypes.c_uint32, 'uint64_t': ctypes.c_uint64,
     'size_t': ctypes.c_size_t, 'bully_status': ctypes.c_uint32,
 }  # fmt: skip
-_POINTERS: Dict[str, Any] = {
+_POINTERS: dict[str, Any] = {
     'void': ctypes.c_void_p, 'char': ctypes.c_char_p, 'uint8_t': ctypes.c_char_p,  # bytes are handed over as they are
     **{name: ctypes.POINTER(kind) for name, kind in _NUMBERS.items() if name != 'uint8_t'},
 }  # fmt: skip
@@ -25,7 +26,7 @@ class Function(NamedTuple):
 
     name: str
     gives: str
-    takes: Tuple[str, ...]
+    takes: tuple[str, ...]
 
 
 def top_of_tree() -> Iterator[str]:
@@ -35,7 +36,7 @@ def top_of_tree() -> Iterator[str]:
 
 
 def _places() -> Iterator[str]:
-    """Where the header may stand: beside this file, where a wheel has it; in this tree; or with the library that the environment names."""
+    """Where the header may stand: beside this file, as in a wheel; in this tree; or beside the library."""
     yield HERE
     yield from (os.path.join(top, 'include') for top in top_of_tree())
     library = os.environ.get('BULLY_LIBRARY')
@@ -58,17 +59,16 @@ def _text() -> str:
 _TEXT = _text()
 
 
-def statuses() -> Dict[str, int]:
+def statuses() -> dict[str, int]:
     """The numbers of the statuses by their names, as `OK`."""
     [listed] = re.findall(r'typedef uint32_t bully_status;\s*enum \{(.*?)\}', _TEXT, re.DOTALL)
     return {name: int(number) for name, number in re.findall(r'BULLY_(\w+) = (\d+)', listed)}
 
 
-def fields(name: str) -> List[Tuple[str, Any]]:
-    """The fields of a structure, in their order: their names with their types."""
-    [listed] = re.findall(rf'typedef struct {name} \{{(.*?)\}}', _TEXT, re.DOTALL)
-    declared = (_parted(field) for field in listed.split(';')[:-1])
-    return [(field, type_of(kind, {})) for kind, field in declared]
+def structures() -> Iterator[tuple[str, list[tuple[str, Any]]]]:
+    """The structures, each with its fields in their order: their names with their types."""
+    for name, listed in re.findall(r'typedef struct (\w+) \{(.*?)\}', _TEXT, re.DOTALL):
+        yield name, [(field, type_of(kind, {})) for kind, field in map(_parted, listed.split(';')[:-1])]
 
 
 def functions() -> Iterator[Function]:
@@ -80,12 +80,12 @@ def functions() -> Iterator[Function]:
             yield Function(name, gives, _taken(told.rstrip(')')))
 
 
-def _taken(told: str) -> Tuple[str, ...]:
+def _taken(told: str) -> tuple[str, ...]:
     """The types of a function's parameters."""
     return () if told == 'void' else tuple(_parted(one)[0] for one in told.split(','))
 
 
-def _parted(declared: str) -> Tuple[str, str]:
+def _parted(declared: str) -> tuple[str, str]:
     """The type and the name of what is declared, as `uint16_t *` and `nodes`."""
     found = re.fullmatch(r'(?:const )?(\w+ \*?)(\w+)', ' '.join(declared.split()))
     if not found:
@@ -94,7 +94,7 @@ def _parted(declared: str) -> Tuple[str, str]:
 
 
 def type_of(kind: str, structures: Mapping[str, Any]) -> Any:
-    """The type of ctypes for one of the header. These structures are known; what points to another one is handed on as it is."""
+    """The type of ctypes for one of the header, by the structures that are known; a pointer to others as it is."""
     target, is_pointer, _ = kind.partition(' *')
     if not is_pointer:
         return _NUMBERS[target]

@@ -2,10 +2,11 @@
 from __future__ import annotations
 
 import ctypes
-from typing import Any, Iterable, Optional, Tuple
+from collections.abc import Iterable
+from typing import Any
 
 from .faults import BadArgument, BullyError, NotLearned, expect_ok, fault_of
-from .library import Opened, RawGroup, RawState, list_of, node_of, rows_bytes, state_of
+from .library import STRUCTURES, Opened, list_of, node_of, rows_bytes, state_of
 from .values import Line, Rows, State
 
 
@@ -46,14 +47,14 @@ class Learned(Opened):
         """How the node stands, by one look. Raises Closed, BadNode."""
         return state_of(self._show(node))
 
-    def _show(self, node: int) -> RawState:
-        return self._filled(RawState(), self._showing, node_of(node))
+    def _show(self, node: int) -> ctypes.Structure:
+        return self._filled(STRUCTURES['bully_state'](), self._showing, node_of(node))
 
     # How the group stands, behind the rows that were learned. Each raises Closed.
 
     @property
     def rows(self) -> int:
-        """How many rows were learned, claims too: so the next one of a list of them, without the header, has this index."""
+        """How many rows were learned, claims too: the index of the next one in a list without the header."""
         return int(self._group().rows)
 
     @property
@@ -62,19 +63,19 @@ class Learned(Opened):
         return int(self._group().events)
 
     @property
-    def token(self) -> Optional[int]:
-        """The token of the last plan, if there is one: how many events there are up to it and with it, which is at least 1. So a
-        later plan has a higher token. Each node that is Normal goes by the last plan: it has its planner as coordinator, and its
-        table as task."""
+    def token(self) -> int | None:
+        """The token of the last plan, if there is one: how many events there are up to it and with it, which is at
+        least 1. So a later plan has a higher token. Each node that is Normal goes by the last plan: it has its planner
+        as coordinator, and its table as task."""
         return self._group().token or None
 
     @property
-    def planner(self) -> Optional[int]:
+    def planner(self) -> int | None:
         """Whose the last plan is, if there is one."""
         return self._group().planner or None
 
     @property
-    def last_table(self) -> Optional[Tuple[int, ...]]:
+    def last_table(self) -> tuple[int, ...] | None:
         """The owner of each partition in the last plan's table, if there is a plan."""
         return list_of(self._partitions, self._function('planned')) or None
 
@@ -93,5 +94,5 @@ class Learned(Opened):
         """Whether a node keeps its task over a crash, as the header tells."""
         return bool(self._group().keeps)
 
-    def _group(self) -> RawGroup:
-        return self._filled(RawGroup(), 'group')
+    def _group(self) -> ctypes.Structure:
+        return self._filled(STRUCTURES['bully_group'](), 'group')

@@ -5,70 +5,38 @@ import ctypes
 import functools
 import operator
 import os
-from typing import Any, Callable, Iterable, Iterator, List, NoReturn, Optional, Sequence, Tuple, TypeVar, Union
+from collections.abc import Callable, Iterable, Iterator, Sequence
+from typing import Any, NoReturn, TypeVar, Union
 
 from .faults import Short, TableLength, expect_ok
-from .header import HERE, fields, functions, top_of_tree, type_of
+from .header import HERE, functions, structures, top_of_tree, type_of
 from .values import Call, CallKind, Line, Owned, Rows, State, Status, Want
 
 FILE = 'libbully.so'
-HOW_TO_FIND = f'an archive of Cinnabarloom has {FILE} in lib, or bin/library FOLDER builds it; BULLY_LIBRARY=FOLDER tells where it is'
+WHERE = f'an archive of Cinnabarloom has {FILE} in lib, or bin/library FOLDER builds it'
+HOW_TO_FIND = f'{WHERE}; BULLY_LIBRARY=FOLDER tells where it is'
 ROOM_MIN = 256
 UINT16_MAX = 0xFFFF
 UINT32_MAX = 0xFFFF_FFFF
 UINT64_MAX = 0xFFFF_FFFF_FFFF_FFFF
 
+# The header's structures, by its names.
+STRUCTURES: dict[str, type[ctypes.Structure]] = {
+    name: type(name, (ctypes.Structure,), {'_fields_': fields}) for name, fields in structures()
+}
 
-class RawSetup(ctypes.Structure):
-    _fields_ = fields('bully_setup')
-
-
-class RawVerdict(ctypes.Structure):
-    _fields_ = fields('bully_verdict')
-
-
-class RawHandle(ctypes.Structure):
-    """A handle, of whichever kind."""
-
-    _fields_ = fields('bully_agent')
+# The library twice. Calls of a handle keep Python's lock, so that no two threads are in one; a check of a long trace
+# gives it away.
+_loaded: list[ctypes.CDLL] = []
 
 
-class RawState(ctypes.Structure):
-    _fields_ = fields('bully_state')
-
-
-class RawGroup(ctypes.Structure):
-    _fields_ = fields('bully_group')
-
-
-class RawStep(ctypes.Structure):
-    _fields_ = fields('bully_step')
-
-
-class RawPresence(ctypes.Structure):
-    _fields_ = fields('bully_presence')
-
-
-class RawMember(ctypes.Structure):
-    _fields_ = fields('bully_member_state')
-
-
-_STRUCTURES = {
-    'bully_setup': RawSetup, 'bully_verdict': RawVerdict, 'bully_state': RawState, 'bully_group': RawGroup, 'bully_step': RawStep,
-    'bully_presence': RawPresence, 'bully_member_state': RawMember,
-    **dict.fromkeys(('bully_agent', 'bully_replica', 'bully_member'), RawHandle),
-}  # fmt: skip
-
-# The library twice. Calls of a handle keep Python's lock, so that no two threads are in one; a check of a long trace gives it away.
-_loaded: List[ctypes.CDLL] = []
-
-
-def _prototypes() -> List[Tuple[str, Any, List[Any]]]:
+def _prototypes() -> list[tuple[str, Any, list[Any]]]:
     """The functions of the library, with the types of what they give and take."""
-    return [(name, type_of(gives, _STRUCTURES), [type_of(kind, _STRUCTURES) for kind in takes]) for name, gives, takes in functions()]
+    typed = functools.partial(type_of, structures=STRUCTURES)
+    return [(name, typed(gives), list(map(typed, takes))) for name, gives, takes in functions()]
 
 
-def _declared(library: ctypes.CDLL, prototypes: List[Tuple[str, Any, List[Any]]]) -> ctypes.CDLL:
+def _declared(library: ctypes.CDLL, prototypes: list[tuple[str, Any, list[Any]]]) -> ctypes.CDLL:
     """The library, with the types of its functions told to ctypes."""
     for name, gives, takes in prototypes:
         function = getattr(library, name)
@@ -77,14 +45,14 @@ def _declared(library: ctypes.CDLL, prototypes: List[Tuple[str, Any, List[Any]]]
 
 
 def _own_places() -> Iterator[str]:
-    """Where the library stands that came with this package: beside it, in an archive, or at the top of the repository."""
+    """Where the library stands that came with this package: beside it, in an archive, or in the repository."""
     yield HERE
     for top in top_of_tree():
         yield os.path.join(top, 'lib')
         yield os.path.join(top, 'out', 'library')
 
 
-def _place_of(path: Union[str, 'os.PathLike[str]', None]) -> str:
+def _place_of(path: str | os.PathLike[str] | None) -> str:
     """The file to load."""
     place = os.fspath(path) if path is not None else os.environ.get('BULLY_LIBRARY') or ''
     if not place:
@@ -93,10 +61,10 @@ def _place_of(path: Union[str, 'os.PathLike[str]', None]) -> str:
     return os.path.join(place, FILE) if os.path.isdir(place) else place
 
 
-def load(path: Union[str, 'os.PathLike[str]', None] = None) -> None:
-    """Loads the library from this path: its file, or the folder that has it. Without a path that is BULLY_LIBRARY of the
-    environment, or else libbully.so in the folder of this package, in `lib` of an archive or in `out/library` of the repository, or else
-    what the system finds by that name. An OSError tells that it isn't there."""
+def load(path: str | os.PathLike[str] | None = None) -> None:
+    """Loads the library from this path: its file, or the folder that has it. Without a path that is BULLY_LIBRARY of
+    the environment, or else libbully.so in the folder of this package, in `lib` of an archive or in `out/library` of
+    the repository, or else what the system finds by that name. An OSError tells that it isn't there."""
     place, prototypes = _place_of(path), _prototypes()
     try:
         _loaded[:] = [_declared(ctypes.PyDLL(place), prototypes), _declared(ctypes.CDLL(place), prototypes)]
@@ -125,14 +93,14 @@ def node_of(value: int) -> int:
     return number_of('node', value, UINT16_MAX)
 
 
-def numbers_of(what: str, values: Iterable[int]) -> 'Tuple[ctypes.Array[ctypes.c_uint16], int]':
+def numbers_of(what: str, values: Iterable[int]) -> tuple[ctypes.Array[ctypes.c_uint16], int]:
     """Numbers, as the two arguments that they are to the library."""
     numbers = [number_of(what, value, UINT16_MAX) for value in values]
     return (ctypes.c_uint16 * len(numbers))(*numbers), len(numbers)
 
 
-def owners_of(values: Optional[Iterable[int]]) -> 'Tuple[ctypes.Array[ctypes.c_uint16], int]':
-    """The same of the owners of a table, or none. To the library no owners are no table, but an empty table is one that is too short."""
+def owners_of(values: Iterable[int] | None) -> tuple[ctypes.Array[ctypes.c_uint16], int]:
+    """The same of the owners of a table, if any. To the library none are no table, but an empty one is too short."""
     numbers, count = numbers_of('an owner', () if values is None else values)
     if values is not None and not count:
         raise TableLength()
@@ -147,7 +115,7 @@ def line_bytes(line: Line) -> bytes:
     raise TypeError(f'a line is str or bytes, and not {type(line).__name__}')
 
 
-def line_of(line: Line) -> Tuple[bytes, int]:
+def line_of(line: Line) -> tuple[bytes, int]:
     """The line, as the two arguments that it is to the library."""
     text = line_bytes(line)
     return text, len(text)
@@ -155,8 +123,8 @@ def line_of(line: Line) -> Tuple[bytes, int]:
 
 def row_bytes(line: Line) -> bytes:
     """The row, with its line end."""
-    told = line_bytes(line)
-    row = told[:-1] if told.endswith(b'\n') else told
+    text = line_bytes(line)
+    row = text[:-1] if text.endswith(b'\n') else text
     if not row or b'\n' in row or b'\r' in row:
         raise ValueError(f'{line!r} is not one row')
     return row + b'\n'
@@ -196,38 +164,38 @@ class Room:
         return self.text(function, *arguments).rstrip('\n')
 
 
-def list_of(room: int, function: Callable[..., int], *arguments: Any) -> Tuple[int, ...]:
-    """The numbers that the function writes, called with these arguments and so much room behind them, which holds them all."""
+def list_of(room: int, function: Callable[..., int], *arguments: Any) -> tuple[int, ...]:
+    """The numbers that the function writes, called with these arguments and room for so many behind them."""
     numbers, count = (ctypes.c_uint16 * room)(), ctypes.c_size_t()
     expect_ok(function(*arguments, numbers, room, ctypes.byref(count)))
     return tuple(numbers[: count.value])
 
 
-def owned_of(room: int, function: Callable[..., int], *arguments: Any) -> Optional[Owned]:
+def owned_of(room: int, function: Callable[..., int], *arguments: Any) -> Owned | None:
     """What a node owns, as the function writes it, called with these arguments and room for so many partitions."""
     token = ctypes.c_uint32()
     partitions = list_of(room, function, *arguments, ctypes.byref(token))
     return Owned(token.value, partitions) if partitions else None
 
 
-def call_of(told: RawState) -> Optional[Call]:
+def call_of(raw: ctypes.Structure) -> Call | None:
     """The call that the library tells of a node, if any."""
-    return Call(CallKind(told.call), told.callee, bool(told.orphan)) if told.callee else None
+    return Call(CallKind(raw.call), raw.callee, bool(raw.orphan)) if raw.callee else None
 
 
-def state_of(told: RawState) -> State:
+def state_of(raw: ctypes.Structure) -> State:
     """All that the library tells of a node."""
-    status, wants = Status(told.status), Want(told.wants)
-    return State(told.node, status, told.coordinator or None, told.halter or None, wants, call_of(told), told.generation)
+    status, wants = Status(raw.status), Want(raw.wants)
+    return State(raw.node, status, raw.coordinator or None, raw.halter or None, wants, call_of(raw), raw.generation)
 
 
-def texts_of(text: str) -> List[str]:
+def texts_of(text: str) -> list[str]:
     """The rows of a text, without their line ends."""
     return text.split('\n')[:-1]
 
 
 Self = TypeVar('Self', bound='Opened')
-Told = TypeVar('Told', bound=Union[ctypes.Structure, ctypes.c_uint32])
+Filled = TypeVar('Filled', bound=Union[ctypes.Structure, ctypes.c_uint32])
 
 
 class Opened:
@@ -238,7 +206,7 @@ class Opened:
 
     def __init__(self) -> None:
         self._library = loaded()
-        self._handle = RawHandle()
+        self._handle = STRUCTURES[self._kind]()
         self._held = ctypes.byref(self._handle)
         self._room = Room()
 
@@ -250,10 +218,10 @@ class Opened:
         """Calls the same, which has to answer OK."""
         expect_ok(self._function(name)(*told))
 
-    def _filled(self, told: Told, name: str, *arguments: Any) -> Told:
+    def _filled(self, filled: Filled, name: str, *arguments: Any) -> Filled:
         """What the same writes, called with these arguments and with room for that."""
-        self._call(name, *arguments, ctypes.byref(told))
-        return told
+        self._call(name, *arguments, ctypes.byref(filled))
+        return filled
 
     def close(self) -> None:
         """Gives back what the library keeps. Every later call raises Closed."""

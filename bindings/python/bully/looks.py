@@ -1,24 +1,28 @@
-"""What a member is told of a look. While its group is paused it is told that all is as the log has it, so that it goes on, and settles nothing."""
+"""What a member is told of a look. In a pause it is told that all is as the log has it, so that it settles nothing."""
 from __future__ import annotations
 
-from typing import Callable, Dict, Iterable, Mapping
+from collections.abc import Callable, Iterable, Mapping
 
 from .logs import Found, Holder
 from .member import Life, Presence, Promise, Seen, Until
 
 
 def seen_of(found: Found, end: Promise, name: str, numbers: Mapping[str, int], is_up: Callable[[int], bool]) -> Seen:
-    """What the rules are told of a look, behind which the log ends there for them: for the node of this name, by the numbers of all names, and
-    by which numbers are up in the log. In a pause a stranger is told of, for whom all that settle wait."""
+    """What the rules are told of a look, behind which the log ends there for them: for the node of this name, by the
+    numbers of all names, and by which numbers are up in the log. In a pause it tells of a stranger, who is waited
+    for."""
     is_frozen = found.is_frozen(end)
-    presences = frozen(found, name, [each for each, number in numbers.items() if is_up(number)]) if is_frozen else found.presences
-    there = sorted(Presence(numbers[each], holder.life, holder.promise) for each, holder in presences.items() if each in numbers)
-    return Seen(found.epoch, tuple(there), is_frozen or len(there) < len(presences), found.wish is not None and not is_frozen)
+    up = [each for each, number in numbers.items() if is_up(number)] if is_frozen else []
+    presences = frozen(found, name, up) if is_frozen else found.presences
+    known = [(numbers[each], holder) for each, holder in presences.items() if each in numbers]
+    there = sorted(Presence(number, holder.life, holder.promise) for number, holder in known)
+    has_strangers, is_wished = is_frozen or len(there) < len(presences), found.wish is not None and not is_frozen
+    return Seen(found.epoch, tuple(there), has_strangers, is_wished)
 
 
-def frozen(found: Found, name: str, up: Iterable[str]) -> Dict[str, Holder]:
-    """Who is present as the node of this name is told in a pause: those that are up in the log, who work. Its own presence is told as it is: if
-    that was lost, or came in the pause, its work waits for the end of it."""
+def frozen(found: Found, name: str, up: Iterable[str]) -> dict[str, Holder]:
+    """Who is present as the node of this name is told in a pause: those that are up in the log, who work. Its own
+    presence is told as it is: if that was lost, or came in the pause, its work waits for the end of it."""
     lives = found.orders.lives or {}
     told = {each: Holder(lives.get(each, Life(0, 0)), Promise()) for each in up}
     told.pop(name, None)

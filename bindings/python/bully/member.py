@@ -1,18 +1,21 @@
 """The rules of a member, as the library has them proved: a process that acts for one node of a group over a shared log.
 
-A `Core` has no clock, store, thread or chance of its own: `next` says what is to be done now, whoever drives it does that, and tells what
-became of it by the call that the step names. `docs/ALGORITHM.md` has the rules, `docs/DECISIONS.md` why they are so. All times are whole
-nanoseconds of one clock that never goes back. A *place* in an epoch's log is how many rows stand behind its header, and each of them is an event.
+A `Core` has no clock, store, thread or chance of its own: `next` says what is to be done now, whoever drives it does
+that, and tells what became of it by the call that the step names. `docs/ALGORITHM.md` has the rules,
+`docs/DECISIONS.md` why they are so. All times are whole nanoseconds of one clock that never goes back. A *place* in an
+epoch's log is how many rows stand behind its header, and each of them is an event.
 """
 from __future__ import annotations
 
+import ctypes
 import enum
+from collections.abc import Callable, Sequence
 from dataclasses import dataclass
-from typing import Callable, Dict, List, Optional, Sequence, Tuple, Union
+from typing import Union
 
 from .faults import BullyError, NotLearned, OutOfMemory
 from .learned import Learned
-from .library import UINT16_MAX, UINT32_MAX, UINT64_MAX, RawMember, RawPresence, RawStep, line_of, number_of, owned_of, owners_of, texts_of
+from .library import STRUCTURES, UINT16_MAX, UINT32_MAX, UINT64_MAX, line_of, number_of, owned_of, owners_of, texts_of
 from .values import Line, Owned
 
 TTL_MIN, TTL_MAX = 1_000_000, 86_400_000_000_000
@@ -31,7 +34,7 @@ class Promise:
 
 @dataclass(frozen=True, order=True)
 class Life:
-    """A try of a process to be present: no other process of the group ever has its number, and the process counts its tries."""
+    """A try of a process to be present. No other process of the group ever has its number; it counts its tries."""
 
     process: int
     number: int
@@ -48,44 +51,45 @@ class Presence:
 
 @dataclass(frozen=True)
 class Opening:
-    """What an epoch begins with, for one member: the header of its log; its number; the node; how many rows the log may have; and the last
-    table of the epoch before, by the numbers of this one, if it had as many partitions: there 0 is an owner that this group hasn't."""
+    """What an epoch begins with, for one member: the header of its log; its number; the node; how many rows the log may
+    have; and the last table of the epoch before, by the numbers of this one, if it had as many partitions: there 0 is
+    an owner that this group hasn't."""
 
     header: Line
     epoch: int
     node: int
     rows_max: int
-    old: Optional[Tuple[int, ...]] = None
+    old: tuple[int, ...] | None = None
 
 
 @dataclass(frozen=True)
 class Seen:
-    """What a look finds beside the rows, at the same moment: the current epoch; who is present for a node of it, by rising nodes; whether
-    somebody is present whose name no node of it has; and whether something else is wished for. In another epoch than the member's nothing
-    but its number counts."""
+    """What a look finds beside the rows, at the same moment: the current epoch; who is present for a node of it, by
+    rising nodes; whether somebody is present whose name no node of it has; and whether something else is wished for. In
+    another epoch than the member's nothing but its number counts."""
 
     epoch: int
-    presences: Tuple[Presence, ...] = ()
+    presences: tuple[Presence, ...] = ()
     has_strangers: bool = False
     is_wished: bool = False
 
 
 class StoreAnswer(enum.Enum):
-    """What became of a request: it was done; it wasn't, and won't be; or it may be done later, or never, or was done already."""
+    """What became of a request: it was done; it won't be; or it was done already, may be later, or never."""
 
     DONE, REFUSED, UNANSWERED = 'done', 'refused', 'unanswered'
 
 
 class Ending(enum.Enum):
-    """Why a member ends: it was told to leave; the group has no node of its name any more; or its log has a row that isn't learned, or that
-    tells no event."""
+    """Why a member ends: it was told to leave; the group has no node of its name any more; or its log has a row that
+    isn't learned, or that tells no event."""
 
     LEFT, NOT_THERE, BROKEN = 'left', 'not there', 'broken'
 
 
 class Until(enum.Enum):
-    """What ends a wait before its time: other rows, lives or wishes than were seen, and no more; or also that somebody that is present
-    is idle up to the end of the log, and wasn't when the member looked last; or that all are."""
+    """What ends a wait before its time: other rows, lives or wishes than were seen, and no more; or also that somebody
+    that is present is idle up to the end of the log, and wasn't when the member looked last; or that all are."""
 
     NEWS, ANY_IDLE, ALL_IDLE = 'news', 'any idle', 'all idle'
 
@@ -101,8 +105,8 @@ class Request(enum.Enum):
     RELEASE = 3  # the end of the presence, if this life has it
     LOOK = 4  # the rows behind all that was learned, for `learn`, and what `looked` is told
     BE_IDLE = 5  # this life's promise of the place, if it has the presence; a higher one stays
-    # To append the rows of `settlement`: if the log ends at the place, somebody is present, and all that are, strangers too, have promised this
-    # place of this epoch.
+    # To append the rows of `settlement`: if the log ends at the place, somebody is present, and all that are, strangers
+    # too, have promised this place of this epoch.
     APPEND = 6
     FINISH = 7  # to end the epoch, and to begin the next one: on the same conditions
     FOLLOW = 8  # what the current epoch began with, for `followed`
@@ -110,8 +114,8 @@ class Request(enum.Enum):
 
 @dataclass(frozen=True)
 class Ask:
-    """To ask the store, for this life or at this place, if the request has any, and to tell what became of that: by `answered`, `looked`,
-    `followed` or `passed`."""
+    """To ask the store, for this life or at this place, if the request has any, and to tell what became of that: by
+    `answered`, `looked`, `followed` or `passed`."""
 
     request: Request
     life: Life = Life(0, 0)
@@ -189,9 +193,10 @@ class Work:
 
 # ---- As the library numbers them: what stands first has number 1.
 
+RAW_PRESENCE = STRUCTURES['bully_presence']
 _ENDINGS, _UNTILS, _WAYS, _ANSWERS = list(Ending), list(Until), list(Way), list(StoreAnswer)
 
-_STEPS: Dict[int, Callable[[RawStep], Step]] = {
+_STEPS: dict[int, Callable[[ctypes.Structure], Step]] = {
     1: lambda raw: Ask(Request(raw.request), Life(raw.process, raw.number), raw.place),
     2: lambda raw: Begin(raw.token),
     3: lambda raw: Stop(),
@@ -205,11 +210,12 @@ def _moment(now: int) -> int:
     return number_of('a time', now, UINT64_MAX)
 
 
-def _raw_presence(presence: Presence) -> RawPresence:
+def _raw_presence(presence: Presence) -> ctypes.Structure:
     life, promise, node = presence.life, presence.promise, number_of('a node', presence.node, UINT16_MAX)
-    process, number = number_of('a process', life.process, UINT64_MAX), number_of('a number of a life', life.number, UINT64_MAX)
+    process = number_of('a process', life.process, UINT64_MAX)
+    number = number_of('a number of a life', life.number, UINT64_MAX)
     epoch, place = number_of('an epoch', promise.epoch, UINT32_MAX), number_of('a place', promise.place, UINT32_MAX)
-    return RawPresence(process, number, epoch, place, node)
+    return RAW_PRESENCE(process, number, epoch, place, node)
 
 
 class Core(Learned):
@@ -221,13 +227,13 @@ class Core(Learned):
     _single = 'a member is not copied: there is one of it'
 
     def __init__(self, opening: Opening, process: int, ttl: int) -> None:
-        """A member that has learned nothing, and asked for nothing. No other process of the group ever has the number of this one. The ttl
-        is for how long a presence lasts from its last renewal.
+        """A member that has learned nothing, and asked for nothing. No other process of the group ever has the number
+        of this one. The ttl is for how long a presence lasts from its last renewal.
 
-        Raises BadHeader, BadNode, TableLength, TableOwner; BadRowsMax: `rows_max` is below 22 for each node, or above EVENTS_MAX; BadTtl:
-        the ttl is below TTL_MIN or above TTL_MAX; OutOfMemory."""
+        Raises BadHeader, BadNode, TableLength, TableOwner; BadRowsMax: `rows_max` is below 22 for each node, or above
+        EVENTS_MAX; BadTtl: the ttl is below TTL_MIN or above TTL_MAX; OutOfMemory."""
         super().__init__()
-        self.fault: Optional[BullyError] = None  # why its log is broken, if a row wasn't learned
+        self.fault: BullyError | None = None  # why its log is broken, if a row wasn't learned
         number, length = number_of('a process', process, UINT64_MAX), number_of('a ttl', ttl, UINT64_MAX)
         self._begin('open', *self._epoch_of(opening), number, length)
 
@@ -236,27 +242,28 @@ class Core(Learned):
         return f'of node {shown.node} in epoch {shown.epoch}, {shown.place} rows'
 
     @staticmethod
-    def _epoch_of(opening: Opening) -> Tuple[object, ...]:
+    def _epoch_of(opening: Opening) -> tuple[object, ...]:
         """The arguments of the library."""
-        header, owners, node = line_of(opening.header), owners_of(opening.old), number_of('a node', opening.node, UINT16_MAX)
-        epoch, most = number_of('an epoch', opening.epoch, UINT32_MAX), number_of('rows_max', opening.rows_max, UINT32_MAX)
-        return (*header, epoch, node, most, *owners)
+        header, owners = line_of(opening.header), owners_of(opening.old)
+        epoch, node = number_of('an epoch', opening.epoch, UINT32_MAX), number_of('a node', opening.node, UINT16_MAX)
+        return (*header, epoch, node, number_of('rows_max', opening.rows_max, UINT32_MAX), *owners)
 
     # What it does next.
 
     def next(self, now: int) -> Step:
         """What is to be done now: by the first of the rules that applies. It is noted that this is done."""
-        raw = self._filled(RawStep(), 'next', _moment(now))
+        raw = self._filled(STRUCTURES['bully_step'](), 'next', _moment(now))
         return _STEPS[raw.kind](raw)
 
-    def settlement(self) -> List[str]:
-        """The rows of an Append, without line ends: they bring the group to rest among those present, or, if the member ends, among nobody.
+    def settlement(self) -> list[str]:
+        """The rows of an Append, without line ends: they bring the group to rest among those present; at its end, with
+        nobody.
 
         Raises Full, if the log has no room for them; OutOfMemory."""
         return texts_of(self._room.text(self._function('settlement')))
 
-    def owned(self) -> Optional[Owned]:
-        """By which token the node may work, by a plan behind all that the life has promised, and on which partitions, if on any.
+    def owned(self) -> Owned | None:
+        """By which token the node may work, by a plan behind what the life has promised, and on what, if on any.
 
         Raises OutOfMemory."""
         return owned_of(self._partitions, self._function('owned'))
@@ -268,11 +275,10 @@ class Core(Learned):
         self._call('answered', _moment(now), _ANSWERS.index(answer) + 1)
 
     def learn(self, rows: Sequence[Line]) -> None:
-        """The rows that a look found behind its place, before `looked`. A row that isn't learned, or that tells no event, ends the
-        member as BROKEN; if it isn't learned, `fault` tells why.
+        """The rows that a look found behind its place, before `looked`. A row that isn't learned, or that tells no
+        event, ends the member as BROKEN; if it isn't learned, `fault` tells why.
 
-        Raises a NotLearned whose cause is OutOfMemory, and then the member doesn't end; and as `Replica.learn` a ValueError or a
-        TypeError."""
+        Raises a NotLearned of OutOfMemory, and then doesn't end; and as `Replica.learn` a ValueError or a TypeError."""
         try:
             self._learn(rows)
         except NotLearned as fault:
@@ -285,16 +291,16 @@ class Core(Learned):
 
         Raises BadNode; OutOfMemory."""
         count, epoch = len(seen.presences), number_of('an epoch', seen.epoch, UINT32_MAX)
-        presences = (RawPresence * count)(*map(_raw_presence, seen.presences))
+        presences = (RAW_PRESENCE * count)(*map(_raw_presence, seen.presences))
         self._call('looked', _moment(now), epoch, presences, count, bool(seen.has_strangers), bool(seen.is_wished))
 
     def passed(self) -> None:
-        """In place of any other answer: the epoch is over, and its log was taken away. A store needs it whose look doesn't tell the current
-        epoch then: none of this package does, so `Member` never calls it."""
+        """In place of any other answer: the epoch is over, and its log was taken away. A store needs it whose look
+        doesn't tell the current epoch then: none of this package does, so `Member` never calls it."""
         self._call('passed')
 
-    def followed(self, now: int, opening: Optional[Opening]) -> None:
-        """With what the current epoch begins; none, if the member's name isn't in it. Nothing changes if no follow is awaited.
+    def followed(self, now: int, opening: Opening | None) -> None:
+        """With what the current epoch begins, if the member's name is in it. Nothing changes if none is awaited.
 
         Raises as `Core` does, but for BadTtl; then nothing changes."""
         if opening is None:
@@ -321,7 +327,7 @@ class Core(Learned):
     # How it stands.
 
     @property
-    def life(self) -> Union[None, Unknown, Present]:
+    def life(self) -> Unknown | Present | None:
         """Whether its process has the presence of its node."""
         shown = self._shown()
         if not shown.life:
@@ -341,13 +347,13 @@ class Core(Learned):
         return int(self._shown().promised)
 
     @property
-    def work(self) -> Optional[Work]:
+    def work(self) -> Work | None:
         """How far its work is, if there is any."""
         shown = self._shown()
         return Work(_WAYS[shown.work - 1], shown.token) if shown.work else None
 
     @property
-    def ending(self) -> Optional[Ending]:
+    def ending(self) -> Ending | None:
         """Why it ends, if it does."""
         shown = self._shown()
         return _ENDINGS[shown.ending - 1] if shown.ending else None
@@ -372,5 +378,5 @@ class Core(Learned):
         """The end of the log, as far as it was learned."""
         return int(self._shown().place)
 
-    def _shown(self) -> RawMember:
-        return self._filled(RawMember(), 'show', 0)
+    def _shown(self) -> ctypes.Structure:
+        return self._filled(STRUCTURES['bully_member_state'](), 'show', 0)

@@ -1,4 +1,4 @@
-"""What a member says on standard error. A thread of its own writes that, so that a reader who hangs keeps nobody from work."""
+"""What a member says on standard error. A thread of its own writes that, so that no reader keeps it from work."""
 from __future__ import annotations
 
 import json
@@ -8,7 +8,8 @@ import queue
 import select
 import threading
 from contextlib import suppress
-from typing import Optional
+
+from .settings import shown_name
 
 from .settings import shown_name
 
@@ -32,11 +33,12 @@ class JsonLines(logging.Formatter):
 
     def format(self, record: logging.LogRecord) -> str:
         text = super().format(record)  # with what was raised, if anything was
-        return json.dumps({'time': round(record.created, 3), 'level': record.levelname.lower(), 'message': text}, ensure_ascii=False)
+        line = {'time': round(record.created, 3), 'level': record.levelname.lower(), 'message': text}
+        return json.dumps(line, ensure_ascii=False)
 
 
 def write(text: bytes) -> None:
-    """Writes it on standard error, however long that takes: also where others, as a worker, made that one which doesn't block. Raises OSError."""
+    """Writes it on standard error, however long that takes, also if others made it not block. Raises OSError."""
     poll = select.poll()
     poll.register(STANDARD_ERROR, select.POLLOUT)
     while text:
@@ -51,7 +53,7 @@ class Messages(logging.Handler):
     def __init__(self, formatter: logging.Formatter) -> None:
         super().__init__()
         self.setFormatter(formatter)
-        self._lines: 'queue.Queue[Optional[str]]' = queue.Queue(WAITING_MAX)
+        self._lines: queue.Queue[str | None] = queue.Queue(WAITING_MAX)
         self._left_out = 0
         self._writer = threading.Thread(target=self._write_all, name='bully messages', daemon=True)
         self._writer.start()

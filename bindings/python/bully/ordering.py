@@ -2,11 +2,12 @@
 from __future__ import annotations
 
 import time
+from collections.abc import Callable
 from dataclasses import replace
-from typing import Callable
 
+from .clocks import seconds_of_boot
 from .epochs import Opening
-from .logs import Found, Log, Unanswered, found_in, seconds_of_boot
+from .logs import Found, Log, Unanswered, found_in
 from .orders import Orders
 from .running import number_of
 from .stores import BadWords
@@ -28,14 +29,15 @@ def order(log: Log, change: Change) -> Orders:
 
 
 def drain(log: Log, name: str, takes_last: bool) -> Orders:
-    """The node of this name is drained. Raises NotInGroup; BadWords, if nobody would work then, unless that is what is meant."""
+    """The node of this name is drained. Raises NotInGroup; BadWords, if nobody would work, unless that is meant."""
 
     def change(opening: Opening, found: Found) -> Orders:
         number_of(opening, name)
         drained, names = found.orders.drained | {name}, set(opening.names)
         others = (names & set(found.presences) or names) - drained
         if not others and name not in found.orders.drained and not takes_last:
-            raise BadWords(f'{name} is the last one that is there and not drained, so nobody would work; --all takes it')
+            why = f'{name} is the last one that is there and not drained'
+            raise BadWords(f'{why}, so nobody would work; --all takes it')
         return replace(found.orders, drained=drained)
 
     return order(log, change)
@@ -53,7 +55,11 @@ def undrain(log: Log, name: str) -> Orders:
 
 def pause(log: Log) -> Orders:
     """The group is paused, if it isn't already: it is noted who is present."""
-    return order(log, lambda _, found: found.orders if found.orders.is_paused else replace(found.orders, lives=found.lives))
+
+    def change(_: Opening, found: Found) -> Orders:
+        return found.orders if found.orders.is_paused else replace(found.orders, lives=found.lives)
+
+    return order(log, change)
 
 
 def resume(log: Log) -> Orders:

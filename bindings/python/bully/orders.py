@@ -1,12 +1,13 @@
-"""What an operator orders beside settings: nodes that are drained, and a pause of the group. Orders stand in the store, over all epochs.
+"""What an operator orders beside settings, over all epochs: nodes that are drained, and a pause of the group.
 
 A drained node takes no part. While a group is paused who works goes on, and nobody settles.
 """
 from __future__ import annotations
 
 import json
+from collections.abc import Mapping, Set as AbstractSet
 from dataclasses import dataclass, replace
-from typing import AbstractSet, Any, Dict, FrozenSet, Mapping, Optional
+from typing import Any
 
 from .member import Life
 
@@ -15,22 +16,22 @@ from .member import Life
 class Orders:
     """The names of nodes that are drained; and who was present when the group was paused, if it is."""
 
-    drained: FrozenSet[str] = frozenset()
-    lives: Optional[Mapping[str, Life]] = None
+    drained: frozenset[str] = frozenset()
+    lives: Mapping[str, Life] | None = None
 
     @staticmethod
     def parse(text: str) -> Orders:
-        """Those that `text` told. A ValueError, a KeyError, a TypeError or an AttributeError tells that these are none."""
-        told = json.loads(text or '{"drained": []}')
-        lives = {str(name): Life(*map(int, life)) for name, life in told['paused'].items()} if 'paused' in told else None
-        return Orders(frozenset(map(str, told['drained'])), lives)
+        """Those that `text` told. Of what are none it raises ValueError, KeyError, TypeError or AttributeError."""
+        document = json.loads(text or '{"drained": []}')
+        lives = {str(name): Life(*map(int, life)) for name, life in document.get('paused', {}).items()}
+        return Orders(frozenset(map(str, document['drained'])), lives if 'paused' in document else None)
 
     def text(self) -> str:
         """The same as JSON, for a store; nothing, if there are none."""
-        told: Dict[str, Any] = {'drained': sorted(self.drained)}
+        document: dict[str, Any] = {'drained': sorted(self.drained)}
         if self.lives is not None:
-            told['paused'] = {name: [life.process, life.number] for name, life in sorted(self.lives.items())}
-        return '' if self == Orders() else json.dumps(told, ensure_ascii=False)
+            document['paused'] = {name: [life.process, life.number] for name, life in sorted(self.lives.items())}
+        return '' if self == Orders() else json.dumps(document, ensure_ascii=False)
 
     @property
     def is_paused(self) -> bool:

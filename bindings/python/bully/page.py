@@ -1,4 +1,4 @@
-"""What a member tells over HTTP: a page for people, and its group for programs. It only tells: nothing can be changed through it."""
+"""What a member tells over HTTP: a page for people, and its group for programs. Nothing can be changed by it."""
 from __future__ import annotations
 
 import base64
@@ -11,36 +11,41 @@ import socket
 import sys
 import threading
 import time
-from http.server import BaseHTTPRequestHandler, ThreadingHTTPServer
+from collections.abc import Callable
 from contextlib import suppress
-from typing import Any, Callable, Dict, List, Optional, Tuple, Union
+from http.server import BaseHTTPRequestHandler, ThreadingHTTPServer
+from typing import Any
 from urllib.parse import parse_qs, urlsplit
 
+from .clocks import seconds_of_boot
 from .faults import BullyError
-from .logs import LogError, seconds_of_boot
+from .logs import LogError
 from .running import Member
 from .values import Status
 from .view import GroupView, LogView, NodeView
 from .worker import Workers
 
-_told = logging.getLogger('bully')
+_logger = logging.getLogger('bully')
 
 POLL_SECONDS = 25.0  # how long a request waits for news at most
 POLLS_MAX = 64  # requests that wait at one time
 LOOK_SECONDS = 0.1  # the log is looked at no more often, however many ask
-CONNECTIONS_MAX = 100  # at one time; of more the one is closed that hasn't asked for the longest, or the new one, if all have asked
+CONNECTIONS_MAX = 100  # at one time; of more the longest silent one is closed, or the new one, if all have asked
 ASK_SECONDS = 10.0  # that a connection may say nothing, or take nothing
 LOOPBACK = ('127.0.0.1', '::1', 'localhost')  # names of another machine that lead here are refused
 
 STYLE = """
-body { font: 15px/1.45 system-ui, sans-serif; margin: 1.5rem auto; max-width: 72rem; padding: 0 1rem; color: #1c2430; background: #fff; }
+body { font: 15px/1.45 system-ui, sans-serif; margin: 1.5rem auto; max-width: 72rem; padding: 0 1rem; }
+body { color: #1c2430; background: #fff; }
 h1 { font-size: 1.25rem; margin: 0 0 .2rem; } h2 { font-size: 1rem; margin: 1.4rem 0 .4rem; }
 table { border-collapse: collapse; width: 100%; }
 th, td { text-align: left; padding: .25rem .7rem .25rem 0; border-bottom: 1px solid #e3e7ec; vertical-align: top; }
 th { font-weight: 600; color: #566173; } code { font: 13px ui-monospace, monospace; }
 .dot { display: inline-block; width: .65rem; height: .65rem; border-radius: 50%; margin-right: .45rem; }
-.normal { background: #2e9e5b; } .reorganization { background: #d99a1c; } .election { background: #c2571a; } .down { background: #b9c0ca; }
-.cells { display: flex; flex-wrap: wrap; gap: 3px; } .cell { border: 1px solid #cfd6df; border-radius: 3px; padding: .05rem .4rem; font-size: 13px; }
+.normal { background: #2e9e5b; } .reorganization { background: #d99a1c; }
+.election { background: #c2571a; } .down { background: #b9c0ca; }
+.cells { display: flex; flex-wrap: wrap; gap: 3px; }
+.cell { border: 1px solid #cfd6df; border-radius: 3px; padding: .05rem .4rem; font-size: 13px; }
 .free { background: #fdf0e4; } .small { color: #566173; }
 """
 SCRIPT = """
@@ -65,23 +70,25 @@ async function follow() {
 follow();
 """
 SCRIPT_SUM = base64.b64encode(hashlib.sha256(SCRIPT.encode()).digest()).decode()
-POLICY = f"default-src 'none'; style-src 'unsafe-inline'; script-src 'sha256-{SCRIPT_SUM}'; connect-src 'self'; frame-ancestors 'none'"
+SOURCES = f"default-src 'none'; style-src 'unsafe-inline'; script-src 'sha256-{SCRIPT_SUM}'; connect-src 'self'"
+POLICY = f"{SOURCES}; frame-ancestors 'none'"
 
-Answer = Tuple[int, str, str]  # the status, the kind and the text
+Answer = tuple[int, str, str]  # the status, the kind and the text
 
 
 def page_of(name: str, group: GroupView, told_worker: str) -> str:
     """The page of the member of this name, with what is told of its worker."""
+    present = sum(node.is_present for node in group.nodes)
     title = f'{html.escape(name)}: token {group.token or "-"}, coordinator {html.escape(group.coordinator or "-")}'
     return (
-        f'<!doctype html><html lang="en"><meta charset="utf-8"><meta name="viewport" content="width=device-width"><title>{title}</title>'
-        f'<noscript><meta http-equiv="refresh" content="3"></noscript><style>{STYLE}</style>'
+        '<!doctype html><html lang="en"><meta charset="utf-8"><meta name="viewport" content="width=device-width">'
+        f'<title>{title}</title><noscript><meta http-equiv="refresh" content="3"></noscript><style>{STYLE}</style>'
         f'<body data-events="{group.events}" data-epoch="{group.epoch}"><h1>Group, as {html.escape(name)} sees it</h1>'
-        f'<p class="small">coordinator <b>{html.escape(group.coordinator or "none")}</b>, token <b>{group.token or "none"}</b>, '
-        f'{group.events} events in epoch {group.epoch}, '
-        f'{sum(node.is_present for node in group.nodes)} of {len(group.nodes)} nodes present{html.escape(group.told_more + told_worker)}</p>'
-        f'<h2>Nodes</h2>{nodes_of(group)}<h2>Partitions</h2>{partitions_of(group)}<h2>Last events</h2>{last_of(group)}</body>'
-        f'<script>{SCRIPT}</script></html>'
+        f'<p class="small">coordinator <b>{html.escape(group.coordinator or "none")}</b>, '
+        f'token <b>{group.token or "none"}</b>, {group.events} events in epoch {group.epoch}, '
+        f'{present} of {len(group.nodes)} nodes present{html.escape(group.told_more + told_worker)}</p>'
+        f'<h2>Nodes</h2>{nodes_of(group)}<h2>Partitions</h2>{partitions_of(group)}'
+        f'<h2>Last events</h2>{last_of(group)}</body><script>{SCRIPT}</script></html>'
     )
 
 
@@ -112,47 +119,49 @@ def partitions_of(group: GroupView) -> str:
 
 def last_of(group: GroupView) -> str:
     """The last rows, the newest first."""
-    rows = ''.join(f'<tr><td class="small">{number}<td><code>{html.escape(row)}</code></tr>' for number, row in reversed(group.last))
+    last = reversed(group.last)
+    rows = ''.join(f'<tr><td class="small">{number}<td><code>{html.escape(row)}</code></tr>' for number, row in last)
     return f'<table><tr><th>row<th>event</tr>{rows}</table>'
 
 
-def label(text: str) -> str:
-    """The text as a label of Prometheus."""
-    escaped = text.replace('\\', r'\\').replace('"', r'\"').replace('\n', r'\n')
-    return f'"{escaped}"'
+def labels(name: str) -> str:
+    """The label of a node, for Prometheus."""
+    escaped = name.replace('\\', r'\\').replace('"', r'\"').replace('\n', r'\n')
+    return f'{{node="{escaped}"}}'
 
 
 def metrics_of(group: GroupView, name: str, sure_seconds: float, workers: Workers) -> str:
     """The group and the member, for Prometheus."""
-    lines: List[str] = []
+    lines: list[str] = []
 
-    def tell(metric: str, kind: str, told: str, values: List[Tuple[str, float]]) -> None:
-        lines.extend([f'# HELP {metric} {told}', f'# TYPE {metric} {kind}'])
-        lines.extend(f'{metric}{labels} {value:{"d" if isinstance(value, int) else ".3f"}}' for labels, value in values)
+    def tell(metric: str, about: str, values: list[tuple[str, float]], kind: str = 'gauge') -> None:
+        lines.extend([f'# HELP {metric} {about}', f'# TYPE {metric} {kind}'])
+        lines.extend(f'{metric}{node} {value:{"d" if isinstance(value, int) else ".3f"}}' for node, value in values)
 
-    nodes = [(f'{{node={label(node.name)}}}', node) for node in group.nodes]
-    tell('bully_epoch', 'gauge', 'The current epoch.', [('', group.epoch)])
-    tell('bully_events_total', 'counter', 'Events of the current epoch.', [('', group.events)])
-    tell('bully_token', 'gauge', 'The token of the last plan; 0: there is none.', [('', group.token or 0)])
-    for metric, told, seconds in (
-        ('bully_sure_seconds', 'For how long what this member owns is sure.', sure_seconds),
-        ('bully_stopping_seconds', 'For how long its worker has been told to stop, and has not.', workers.stopping_seconds),
-        ('bully_worker_rest_seconds', 'For how long its worker still rests, since it failed.', workers.rest_seconds),
-    ):  # fmt: skip
-        tell(metric, 'gauge', told, [(f'{{node={label(name)}}}', seconds)])
-    tell('bully_node_present', 'gauge', 'Whether the node holds a presence.', [(labels, node.is_present) for labels, node in nodes])
-    tell('bully_drained', 'gauge', 'Whether the node is drained.', [(labels, node.is_drained) for labels, node in nodes])
-    tell('bully_paused', 'gauge', 'Whether the group is paused.', [('', group.is_paused)])
-    tell('bully_node_normal', 'gauge', 'Whether the node is Normal.', [(labels, node.status is Status.NORMAL) for labels, node in nodes])
-    tell('bully_node_leads', 'gauge', 'Whether the node is the coordinator.', [(labels, group.coordinator == node.name) for labels, node in nodes])
-    tell('bully_node_partitions', 'gauge', 'Partitions that the node owns.', [(labels, len(node.partitions)) for labels, node in nodes])
-    late = [(f'{{node={label(each)}}}', group.behind.get(each, 0.0)) for each in {**dict.fromkeys(node.name for node in group.nodes), **group.behind}]
-    tell('bully_idle_behind_seconds', 'gauge', 'For how long the others wait until the node is idle.', late)
-    tell('bully_partitions_free', 'gauge', 'Partitions that nobody may work on now.', [('', group.owners.count(None))])
+    def nodes(value: Callable[[NodeView], float]) -> list[tuple[str, float]]:
+        return [(labels(node.name), value(node)) for node in group.nodes]
+
+    mine, names = labels(name), dict.fromkeys([*(node.name for node in group.nodes), *group.behind])
+    tell('bully_epoch', 'The current epoch.', [('', group.epoch)])
+    tell('bully_events_total', 'Events of the current epoch.', [('', group.events)], 'counter')
+    tell('bully_token', 'The token of the last plan; 0: there is none.', [('', group.token or 0)])
+    tell('bully_sure_seconds', 'For how long what this member owns is sure.', [(mine, sure_seconds)])
+    stopping, rest = workers.stopping_seconds, workers.rest_seconds
+    tell('bully_stopping_seconds', 'For how long its worker has been told to stop, and has not.', [(mine, stopping)])
+    tell('bully_worker_rest_seconds', 'For how long its worker still rests, since it failed.', [(mine, rest)])
+    tell('bully_node_present', 'Whether the node holds a presence.', nodes(lambda node: node.is_present))
+    tell('bully_drained', 'Whether the node is drained.', nodes(lambda node: node.is_drained))
+    tell('bully_paused', 'Whether the group is paused.', [('', group.is_paused)])
+    tell('bully_node_normal', 'Whether the node is Normal.', nodes(lambda node: node.status is Status.NORMAL))
+    tell('bully_node_leads', 'Whether the node is the coordinator.', nodes(lambda node: node.name == group.coordinator))
+    tell('bully_node_partitions', 'Partitions that the node owns.', nodes(lambda node: len(node.partitions)))
+    behind = [(labels(each), group.behind.get(each, 0.0)) for each in names]
+    tell('bully_idle_behind_seconds', 'For how long the others wait until the node is idle.', behind)
+    tell('bully_partitions_free', 'Partitions that nobody may work on now.', [('', group.owners.count(None))])
     return '\n'.join(lines) + '\n'
 
 
-def number_of(asked: Dict[str, List[str]], name: str) -> Optional[int]:
+def number_of(asked: dict[str, list[str]], name: str) -> int | None:
     """The number that a query has by this name, if it has one of less than 10 digits."""
     word = asked.get(name, [''])[0]
     return int(word) if word.isdecimal() and len(word) < 10 else None
@@ -163,8 +172,8 @@ class Reader:
 
     def __init__(self, view: LogView) -> None:
         self._view, self._lock = view, threading.Lock()
-        self._known: Optional[GroupView] = None
-        self._last: Union[GroupView, LogError, BullyError] = LogError('nobody has looked yet')
+        self._known: GroupView | None = None
+        self._last: GroupView | LogError | BullyError = LogError('nobody has looked yet')
         self._next = 0.0  # when it looks again
 
     def show(self) -> GroupView:
@@ -198,9 +207,9 @@ class Server(ThreadingHTTPServer):
     block_on_close = False
     request_queue_size = CONNECTIONS_MAX
 
-    def __init__(self, address: Tuple[str, int], handler: Callable[..., BaseHTTPRequestHandler]) -> None:
+    def __init__(self, address: tuple[str, int], handler: Callable[..., BaseHTTPRequestHandler]) -> None:
         self.address_family = socket.AF_INET6 if ':' in address[0] else socket.AF_INET
-        self._open: Dict[Any, bool] = {}  # connections, the oldest first, and whether they have asked
+        self._open: dict[Any, bool] = {}  # connections, the oldest first, and whether they have asked
         self._lock = threading.Lock()
         super().__init__(address, handler)
 
@@ -232,13 +241,13 @@ class Server(ThreadingHTTPServer):
     def handle_error(self, request: object, client_address: object) -> None:
         """Who asked may be gone before the answer. All else is told."""
         if not isinstance(sys.exc_info()[1], OSError):
-            _told.exception('a request from %s failed', client_address)
+            _logger.exception('a request from %s failed', client_address)
 
 
 class Page:
     """The server of a member."""
 
-    def __init__(self, address: Tuple[str, int], view: LogView, member: Member, workers: Workers) -> None:
+    def __init__(self, address: tuple[str, int], view: LogView, member: Member, workers: Workers) -> None:
         """It listens at this address from now on. An OSError tells that it can't."""
         self._reader = Reader(view)
         self._member, self._workers = member, workers
@@ -274,7 +283,8 @@ class Page:
         if parts.path == '/healthz':
             return self._health()
         if parts.path == '/metrics':
-            return 200, 'text/plain; version=0.0.4', metrics_of(self._reader.known(), name, self._sure_seconds(), self._workers)
+            metrics = metrics_of(self._reader.known(), name, self._sure_seconds(), self._workers)
+            return 200, 'text/plain; version=0.0.4', metrics
         asked = parse_qs(parts.query)
         events, epoch = number_of(asked, 'after'), number_of(asked, 'epoch')
         if events is not None and not self._waited(events, epoch):
@@ -283,7 +293,7 @@ class Page:
         if parts.path == '/':
             return 200, 'text/html', page_of(name, group, self._workers.told)
         if parts.path == '/group':
-            return 200, 'application/json', json.dumps(group.told()) + '\n'
+            return 200, 'application/json', json.dumps(group.document()) + '\n'
         if parts.path == '/assignment':
             return 200, 'application/json', json.dumps(self._assignment(group)) + '\n'
         return 404, 'text/plain', 'there is no such page\n'
@@ -296,8 +306,8 @@ class Page:
             return 200, 'text/plain', 'drained\n'
         return (200, 'text/plain', 'present\n') if self._sure_seconds() > 0 else (503, 'text/plain', 'not present\n')
 
-    def _waited(self, events: int, epoch: Optional[int]) -> bool:
-        """Waits for more events than these of this epoch, or else of the one that is current now. Those of another one are more. Or too many wait."""
+    def _waited(self, events: int, epoch: int | None) -> bool:
+        """Waits for more events than these of this epoch, or of the current one; or in another. Or too many wait."""
         if not self._polls.acquire(blocking=False):
             return False
         try:
@@ -313,16 +323,17 @@ class Page:
     def _sure_seconds(self) -> float:
         return max(0.0, self._member.sure_until - seconds_of_boot())
 
-    def _assignment(self, group: GroupView) -> Dict[str, Any]:
+    def _assignment(self, group: GroupView) -> dict[str, Any]:
         """What the member owns now."""
         owned = self._member.assignment()
-        told: Dict[str, Any] = {
-            'node': self._member.name, 'epoch': group.epoch, 'events': group.events, 'token': None, 'coordinator': None, 'partitions': [],
+        document: dict[str, Any] = {
+            'node': self._member.name, 'epoch': group.epoch, 'events': group.events, 'token': None, 'coordinator': None,
+            'partitions': [],
         }  # fmt: skip
         if owned is not None:
             coordinator = owned.settings.name(owned.coordinator)
-            told.update(token=owned.token, coordinator=coordinator, partitions=list(owned.partitions))
-        return {**told, 'sure_seconds': round(self._sure_seconds(), 3) if owned else 0.0}
+            document.update(token=owned.token, coordinator=coordinator, partitions=list(owned.partitions))
+        return {**document, 'sure_seconds': round(self._sure_seconds(), 3) if owned else 0.0}
 
 
 class PageHandler(BaseHTTPRequestHandler):
@@ -347,15 +358,15 @@ class PageHandler(BaseHTTPRequestHandler):
 
     do_POST = do_PUT = do_DELETE = do_PATCH = do_OPTIONS = do_HEAD = do_TRACE = do_CONNECT = refuse
 
-    def send(self, status: int, kind: str, text: str, *headers: Tuple[str, str]) -> None:
+    def send(self, status: int, kind: str, text: str, *headers: tuple[str, str]) -> None:
         content = text.encode('utf-8', 'replace')
-        told = [
-            ('Content-Type', kind if 'version' in kind else f'{kind}; charset=utf-8'), ('Content-Length', str(len(content))),
-            ('Connection', 'close'), ('Cache-Control', 'no-store'),
+        all_headers = [
+            ('Content-Type', kind if 'version' in kind else f'{kind}; charset=utf-8'),
+            ('Content-Length', str(len(content))), ('Connection', 'close'), ('Cache-Control', 'no-store'),
             ('X-Content-Type-Options', 'nosniff'), ('Content-Security-Policy', POLICY), *headers,
         ]  # fmt: skip
         self.send_response(status)
-        for header, value in told:
+        for header, value in all_headers:
             self.send_header(header, value)
         self.end_headers()
         self.wfile.write(content)

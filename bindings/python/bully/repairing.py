@@ -1,10 +1,12 @@
-"""How a log is repaired in which something stands that is no row, or that its group refuses: all members end at it, so all have stopped.
+"""How a log is repaired in which something is no row, or is refused by its group: all members have ended at it.
 
-What is lawful stays, and what stands behind that is cut. The epoch ends there, and the next one begins, so that no token is used again.
+What is lawful stays, and what stands behind that is cut. The epoch ends there, and the next one begins, so that no
+token is used again.
 """
 from __future__ import annotations
 
-from typing import List, NamedTuple, Optional, Protocol, Sequence, Tuple
+from collections.abc import Sequence
+from typing import NamedTuple, Protocol
 
 from .epochs import Opening
 from .faults import NotLearned
@@ -18,10 +20,10 @@ NOWHERE = 2**63  # behind all places: where something stands that is no append
 
 
 class Kept(NamedTuple):
-    """What a store has of the current epoch, whatever it is: where its log ends, and the appends, by the places that they stand behind."""
+    """What a store has of the current epoch, whatever it is: where its log ends, and the appends, by their places."""
 
     end: Promise
-    appends: Sequence[Tuple[int, bytes]]
+    appends: Sequence[tuple[int, bytes]]
 
 
 class Repairable(Log, Protocol):
@@ -31,8 +33,8 @@ class Repairable(Log, Protocol):
         """What the store has of the current epoch."""
 
     def cut(self, end: Promise, append: int, text: str, opening: Opening) -> bool:
-        """The appends from this place on are gone, but for this text, which stands there if it isn't empty; and the next epoch begins so; if the
-        log ends there and nobody is present. Whether they are."""
+        """The appends from this place on are gone, but for this text, which stands there if it isn't empty; and the
+        next epoch begins so; if the log ends there and nobody is present. Whether they are."""
 
 
 class Damage(NamedTuple):
@@ -52,8 +54,8 @@ class Damage(NamedTuple):
         return f'epoch {self.end.epoch}, place {self.place}: {self.why}; {cut}'
 
 
-def damage_of(log: Repairable) -> Optional[Damage]:
-    """What is wrong with the rows of the log, if anything is. Raises DamagedLog, if not even its opening can be read."""
+def damage_of(log: Repairable) -> Damage | None:
+    """What is wrong with the rows of the log, if anything. Raises DamagedLog, if its opening can't be read."""
     opening, kept = log.opening(), log.kept()
     count = whole(kept.appends)
     all_rows = [row for _, text in kept.appends[:count] for row in lines_of(text)]
@@ -73,12 +75,12 @@ def damage_of(log: Repairable) -> Optional[Damage]:
     return Damage(why, kept.end, place, cut, append, ''.join(f'{row}\n' for row in rows[append:]), after)
 
 
-def lines_of(text: bytes) -> List[str]:
+def lines_of(text: bytes) -> list[str]:
     """What stands in an append, also if that is no text."""
     return text.decode(errors='replace').split('\n')[:-1]
 
 
-def whole(appends: Sequence[Tuple[int, bytes]]) -> int:
+def whole(appends: Sequence[tuple[int, bytes]]) -> int:
     """How many of these stand one behind the other, from the begin of the log on."""
     end = 0
     for count, (begin, text) in enumerate(appends):
@@ -88,7 +90,7 @@ def whole(appends: Sequence[Tuple[int, bytes]]) -> int:
     return len(appends)
 
 
-def rows_there(rows: List[str]) -> Tuple[List[str], str]:
+def rows_there(rows: list[str]) -> tuple[list[str], str]:
     """The rows up to the first one that is none, and why that is none."""
     bad = next((place for place, row in enumerate(rows) if not row or '\r' in row), None)
     return (rows, '') if bad is None else (rows[:bad], f'{rows[bad]!r} is no row')

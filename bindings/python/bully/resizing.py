@@ -1,7 +1,7 @@
 """How an epoch is ended from outside, so that the next one begins with other settings.
 
-What is wished for stands in the store. Members that see it stop their work, and once all of them are idle one ends the epoch. Where no
-member is there, whoever wishes does that.
+What is wished for stands in the store. Members that see it stop their work, and once all of them are idle one ends the
+epoch. Where no member is there, whoever wishes does that.
 """
 from __future__ import annotations
 
@@ -9,16 +9,16 @@ import dataclasses
 import logging
 import secrets
 import threading
-from typing import Optional
 
+from .clocks import SECOND, seconds_of_boot, slept
 from .epochs import Opening
-from .logs import SECOND, Log, LogError, Unanswered, found_in, seconds_of_boot, slept
+from .logs import Log, LogError, Unanswered, found_in
 from .member import Life, Promise, Until
 from .replica import Replica
 from .running import Member
 from .settings import Settings
 
-_told = logging.getLogger('bully')
+_logger = logging.getLogger('bully')
 
 PART = 0.5  # seconds for which it waits at once
 AGAIN = 0.1  # seconds before a log that didn't answer is asked again
@@ -30,10 +30,10 @@ class NotEnded(Exception):
 
 
 def resize(log: Log, settings: Settings, seconds: float) -> Opening:
-    """The current epoch ends, and the next one begins with these settings, if the group hasn't got them already. The opening of the
-    epoch that has them. If that takes longer than so many seconds, the wish stays.
+    """The current epoch ends, and the next one begins with these settings, if the group hasn't got them already. The
+    opening of the epoch that has them. If that takes longer than so many seconds, the wish stays.
 
-    Raises NotEnded, also if the group is paused, what the log raises, and what a replica raises; Unanswered only once the time is over."""
+    Raises NotEnded, also if the group is paused, and what the log and a replica raise; Unanswered at the end alone."""
     end = seconds_of_boot() + seconds
     while True:
         try:
@@ -47,7 +47,7 @@ def resize(log: Log, settings: Settings, seconds: float) -> Opening:
                 return opening
 
 
-def resized(log: Log, settings: Settings, end: float) -> Optional[Opening]:
+def resized(log: Log, settings: Settings, end: float) -> Opening | None:
     """The opening of the epoch that has these settings; nothing, if that is to be looked for again."""
     opening, found = log.opening(), found_in(log)
     if opening.is_of(settings):
@@ -77,14 +77,15 @@ class Pruning(threading.Thread):
         done = 0  # up to which epoch
         while not self._ends.wait(self._member.ttl):
             owned = self._member.assignment()
-            if owned is not None and 0 in owned.partitions and owned.token.epoch > done and self._prunes(owned.token.epoch):
-                done = owned.token.epoch
+            epoch = owned.token.epoch if owned is not None and 0 in owned.partitions else 0
+            if epoch > done and self._prunes(epoch):
+                done = epoch
 
     def _prunes(self, epoch: int) -> bool:
         try:
             self._log.prune(epoch + 1 - self._keep)
         except LogError as fault:
-            _told.warning('old epochs were not taken away: %s', fault)
+            _logger.warning('old epochs were not taken away: %s', fault)
             return False
         return True
 
@@ -95,7 +96,7 @@ class Pruning(threading.Thread):
 
 
 def lead(log: Log, name: str, seconds: float) -> Opening:
-    """The node of this name leads in the next epoch: it gets the highest number, by which the coordinator is found, and all else stays.
+    """The node of this name leads in the next epoch: it gets the highest number, and all else stays.
 
     Raises NotEnded, also if it has no member, and what `resize` does."""
     opening = log.opening()
@@ -120,10 +121,12 @@ def end_epoch(log: Log, opening: Opening, end: float) -> None:
             here = Promise(opening.epoch, replica.rows)
             if found.wish is not None and not found.presences:
                 tries += 1
-                end_alone(log, Life(process, tries), here, opening.next(found.wish, replica.last_table or opening.table))
+                after = opening.next(found.wish, replica.last_table or opening.table)
+                end_alone(log, Life(process, tries), here, after)
             elif seconds_of_boot() >= end:
                 late = [name for name, holder in found.presences.items() if holder.promise != here]
-                raise NotEnded(f'epoch {opening.epoch} has not ended yet, but waits for {", ".join(late or found.presences)}')
+                names = ', '.join(late or found.presences)
+                raise NotEnded(f'epoch {opening.epoch} has not ended yet, but waits for {names}')
             else:
                 log.wait(here.epoch, here.place, found.lives, Until.NEWS, max(0.0, min(PART, end - seconds_of_boot())))
 

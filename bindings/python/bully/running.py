@@ -7,16 +7,20 @@ import queue
 import secrets
 import socket
 import threading
+from collections.abc import Callable
 from contextlib import ExitStack, suppress
 from dataclasses import dataclass, field
-from typing import Callable, List, Optional, Tuple, TypeVar, Union
+from typing import TypeVar
 
 from .asks import Asker
+from .clocks import SECOND, nanoseconds_of_boot, seconds_of_boot, slept
 from .epochs import Opening, Token
-from .logs import SECOND, DamagedLog, Found, Log, Unanswered, found_in, nanoseconds_of_boot, openings_of, seconds_of_boot, slept
+from .logs import DamagedLog, Found, Log, Unanswered, found_in, openings_of
 from .looks import awaited, seen_of
-from .member import Ask, Begin, Core, End, Ending, Life, Promise, Request, Rest, Seen, Step, Stop, StoreAnswer, Until, Wait
-from .member import Opening as Terms
+from .member import (
+    Ask, Begin, Core, End, Ending, Life, Opening as Terms, Promise, Request, Rest, Seen, Step, Stop, StoreAnswer, Until,
+    Wait,
+)  # fmt: skip
 from .settings import Settings, shown_name
 from .values import Status
 from .view import Behind
@@ -29,20 +33,20 @@ ENDINGS = {
 
 @dataclass(frozen=True)
 class Assignment:
-    """What the node owns: its partitions, counted from 0, by the table of this coordinator with this token; the settings of the epoch,
-    by which nodes are numbered; and until when that is sure, as far as is told."""
+    """What the node owns: its partitions, counted from 0, by the table of this coordinator with this token; the
+    settings of the epoch, by which nodes are numbered; and until when that is sure, as far as is told."""
 
     token: Token
     coordinator: int
-    partitions: Tuple[int, ...]
+    partitions: tuple[int, ...]
     settings: Settings
     until: float = field(default=float('-inf'), compare=False)
 
 
 Callback = Callable[[Assignment], None]
-Call = Tuple[bool, Assignment]  # whether to stop
-_Told = TypeVar('_Told')
-_told = logging.getLogger('bully')
+Call = tuple[bool, Assignment]  # whether to stop
+_Answered = TypeVar('_Answered')
+_logger = logging.getLogger('bully')
 
 
 class OtherGroup(Exception):
@@ -60,7 +64,7 @@ def is_known(log: Log, settings: Settings) -> bool:
     return is_wished or any(opening.is_of(settings) for opening in openings_of(log))
 
 
-def number_of(opening: Opening, node: Union[int, str]) -> int:
+def number_of(opening: Opening, node: int | str) -> int:
     """The number of this node, by its name or its number. Raises NotInGroup, if none has that name."""
     if isinstance(node, int):
         return node
@@ -77,23 +81,24 @@ def terms_of(opening: Opening, node: int) -> Terms:
 class Member:
     """A process that acts for a node of a group over a log. It takes part from `run` on, until `leave` is called.
 
-    `start(assignment)` has to begin the work on what the node owns, and to return; `stop(assignment)` returns once nothing of it is
-    worked on any more. Each is called in a thread of the member's own, one at a time. Work has to be cut into units shorter than
-    the margin, a fifth of the ttl, and before each of them `assignment` has to tell that it may be done. An exception of `start`
-    ends the member in order, and `run` raises it; behind one of `stop` it gives nothing back, since the work may go on.
+    `start(assignment)` has to begin the work on what the node owns, and to return; `stop(assignment)` returns once
+    nothing of it is worked on any more. Each is called in a thread of the member's own, one at a time. Work has to be
+    cut into units shorter than the margin, a fifth of the ttl, and before each of them `assignment` has to tell that it
+    may be done. An exception of `start` ends the member in order, and `run` raises it; behind one of `stop` it gives
+    nothing back, since the work may go on.
 
         with Member(SqliteLog('group.db'), 2, start, stop) as member:
             member.run()
     """
 
     def __init__(
-        self, log: Log, node: Union[int, str], start: Callback, stop: Callback, ttl: float = 5.0, settings: Optional[Settings] = None,
-        sure: Optional[Callable[[float], None]] = None,
+        self, log: Log, node: int | str, start: Callback, stop: Callback, ttl: float = 5.0,
+        settings: Settings | None = None, sure: Callable[[float], None] | None = None,
     ) -> None:  # fmt: skip
-        """A member of the log's group, for the node of this name, or of this number in the current epoch. If the group's settings
-        change, it goes on by the name; `run` returns, if the group has no such node any more. With `settings`, which may be those of an
-        earlier epoch, the log has to be of that group. `sure` is told, behind each renewal, until when what is owned is sure, by
-        `logs.seconds_of_boot`.
+        """A member of the log's group, for the node of this name, or of this number in the current epoch. If the
+        group's settings change, it goes on by the name; `run` returns, if the group has no such node any more. With
+        `settings`, which may be those of an earlier epoch, the log has to be of that group. `sure` is told, behind each
+        renewal, until when what is owned is sure, by `clocks.seconds_of_boot`.
 
         Raises OtherGroup, NotInGroup, BadHeader, BadNode, BadTtl, OutOfMemory, and what the log raises."""
         self.log = log
@@ -101,8 +106,8 @@ class Member:
         if settings is not None and not is_known(log, settings):
             raise OtherGroup(f'the log is of another group: {opening.header} of {", ".join(opening.names)}')
         self.ttl, self.margin = ttl, ttl / 5
-        self._other: Optional[Life] = None  # which life of another process was found last for its node
-        self.failure: Optional[BaseException] = None
+        self._other: Life | None = None  # which life of another process was found last for its node
+        self.failure: BaseException | None = None
         self.behind = Behind()
         self._take_part(opening, number_of(opening, node))
         self.name = opening.names[self.core.node - 1]
@@ -110,16 +115,16 @@ class Member:
         self._start_work, self._stop_work, self._sure = start, stop, sure
         self._is_leaving = False
         self._is_stuck = False  # whether work may go on for good
-        self._work: Optional[Assignment] = None
+        self._work: Assignment | None = None
         self._is_stopping = False
-        self._to_call: 'queue.SimpleQueue[Optional[Call]]' = queue.SimpleQueue()
-        self._stopped: List[Assignment] = []
-        self._lost: List[Assignment] = []
-        self._wakes: Optional[socket.socket] = None  # while it runs
+        self._to_call: queue.SimpleQueue[Call | None] = queue.SimpleQueue()
+        self._stopped: list[Assignment] = []
+        self._lost: list[Assignment] = []
+        self._wakes: socket.socket | None = None  # while it runs
         self._ended = threading.Event()
         self._ended.set()
-        self._shown: Tuple[Optional[Assignment], float] = (None, 0.0)
-        self.stepped = 0.0  # when it took its last step, by `logs.seconds_of_boot`
+        self._shown: tuple[Assignment | None, float] = (None, 0.0)
+        self.stepped = 0.0  # when it took its last step, by `clocks.seconds_of_boot`
 
     def _take_part(self, opening: Opening, number: int) -> None:
         """It takes part for the node of this number, as a process that no other one was."""
@@ -135,7 +140,7 @@ class Member:
 
     # What others may call, from any thread.
 
-    def assignment(self) -> Optional[Assignment]:
+    def assignment(self) -> Assignment | None:
         """What the node owns, and until when that is sure; nothing, if that isn't sure now, or has to be stopped."""
         work, until = self._shown
         return dataclasses.replace(work, until=until) if work is not None and seconds_of_boot() < until else None
@@ -147,7 +152,7 @@ class Member:
 
     @property
     def sure_until(self) -> float:
-        """Until when the node is surely present, by `logs.seconds_of_boot`."""
+        """Until when the node is surely present, by `clocks.seconds_of_boot`."""
         return self._shown[1]
 
     @property
@@ -171,8 +176,8 @@ class Member:
             self.fail(failure)
 
     def lose(self, assignment: Assignment) -> None:
-        """The work that was begun for this assignment has ended, though nobody told it to: it is stopped, and begun again if the node
-        still owns it."""
+        """The work that was begun for this assignment has ended, though nobody told it to: it is stopped, and begun
+        again if the node still owns it."""
         self._lost.append(assignment)
         self._wake()
 
@@ -184,8 +189,9 @@ class Member:
     # Its life.
 
     def run(self) -> None:
-        """Takes part until it has left, but while its node is drained. Raises what a callback raised; NotLearned, if a row of the log is refused;
-        NotInGroup, if a drained node isn't in the group any more; and what the log raises, but Unanswered: then it tries again."""
+        """Takes part until it has left, but while its node is drained. Raises what a callback raised; NotLearned, if a
+        row of the log is refused; NotInGroup, if a drained node isn't in the group any more; and what the log raises,
+        but Unanswered: then it tries again."""
         self._ended.clear()
         with ExitStack() as ending:
             ending.callback(self._ended.set)
@@ -204,7 +210,7 @@ class Member:
         if self.failure is not None:
             raise self.failure
 
-    def __enter__(self) -> 'Member':
+    def __enter__(self) -> Member:
         return self
 
     def __exit__(self, *error: object) -> None:
@@ -228,10 +234,11 @@ class Member:
                 return
 
     def _comes_back(self, ending: Ending) -> bool:
-        """It has ended. Whether it takes part again: if it did so since its node was drained, and that is over before it is told to end."""
+        """It has ended. Whether it takes part again: if its node was drained, and isn't before it is told to end."""
         self.is_drained = ending is Ending.LEFT and not self._is_leaving
         level = logging.WARNING if ending is Ending.NOT_THERE else logging.INFO
-        _told.log(level, 'node %s: %s', shown_name(self.name), 'it is drained, and does nothing' if self.is_drained else ENDINGS[ending])
+        why = 'it is drained, and does nothing' if self.is_drained else ENDINGS[ending]
+        _logger.log(level, 'node %s: %s', shown_name(self.name), why)
         if ending is Ending.BROKEN:
             self.failure = self.failure or self.core.fault or DamagedLog('the log has a row that is no event')
         self._show()
@@ -247,7 +254,7 @@ class Member:
             self.stepped = seconds_of_boot()
         return False
 
-    def _undrained(self) -> Optional[Opening]:
+    def _undrained(self) -> Opening | None:
         """With what the current epoch began, if its node isn't drained. Raises NotInGroup."""
         opening = self.log.opening()
         number_of(opening, self.name)
@@ -306,21 +313,22 @@ class Member:
 
     def _ask(self, ask: Ask) -> None:
         """Asks the log, and tells the core what came of it."""
-        told = self._answer(self._asker().call(ask))
-        if isinstance(told, Found):
-            self._looked(told)
-        elif isinstance(told, Opening):
-            self._followed(told)
+        result = self._answer(self._asker().call(ask))
+        if isinstance(result, Found):
+            self._looked(result)
+        elif isinstance(result, Opening):
+            self._followed(result)
         else:
-            answer = StoreAnswer.UNANSWERED if told is None else StoreAnswer.DONE if told else StoreAnswer.REFUSED
+            answer = StoreAnswer.UNANSWERED if result is None else StoreAnswer.DONE if result else StoreAnswer.REFUSED
             self.core.answered(nanoseconds_of_boot(), answer)
-        if told and ask.request is Request.TAKE:
-            _told.info('node %s: present as %d.%d', shown_name(self.name), ask.life.process, ask.life.number)
-        if told and ask.request in (Request.TAKE, Request.RENEW) and self._sure is not None:
+        if result and ask.request is Request.TAKE:
+            _logger.info('node %s: present as %d.%d', shown_name(self.name), ask.life.process, ask.life.number)
+        if result and ask.request in (Request.TAKE, Request.RENEW) and self._sure is not None:
             self._sure(self.core.sure_until / SECOND)
 
     def _asker(self) -> Asker:
-        return Asker(self.log, self.name, self.opening, self.core.place, lambda: int(self.ttl * SECOND), self.core.settlement, self._after)
+        ttl = int(self.ttl * SECOND)
+        return Asker(self.log, self.name, self.opening, self.core.place, lambda: ttl, self.core.settlement, self._after)
 
     def _after(self) -> Opening:
         """With what the next epoch is to begin."""
@@ -339,12 +347,13 @@ class Member:
     def _is_up(self, number: int) -> bool:
         return self.core.state(number).status is not Status.DOWN
 
-    def _see_other(self, life: Optional[Life]) -> None:
+    def _see_other(self, life: Life | None) -> None:
         """Which life has the presence of its node: that it is one of another process is said once."""
         if life is not None and life.process != self._process and life != self._other:
             self._other = life
             who = shown_name(self.name), life.process, life.number
-            _told.warning('node %s: another process is present for it, as %d.%d, and this one waits until that ends', *who)
+            said = 'node %s: another process is present for it, as %d.%d, and this one waits until that ends'
+            _logger.warning(said, *who)
 
     def _followed(self, opening: Opening) -> None:
         """With what the current epoch begins."""
@@ -352,14 +361,14 @@ class Member:
         self.core.followed(nanoseconds_of_boot(), terms_of(opening, number_of(opening, self.name)) if is_in else None)
         if is_in and opening.epoch != self.opening.epoch:
             self._enter(opening)
-            _told.info('node %s: goes on in epoch %d as number %d', shown_name(self.name), opening.epoch, self.node)
+            _logger.info('node %s: goes on in epoch %d as number %d', shown_name(self.name), opening.epoch, self.node)
 
-    def _answer(self, call: Callable[[], _Told]) -> Optional[_Told]:
+    def _answer(self, call: Callable[[], _Answered]) -> _Answered | None:
         """What the log answers; None, if it doesn't."""
         try:
             return call()
         except Unanswered as unanswered:
-            _told.warning('node %s: %s', shown_name(self.name), unanswered)
+            _logger.warning('node %s: %s', shown_name(self.name), unanswered)
             return None
 
     # The callbacks, in a thread of their own.
@@ -368,7 +377,8 @@ class Member:
         """Calls what it is told to, one after the other."""
         for is_stop, work in iter(self._to_call.get, None):
             words = 'stops' if is_stop else 'begins'
-            _told.info('node %s: %s partitions %s by token %d', shown_name(self.name), words, list(work.partitions), work.token)
+            who, what = shown_name(self.name), list(work.partitions)
+            _logger.info('node %s: %s partitions %s by token %d', who, words, what, work.token)
             try:
                 (self._stop_work if is_stop else self._start_work)(work)
             except BaseException as failure:

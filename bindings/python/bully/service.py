@@ -1,4 +1,4 @@
-"""What a member tells the manager of services that began it, as sd_notify(3) has it: that it is ready, how it stands, and that it isn't stuck."""
+"""What a member tells the manager of services by sd_notify(3): that it is ready, how it stands, and isn't stuck."""
 from __future__ import annotations
 
 import os
@@ -6,7 +6,7 @@ import socket
 import threading
 from contextlib import suppress
 
-from .logs import seconds_of_boot
+from .clocks import seconds_of_boot
 from .running import Member
 from .worker import Workers
 
@@ -30,11 +30,12 @@ class Service(threading.Thread):
         self._tell('READY=1')
         while not self._ends.wait(self._beat):
             leaves, goes_on = self._member.is_leaving, self._goes_on()
-            self._tell(f'STATUS={self._stands()}', *(['STOPPING=1'] if leaves else []), *(['WATCHDOG=1'] if goes_on else []))
+            more = ['STOPPING=1'] * leaves + ['WATCHDOG=1'] * goes_on
+            self._tell(f'STATUS={self._stands()}', *more)
         self._tell('STOPPING=1')
 
     def _goes_on(self) -> bool:
-        """Whether the member takes its steps: at least one is due each quarter of the ttl, and a call to its store takes a fifth of it at most."""
+        """Whether the member takes its steps: one is due each quarter of the ttl; a call takes a fifth at most."""
         return seconds_of_boot() < self._member.stepped + self._member.ttl
 
     def _stands(self) -> str:

@@ -1,7 +1,8 @@
 """The store of a shared log in a file of SQLite, which the processes of one machine share: `SqliteLog`.
 
-Presences are over once the machine boots again, so what is written of them need not reach the disk; what is appended does. `changes` counts
-what happens to presences, so that who waits need not look at all of them each time that one is renewed.
+Presences are over once the machine boots again, so what is written of them need not reach the disk; what is appended
+does. `changes` counts what happens to presences, so that who waits need not look at all of them each time that one is
+renewed.
 """
 from __future__ import annotations
 
@@ -10,20 +11,25 @@ import re
 import sqlite3
 import stat
 import time
+from collections.abc import Iterator, Sequence
 from contextlib import closing, contextmanager, suppress
 from pathlib import Path
-from typing import Dict, FrozenSet, Iterator, List, Mapping, NamedTuple, Optional, Sequence, Tuple, Union
+from typing import NamedTuple
 from urllib.parse import quote
 
+from .clocks import SECOND, nanoseconds_of_boot, slept, wall_clock
 from .epochs import Opening
 from .guard import is_stopped, writer_of
 from .logs import (
-    BY_HISTORY, SECOND, BadPresence, DamagedLog, DiskFull, ForeignLog, Found, Holder, LogBusy, LogExists, NoLog, OtherLog, ReadOnlyLog, Unanswered,
-    are_idle, log_name, nanoseconds_of_boot, no_epoch, opening_of, orders_of, rows_of, rows_text, see_end, slept, wall_clock, wish_of,
+    BadPresence, DamagedLog, DiskFull, ForeignLog, Found, Holder, Lives, LogBusy, LogExists, NoLog, OtherLog,
+    ReadOnlyLog, Unanswered, are_idle,
 )  # fmt: skip
 from .member import Life, Promise, Until
 from .orders import Orders
 from .repairing import Kept
+from .stored import (
+    BY_HISTORY, life_of, life_text, log_name, no_epoch, opening_of, orders_of, rows_of, rows_text, see_end, wish_of,
+)  # fmt: skip
 from .values import Rows
 
 APPLICATION = 0x62756C79  # of a file with a log: `buly`
@@ -33,9 +39,9 @@ SIGHT = SECOND // 4  # nanoseconds from one look at which files are there to the
 PRUNED_AT_ONCE = 100  # appends
 NEVER = 2**63 - 1
 
-# `changes` has the name of the log and its orders, too, and `boots` which boots of the machine have used it, one behind the other: an earlier
-# one is over. A record of the log has the rows of one append, each with its line end, the place that these stand behind, and when that was
-# done. Of an epoch that was taken away the opening is left, without a count.
+# `changes` has the name of the log and its orders, too, and `boots` which boots of the machine have used it, one behind
+# the other: an earlier one is over. A record of the log has the rows of one append, each with its line end, the place
+# that these stand behind, and when that was done. Of an epoch that was taken away the opening is left, without a count.
 TABLES = """
 create table epochs (epoch integer primary key, opening text not null, wish text, count integer);
 create table log (epoch integer, place integer, rows text not null, time integer, primary key (epoch, place));
@@ -50,8 +56,8 @@ OTHER_BOOT = 'another boot uses it behind this one: its members have to see one 
 
 # What SQLite says, by a part of its message, and what that means. The first that fits counts.
 MEANINGS = (
-    ('not a database', ForeignLog), ('malformed|no such|decode', DamagedLog), ('read-?only', ReadOnlyLog), ('locked|busy', LogBusy),
-    ('is full', DiskFull), ('unable to open', ReadOnlyLog),
+    ('not a database', ForeignLog), ('malformed|no such|decode', DamagedLog), ('read-?only', ReadOnlyLog),
+    ('locked|busy', LogBusy), ('is full', DiskFull), ('unable to open', ReadOnlyLog),
 )  # fmt: skip
 
 
@@ -78,7 +84,7 @@ def remove(path: str) -> None:
             os.remove(path + end)
 
 
-def identity(path: str) -> Tuple[int, int]:
+def identity(path: str) -> tuple[int, int]:
     """Which file this is, whatever its name. Raises NoLog, ForeignLog."""
     try:
         found = os.stat(path)
@@ -89,7 +95,7 @@ def identity(path: str) -> Tuple[int, int]:
     return found.st_dev, found.st_ino
 
 
-def beside(path: str) -> List[Tuple[int, int]]:
+def beside(path: str) -> list[tuple[int, int]]:
     """Which files are beside this one while it is used, as far as they are there."""
     found = []
     for end in ('-wal', '-shm'):
@@ -102,16 +108,19 @@ def beside(path: str) -> List[Tuple[int, int]]:
 def see_alone(path: str) -> None:
     """Raises ForeignLog, if the file may be reached by another path: who does that has other files beside it."""
     if os.stat(path).st_nlink > 1:
-        raise ForeignLog(f'{path}: it has another name, a hard link, by which others would have another log of what is written')
+        others = 'by which others would have another log of what is written'
+        raise ForeignLog(f'{path}: it has another name, a hard link, {others}')
     if mount_of(path) != mount_of(os.path.dirname(os.path.realpath(path))):
-        raise ForeignLog(f'{path}: it is mounted alone, so that others have another log of what is written; mount its folder')
+        others = 'so that others have another log of what is written; mount its folder'
+        raise ForeignLog(f'{path}: it is mounted alone, {others}')
 
 
 def mount_of(path: str) -> str:
     """The mount in which a path is. (To open a file of SQLite's otherwise, and to close it, would lose its locks.)"""
     descriptor = os.open(path, os.O_PATH)
     try:
-        return next(line for line in Path(f'/proc/self/fdinfo/{descriptor}').read_text(encoding='ascii').splitlines() if 'mnt_id' in line)
+        lines = Path(f'/proc/self/fdinfo/{descriptor}').read_text(encoding='ascii').splitlines()
+        return next(line for line in lines if 'mnt_id' in line)
     finally:
         os.close(descriptor)
 
@@ -145,17 +154,6 @@ def form_of(path: str, file: sqlite3.Connection) -> int:
     return int(file.execute('pragma user_version').fetchone()[0])
 
 
-def life_text(life: Life) -> str:
-    """A life, for a store."""
-    return f'{life.process}.{life.number}'
-
-
-def life_of(text: str) -> Life:
-    """The same life. Raises ValueError."""
-    process, number = text.split('.')
-    return Life(int(process), int(number))
-
-
 def holder_of(where: str, name: str, life: str, epoch: int, place: int, until: int) -> Holder:
     """Who holds the presence of that name, as a row of a table tells it. Raises BadPresence."""
     try:
@@ -167,39 +165,39 @@ def holder_of(where: str, name: str, life: str, epoch: int, place: int, until: i
 
 
 class Standing(NamedTuple):
-    """How a log stands: its end, and what is wished for and ordered; its name, and which boot has used it last; and the counts of changes."""
+    """How a log stands: its end, what is wished for and ordered, its name, its last boot, and counts of changes."""
 
     end: Promise
-    wish: Optional[str]
+    wish: str | None
     orders: str
     name: str
-    boot: Optional[str]
+    boot: str | None
     lives: int
     promises: int
 
     @property
-    def wanted(self) -> Tuple[Optional[str], str]:
+    def wanted(self) -> tuple[str | None, str]:
         return self.wish, self.orders
 
 
 class SqliteLog:
-    """A log in a file of SQLite: no file of a network. One thread at a time uses it, and no process that this one forks."""
+    """A log in a file of SQLite: no file of a network. One thread at a time uses it, and no child by fork."""
 
-    def __init__(self, path: 'os.PathLike[str] | str', patience: float = 1.0, reads: bool = False) -> None:
-        """The log of this file, which `create` made. Each call waits this many seconds for others at most. Who only reads waits for nobody.
+    def __init__(self, path: os.PathLike[str] | str, patience: float = 1.0, reads: bool = False) -> None:
+        """The log of this file, which `create` made. Each call waits so many seconds for others; a reader for nobody.
 
         Raises NoLog, ForeignLog, DamagedLog, ReadOnlyLog, Unanswered."""
         self.path = os.fspath(path)
         self._identity = identity(self.path)
         self._real = os.path.realpath(self.path)  # beside which the others are, also if the path is a symbolic link
-        self._beside: Optional[List[Tuple[int, int]]] = None  # once it is used
+        self._beside: list[tuple[int, int]] | None = None  # once it is used
         see_alone(self.path)
         self._boot = boot_name()
         self._sight = 0  # when it is to be looked again which files are there
         self._name = ''  # of the log, once it is known
-        self._told: Dict[str, Life] = {}  # who was present when that was looked at last
-        self._told_wanted: Tuple[Optional[str], str] = None, ''
-        self._told_idle: Tuple[Promise, FrozenSet[str]] = (Promise(), frozenset())
+        self._present: dict[str, Life] = {}  # who was present when that was looked at last
+        self._seen_wanted: tuple[str | None, str] = None, ''
+        self._seen_idle: tuple[Promise, frozenset[str]] = (Promise(), frozenset())
         self._lives = -1  # the count of changes then
         self._earliest = 0  # before then none of these presences ends
         self._version = self._promises = -1  # of what a wait saw last
@@ -213,13 +211,14 @@ class SqliteLog:
             raise
 
     @staticmethod
-    def create(path: 'os.PathLike[str] | str', opening: Opening) -> 'SqliteLog':
+    def create(path: os.PathLike[str] | str, opening: Opening) -> SqliteLog:
         """Makes the file, with a log that begins so. The log. Raises LogExists, ReadOnlyLog, DiskFull, Unanswered."""
         name = os.fspath(path)
         room = f'{name}.{log_name()}.new'  # processes of two containers may have one number
         try:
             with calls(room), closing(connection(room, 1.0, 'rwc')) as file:
-                file.executescript(f'pragma journal_mode = wal; pragma application_id = {APPLICATION}; pragma user_version = {FORM}; {TABLES}')
+                kind = f'pragma application_id = {APPLICATION}; pragma user_version = {FORM}'
+                file.executescript(f'pragma journal_mode = wal; {kind}; {TABLES}')
                 file.execute("insert into changes values (?, 0, 0, '')", (log_name(),))
                 open_epoch(file, opening)
             os.link(room, name)
@@ -236,7 +235,8 @@ class SqliteLog:
             form = form_of(self.path, self._file)
             if form != FORM:
                 version, more = ('an older', BY_HISTORY) if form < FORM else ('another', '')
-                raise ForeignLog(f'{self.path}: a log of form {form}, by {version} version, and not of form {FORM}{more}')
+                by = f'{form}, by {version} version'
+                raise ForeignLog(f'{self.path}: a log of form {by}, and not of form {FORM}{more}')
             self._file.execute('pragma journal_mode = wal')
             self._file.execute('pragma synchronous = normal')
         with self._transaction(kind) as standing:
@@ -250,7 +250,7 @@ class SqliteLog:
             first = self._one('select coalesce(min(epoch), 0) from epochs where count is not null')
             return range(first, self._standing().end.epoch + 1)
 
-    def opening(self, epoch: Optional[int] = None) -> Opening:
+    def opening(self, epoch: int | None = None) -> Opening:
         with calls(self.path):
             number = self._standing().end.epoch if epoch is None else epoch
             found = self._file.execute('select opening from epochs where epoch = ?', (number,)).fetchone()
@@ -279,7 +279,7 @@ class SqliteLog:
         with self._syncing():
             self._file.execute('update epochs set wish = null where epoch = ?', (epoch,))
 
-    def order(self, orders: Orders, before: Optional[Orders]) -> bool:
+    def order(self, orders: Orders, before: Orders | None) -> bool:
         with self._syncing() as standing:
             if before is not None and before != orders_of(self.path, standing.orders):
                 return False
@@ -318,8 +318,9 @@ class SqliteLog:
         self._file.execute('insert into boots (boot) values (?)', (self._boot,))
 
     def _are_elsewhere(self, now: int) -> bool:
-        """Whether another boot may hold presences, by this clock: those of an earlier boot of this machine are mostly of other times."""
-        return self._one('select count(*) from presence where boot != ? and since <= ? and until > ?', self._boot, now, now) > 0
+        """Whether another boot may hold presences, by this clock: those of earlier boots are mostly of other times."""
+        asked = 'select count(*) from presence where boot != ? and since <= ? and until > ?'
+        return self._one(asked, self._boot, now, now) > 0
 
     def renew(self, name: str, life: Life, ttl: int) -> bool:
         with self._transaction():
@@ -340,11 +341,12 @@ class SqliteLog:
             if promised is None:
                 return False
             later = max(promise, promised)
-            self._file.execute('update presence set epoch = ?, place = ? where name = ?', (later.epoch, later.place, name))
+            asked = 'update presence set epoch = ?, place = ? where name = ?'
+            self._file.execute(asked, (later.epoch, later.place, name))
             self._file.execute('update changes set promises = promises + 1')
         return True
 
-    def _promised(self, name: str, life: Life, now: int) -> Optional[Promise]:
+    def _promised(self, name: str, life: Life, now: int) -> Promise | None:
         """What the life has promised that holds the presence of this name, if that is this one."""
         asked = 'select epoch, place from presence where name = ? and life = ? and boot = ? and until > ?'
         found = self._file.execute(asked, (name, life_text(life), self._boot, now)).fetchone()
@@ -376,7 +378,7 @@ class SqliteLog:
     def _are_idle(self, until: Until, here: Promise) -> bool:
         asked = 'select name, epoch, place from presence where boot = ? and until > ?'
         promises = {name: place for name, *place in self._file.execute(asked, (self._boot, nanoseconds_of_boot()))}
-        known, idle = self._told_idle
+        known, idle = self._seen_idle
         return are_idle(until, promises, [here.epoch, here.place], idle if known == here else frozenset())
 
     def read(self, epoch: int, place: int) -> Rows:
@@ -387,7 +389,7 @@ class SqliteLog:
             see_end(self.path, standing.end, Promise(epoch, place))
             return self._rows(epoch, place, found[0])
 
-    def times(self, epoch: int) -> Dict[int, Optional[int]]:
+    def times(self, epoch: int) -> dict[int, int | None]:
         with calls(self.path):
             return dict(self._file.execute('select place, time from log where epoch = ?', (epoch,)).fetchall())
 
@@ -397,7 +399,8 @@ class SqliteLog:
             return Rows('')
         first = self._one('select coalesce(max(place), 0) from log where epoch = ? and place <= ?', epoch, place)
         asked = 'select rows from log where epoch = ? and place >= ? order by place'
-        rows = rows_of(self.path, epoch, first, ''.join([str(text) for text, in self._file.execute(asked, (epoch, first))]))
+        texts = [str(text) for text, in self._file.execute(asked, (epoch, first))]
+        rows = rows_of(self.path, epoch, first, ''.join(texts))
         if len(rows) != count - first:
             raise DamagedLog(f'{self.path}: rows are missing behind place {place}')
         return rows.behind(place - first)
@@ -415,7 +418,8 @@ class SqliteLog:
                 return False
             self._file.execute('delete from log where epoch = ? and place >= ?', (end.epoch, append + bool(text)))
             self._file.execute('update log set rows = ? where epoch = ? and place = ?', (text, end.epoch, append))
-            self._file.execute('update epochs set count = ?, wish = null where epoch = ?', (append + text.count('\n'), end.epoch))
+            left = append + text.count('\n')
+            self._file.execute('update epochs set count = ?, wish = null where epoch = ?', (left, end.epoch))
             open_epoch(self._file, opening)
         return True
 
@@ -428,32 +432,33 @@ class SqliteLog:
             rows = self._rows(epoch, place, end.place) if epoch == end.epoch else Rows('')
             wish, orders = wish_of(self.path, end.epoch, standing.wish), orders_of(self.path, standing.orders)
             found = Found(end.epoch, rows, self._look_around(standing), wish, orders)
-        self._told_wanted, self._told_idle = standing.wanted, (end, found.idle(end))
+        self._seen_wanted, self._seen_idle = standing.wanted, (end, found.idle(end))
         return found
 
-    def _look_around(self, standing: Standing) -> Dict[str, Holder]:
+    def _look_around(self, standing: Standing) -> dict[str, Holder]:
         """Who is present. It is noted."""
         asked = 'select name, life, epoch, place, until from presence where boot = ? and until > ?'
         found = self._file.execute(asked, (self._boot, nanoseconds_of_boot())).fetchall()
         presences = {name: holder_of(self.path, name, *told) for name, *told in found}
-        self._told = {name: holder.life for name, holder in presences.items()}
+        self._present = {name: holder.life for name, holder in presences.items()}
         self._lives, self._earliest = standing.lives, min((until for *_, until in found), default=NEVER)
         return presences
 
-    def wait(self, epoch: int, place: int, lives: Mapping[str, Life], until: Until, seconds: float, woken: Optional[int] = None) -> None:
-        """If the time is over without news, the next wait goes on at the pace of this one: else what comes is often soon followed by more."""
+    def wait(self, epoch: int, place: int, lives: Lives, until: Until, seconds: float, wake: int | None = None) -> None:
+        """Without news the next wait goes on at the pace of this one: what comes is often soon followed by more."""
         end = nanoseconds_of_boot() + int(seconds * SECOND)
         self._version = self._promises = -1
         while not self._is_news(Promise(epoch, place), lives, until):
             now = nanoseconds_of_boot()
             if now >= end:
                 return
-            if slept(min(self._sleep, (end - now) / SECOND, max(SHORTEST_SLEEP, (self._earliest - now) / SECOND)), woken):
+            presence = max(SHORTEST_SLEEP, (self._earliest - now) / SECOND)
+            if slept(min(self._sleep, (end - now) / SECOND, presence), wake):
                 break
             self._sleep = min(2 * self._sleep, LONGEST_SLEEP)
         self._sleep = SHORTEST_SLEEP
 
-    def _is_news(self, here: Promise, lives: Mapping[str, Life], until: Until) -> bool:
+    def _is_news(self, here: Promise, lives: Lives, until: Until) -> bool:
         """Whether what `wait` waits for has come. Nothing but a commit and a presence's end can bring it."""
         if nanoseconds_of_boot() >= self._sight:
             self._see_files()
@@ -466,7 +471,7 @@ class SqliteLog:
             if standing.lives != self._lives or is_end:
                 self._look_around(standing)
             end = standing.end
-            if end != here or standing.wanted != self._told_wanted or self._told != lives:
+            if end != here or standing.wanted != self._seen_wanted or self._present != lives:
                 return True
             is_same, self._promises = standing.promises == self._promises, standing.promises
             return until is not Until.NEWS and not is_same and self._are_idle(until, here)
@@ -478,8 +483,8 @@ class SqliteLog:
 
     def _standing(self) -> Standing:
         boot = '(select boot from boots order by number desc limit 1)'
-        asked = f'select epoch, count, wish, orders, name, {boot}, lives, promises from epochs, changes order by epoch desc limit 1'
-        found = self._file.execute(asked).fetchone()
+        asked = f'select epoch, count, wish, orders, name, {boot}, lives, promises from epochs, changes'
+        found = self._file.execute(f'{asked} order by epoch desc limit 1').fetchone()
         if found is None or not all(isinstance(number, int) for number in (*found[:2], *found[-2:])):
             raise DamagedLog(f'{self.path}: the log has no opening, or no end')
         standing = Standing(Promise(*found[:2]), *found[2:])
@@ -489,7 +494,7 @@ class SqliteLog:
             raise ForeignLog(f'{self.path}: {OTHER_BOOT}')
         return standing
 
-    def _one(self, asked: str, *arguments: Union[int, str]) -> int:
+    def _one(self, asked: str, *arguments: int | str) -> int:
         return int(self._file.execute(asked, arguments).fetchone()[0])
 
     @contextmanager
@@ -505,7 +510,7 @@ class SqliteLog:
 
     @contextmanager
     def _transaction(self, kind: str = 'immediate') -> Iterator[Standing]:
-        """One transaction, and how the log stands in it. What is returned out of it is kept, and what is raised undoes it."""
+        """One transaction, and how the log stands in it. A return out of it keeps it, and what is raised undoes it."""
         self._see_files()
         with calls(self.path):
             self._file.execute(f'begin {kind}')

@@ -2,11 +2,10 @@
 from __future__ import annotations
 
 import argparse
-import contextlib
 import os
-import time
+from collections.abc import Sequence
 from dataclasses import dataclass, field
-from typing import TYPE_CHECKING, Callable, List, Mapping, Optional, Sequence
+from typing import TYPE_CHECKING
 
 from .epochs import Opening
 from .logs import Log, LogError
@@ -54,9 +53,9 @@ class FileStore:
         """The log that is there."""
         return SqliteLog(self.path, patience, reads)
 
-    def history(self, epoch: Optional[int] = None, has_times: bool = False) -> Sequence[str]:
+    def history(self, epoch: int | None = None, has_times: bool = False) -> Sequence[str]:
         """The trace of an epoch, or of the current one: also in a log of the form before."""
-        from .older import file_trace
+        from .history import file_trace, traced
 
         return traced(lambda: self.open(reads=True), file_trace(self.path, epoch), epoch, has_times)
 
@@ -66,7 +65,7 @@ class EtcdStore:
     """Keys of etcd."""
 
     address: str
-    tls: Optional[ssl.SSLContext]
+    tls: ssl.SSLContext | None
     user: str
     password: str = field(repr=False)
 
@@ -82,45 +81,14 @@ class EtcdStore:
 
         return EtcdLog(self.address, patience, self.tls, self.user, self.password)
 
-    def history(self, epoch: Optional[int] = None, has_times: bool = False) -> Sequence[str]:
+    def history(self, epoch: int | None = None, has_times: bool = False) -> Sequence[str]:
         """The trace of an epoch, or of the current one: also in a log of the form before."""
-        from .older import etcd_trace
+        from .history import etcd_trace, traced
 
         return traced(self.open, etcd_trace(self.address, epoch, self.tls, self.user, self.password), epoch, has_times)
 
 
-def trace(log: Log, epoch: Optional[int], has_times: bool = False) -> Sequence[str]:
-    """The trace of an epoch, or of the current one, from its header on; or the same with times. Closes the log."""
-    with contextlib.closing(log):
-        number = log.epochs()[-1] if epoch is None else epoch
-        rows = [log.opening(number).header, *log.read(number, 0)]
-        return timed(rows, log.times(number)) if has_times else rows
-
-
-def traced(log: Callable[[], Log], older: Optional[Sequence[str]], epoch: Optional[int], has_times: bool) -> Sequence[str]:
-    """The same of a log, unless an older one was found, which has no times."""
-    if older is None:
-        return trace(log(), epoch, has_times)
-    return timed(older, {}) if has_times else older
-
-
-def timed(rows: Sequence[str], times: Mapping[int, Optional[int]]) -> List[str]:
-    """The rows of a trace, each behind the time of its append and a comma; behind the comma alone, if that isn't kept."""
-    lines, told = [], ''
-    for place, row in enumerate(rows, -1):
-        told = time_text(times[place]) if place in times else told
-        lines.append(f'{told},{row}')
-    return lines
-
-
-def time_text(milliseconds: Optional[int]) -> str:
-    """A time of UTC by ISO 8601; nothing, if there is none."""
-    if milliseconds is None:
-        return ''
-    return time.strftime('%Y-%m-%dT%H:%M:%S', time.gmtime(milliseconds // 1000)) + f'.{milliseconds % 1000:03}Z'
-
-
-def store_of(options: argparse.Namespace) -> 'FileStore | EtcdStore':
+def store_of(options: argparse.Namespace) -> FileStore | EtcdStore:
     """The store that these words name. Raises BadWords, LogError."""
     kind, _, path = options.log.partition(':')
     words = [word for word, _, _ in OF_ETCD if getattr(options, word[2:].replace('-', '_'))]
@@ -165,7 +133,7 @@ def tls_of(options: argparse.Namespace) -> ssl.SSLContext:
     return tls
 
 
-def password_of(path: Optional[str]) -> str:
+def password_of(path: str | None) -> str:
     """The password in this file, or else in the environment, where it doesn't stay: a worker doesn't need it."""
     if path is not None:
         with open(path, encoding='utf-8') as file:

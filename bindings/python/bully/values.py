@@ -2,10 +2,16 @@
 from __future__ import annotations
 
 import enum
+from collections.abc import Sequence
 from dataclasses import dataclass
-from typing import List, NamedTuple, Optional, Sequence, Tuple, Type, Union, overload
+from typing import NamedTuple, Union, overload
 
 from .faults import BullyError
+
+__all__ = [
+    'EVENTS_MAX', 'NODES_MAX', 'PARTITIONS_MAX', 'WEIGHT_MAX', 'Answer', 'Call', 'CallKind', 'Line', 'Owned', 'Rows',
+    'State', 'Status', 'TablePlan', 'Verdict', 'VerdictKind', 'Want',
+]  # fmt: skip
 
 NODES_MAX = 1024
 PARTITIONS_MAX = 4096
@@ -16,13 +22,13 @@ Line = Union[str, bytes]
 
 
 class Rows(Sequence[str]):
-    """Rows of a log that came as one text, and are cut only where they are looked at. A log of a million rows is learned sooner so."""
+    """Rows of a log that came as one text, and are cut only if they are looked at: a long log is learned sooner."""
 
     def __init__(self, text: str) -> None:
         """The rows of this text, each with its line end."""
         self.text = text
-        self._count: Optional[int] = None
-        self._cut: Optional[List[str]] = None
+        self._count: int | None = None
+        self._cut: list[str] | None = None
 
     def __len__(self) -> int:
         if self._count is None:
@@ -33,14 +39,14 @@ class Rows(Sequence[str]):
     def __getitem__(self, index: int) -> str: ...
 
     @overload
-    def __getitem__(self, index: slice) -> List[str]: ...
+    def __getitem__(self, index: slice) -> list[str]: ...
 
-    def __getitem__(self, index: Union[int, slice]) -> Union[str, List[str]]:
+    def __getitem__(self, index: int | slice) -> str | list[str]:
         if self._cut is None:
             self._cut = self.text.split('\n')[:-1]
         return self._cut[index]
 
-    def behind(self, count: int) -> 'Rows':
+    def behind(self, count: int) -> Rows:
         """The rows behind the first ones, so many."""
         behind = Rows(self.text.split('\n', count)[-1] if count else self.text)
         behind._count = max(len(self) - count, 0)
@@ -51,7 +57,7 @@ class Rows(Sequence[str]):
 
 
 class Named(enum.IntEnum):
-    """Numbers of the library that are shown by their names, as the rows of traces spell them: `normal`, `are-you-up`."""
+    """Numbers of the library, shown by their names as traces spell them: `normal`, `are-you-up`."""
 
     def __str__(self) -> str:
         return self.name.lower().replace('_', '-')
@@ -92,12 +98,13 @@ class VerdictKind(Named):
 
 @dataclass(frozen=True)
 class Verdict:
-    """The verdict on a trace. Of a lawful one `number` is how many events were counted, and else the row that is refused or
-    differs, from 1; `cause` is the exception that names why an event is refused. As text it is the first line of `bully check`."""
+    """The verdict on a trace. Of a lawful one `number` is how many events were counted, and else the row that is
+    refused or differs, from 1; `cause` is the exception that names why it is refused. Its text is that of `bully
+    check`."""
 
     kind: VerdictKind
     number: int
-    cause: Optional[Type[BullyError]] = None
+    cause: type[BullyError] | None = None
 
     @property
     def is_lawful(self) -> bool:
@@ -112,7 +119,7 @@ class Verdict:
 class TablePlan(NamedTuple):
     """A planned table: the owner of each partition, and how many partitions change theirs."""
 
-    owners: Tuple[int, ...]
+    owners: tuple[int, ...]
     moves: int
 
 
@@ -125,16 +132,16 @@ class Call(NamedTuple):
 
 
 class State(NamedTuple):
-    """How a node stands: its number and status; its coordinator, if it has one; the node that halted it last, if any; what it
-    wants to do next; the call that it has under way, if any; and how often it was stopped or crashed, of an agent since it was
-    opened, and of a replica in its log."""
+    """How a node stands: its number and status; its coordinator, if it has one; the node that halted it last, if any;
+    what it wants to do next; the call that it has under way, if any; and how often it was stopped or crashed, of an
+    agent since it was opened, and of a replica in its log."""
 
     node: int
     status: Status
-    coordinator: Optional[int]
-    halter: Optional[int]
+    coordinator: int | None
+    halter: int | None
     wants: Want
-    call: Optional[Call]
+    call: Call | None
     generation: int
 
 
@@ -145,8 +152,8 @@ class Event(Named):
 
 
 class Owned(NamedTuple):
-    """What a node's process may work on: the token of the last plan, and the node's partitions by it, rising, the first of a group
-    being 0. There is one at least."""
+    """What a node's process may work on: the token of the last plan, and the node's partitions by it, rising, the first
+    of a group being 0. There is one at least."""
 
     token: int
-    partitions: Tuple[int, ...]
+    partitions: tuple[int, ...]

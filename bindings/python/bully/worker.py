@@ -9,12 +9,12 @@ import socket
 import subprocess
 import sys
 import threading
+from collections.abc import Sequence
 from contextlib import suppress
 from pathlib import Path
-from typing import List, Optional, Sequence
 
+from .clocks import SECOND, seconds_of_boot, slept
 from .guard import BEATS, adopt, children, end_children, may_kill
-from .logs import SECOND, seconds_of_boot, slept
 from .running import Assignment, Member
 
 GUARD = str(Path(__file__).with_name('guard.py'))
@@ -23,8 +23,9 @@ STARTS = 5.0  # seconds that a guard takes to begin, at most
 REST_MAX = 60.0  # seconds that a worker rests at most which fails again and again
 PART = 0.1  # seconds for which it waits at once for a worker to stop
 MESSAGE_MAX = 100_000  # bytes of a message to the guard: all sockets have room for so many
+LEFT = 'these processes may work on, since SIGKILL has not ended them; until they are gone nothing is begun here: %s'
 
-_told = logging.getLogger('bully')
+_logger = logging.getLogger('bully')
 
 
 class GuardLost(Exception):
@@ -32,7 +33,7 @@ class GuardLost(Exception):
 
 
 class WorkerStuck(Exception):
-    """A worker didn't end, though it was killed, and its member is to leave. Nothing is given back before the presence has ended."""
+    """A worker didn't end, though it was killed, and its member is to leave. Its presence ends by itself."""
 
 
 class WorkerEnded(Exception):
@@ -44,26 +45,27 @@ class WorkerEnded(Exception):
 
 
 class Workers:
-    """The callbacks of a member whose worker is a process: they have it begin and stop, by a guard that is there as long as the member."""
+    """The callbacks of a member whose worker is a process, which begins and stops by a guard beside the member."""
 
     def __init__(self, words: Sequence[str], node: str, patience: float, talks: bool = False) -> None:
-        """The words of its command, the name of its node, how long it may take to stop, and whether it stays over changes and is told of
-        them by lines."""
+        """The words of its command, the name of its node, how long it may take to stop, and whether it stays over
+        changes and is told of them by lines."""
         self._words, self._node, self._patience, self._talks = words, node, patience, talks
-        self._assignment: Optional[Assignment] = None
-        self._stopped: 'queue.SimpleQueue[None]' = queue.SimpleQueue()
+        self._assignment: Assignment | None = None
+        self._stopped: queue.SimpleQueue[None] = queue.SimpleQueue()
         self._until = 0  # in nanoseconds of CLOCK_BOOTTIME
-        self._begun = self._rest = self._rest_end = 0.0  # when the worker was told to begin, and how long and until when it rests since it failed
+        self._begun = 0.0  # when the worker was told to begin
+        self._rest = self._rest_end = 0.0  # how long and until when it rests since it failed
         self._may_work = False  # whether the worker was told to begin, and may be at work
         self._is_unheard = False  # whether the guard hasn't answered that yet
-        self._stop_begun: Optional[float] = None  # when the worker was told to stop, if it hasn't yet
-        self._left: List[int] = []  # what is still there of the worker, though it was killed
+        self._stop_begun: float | None = None  # when the worker was told to stop, if it hasn't yet
+        self._left: list[int] = []  # what is still there of the worker, though it was killed
         self._is_closed = False
         self._ending = threading.Lock()  # who has it waits for children
 
     def begin(self, member: Member, file: str = '') -> None:
-        """The guard begins, before the member does. If its log is a file, the guard kills this process, too, if that stays stopped in the middle
-        of a write. What a guard leaves that died is left to this process, which kills it."""
+        """The guard begins, before the member does. If its log is a file, the guard kills this process, too, if that
+        stays stopped in the middle of a write. What a guard that died leaves is this process's to kill."""
         self._member, self._others = member, children()
         adopt()
         self._channel, given = socket.socketpair(socket.AF_UNIX, socket.SOCK_SEQPACKET)
@@ -71,7 +73,9 @@ class Workers:
         command = [sys.executable, '-I', '-S', GUARD, str(given.fileno()), str(self._patience), *more, *self._words]
         environment = {**os.environ, 'BULLY_NODE': self._node}
         with given:
-            self._guard = subprocess.Popen(command, env=environment, stdin=subprocess.DEVNULL, pass_fds=[given.fileno()], start_new_session=True)
+            self._guard = subprocess.Popen(
+                command, env=environment, stdin=subprocess.DEVNULL, pass_fds=[given.fileno()], start_new_session=True
+            )
         self._listener = threading.Thread(target=self._hear_all, name='bully guard', daemon=True)
         self._listener.start()
 
@@ -84,11 +88,11 @@ class Workers:
         settings = assignment.settings.text(self._member.ttl, self._member.margin)
         coordinator = assignment.settings.name(assignment.coordinator)
         if self._talks:
-            told = {'begin': assignment.token, 'partitions': assignment.partitions, 'coordinator': coordinator}
-            words = json.dumps({**told, 'settings': json.loads(settings)})
+            document = {'begin': assignment.token, 'partitions': assignment.partitions, 'coordinator': coordinator}
+            words = json.dumps({**document, 'settings': json.loads(settings)})
         else:
-            partitions = ' '.join(map(str, assignment.partitions))
-            named = {'TOKEN': str(assignment.token), 'SETTINGS': settings, 'COORDINATOR': coordinator, 'PARTITIONS': partitions}
+            named = {'TOKEN': str(assignment.token), 'SETTINGS': settings, 'COORDINATOR': coordinator}
+            named['PARTITIONS'] = ' '.join(map(str, assignment.partitions))
             words = '\0'.join(f'BULLY_{name}={value}' for name, value in named.items())
         self._may_work = self._is_unheard = True
         self._tell(f'until {self._until}')
@@ -104,12 +108,15 @@ class Workers:
         self._assignment = None
 
     def _wait_for_stop(self) -> None:
-        """Waits for that. A member that is to leave doesn't wait for what was killed and hasn't ended: that does nothing any more."""
+        """Waits for that. A member that is to leave doesn't wait for what was killed, and so does nothing any more."""
         while True:
             with suppress(queue.Empty):
                 return self._stopped.get(timeout=PART)
             if self.is_stuck and self._member.is_leaving and all(map(may_kill, self._left)):
-                raise WorkerStuck(f'the worker has not ended for {self.stopping_seconds:.1f} s, though it was killed; its presence ends by itself')
+                seconds = f'{self.stopping_seconds:.1f} s'
+                raise WorkerStuck(
+                    f'the worker has not ended for {seconds}, though it was killed; its presence ends by itself'
+                )
 
     @property
     def stopping_seconds(self) -> float:
@@ -150,7 +157,7 @@ class Workers:
 
     def _tell_begin(self, words: bytes) -> None:
         """In parts, for each of which a message has room."""
-        *parts, last = [words[first : first + MESSAGE_MAX] for first in range(0, len(words), MESSAGE_MAX)]
+        *parts, last = (words[first : first + MESSAGE_MAX] for first in range(0, len(words), MESSAGE_MAX))
         for part in parts:
             self._send(b'part ' + part)
         self._send(b'begin ' + last)
@@ -184,8 +191,8 @@ class Workers:
             self._stopped.put(None)
 
     def _ended(self, status: int, now: float) -> None:
-        """The worker ended by itself. If it failed within a ttl it is begun again, later and later, and its node keeps what it owns; else its
-        member ends, too."""
+        """The worker ended by itself. If it failed within a ttl it is begun again, later and later, and its node keeps
+        what it owns; else its member ends, too."""
         ttl = self._member.ttl
         if status == 0 or now >= self._begun + ttl:
             self._member.end_with(WorkerEnded(status))
@@ -193,12 +200,12 @@ class Workers:
         fails_again = self._rest and self._begun < self._rest_end + ttl
         self._rest = min(2 * self._rest, REST_MAX) if fails_again else ttl / 5
         self._rest_end = now + self._rest
-        _told.warning('the worker failed, with status %d, and is begun again in %.1f s', status, self._rest)
+        _logger.warning('the worker failed, with status %d, and is begun again in %.1f s', status, self._rest)
         if self._assignment is not None:
             self._begin_later(self._assignment)
 
     def _begin_later(self, assignment: Assignment) -> None:
-        """Once the rest is over, the work of this assignment is lost, so that it is begun again, if the node still owns it."""
+        """Once the rest is over this assignment's work is lost, and so begun again, if the node still owns it."""
         later = threading.Timer(max(0.0, self._rest_end - seconds_of_boot()), self._member.lose, [assignment])
         later.daemon = True
         later.start()
@@ -213,7 +220,7 @@ class Workers:
         silent = 0
         while silent < SILENT or slept(0.0, self._channel.fileno()):
             if slept(self._pause(), self._channel.fileno()):
-                with suppress(ConnectionResetError):  # comes once, and before what it said, if it didn't read all that it was told
+                with suppress(ConnectionResetError):  # comes once, before what it said, if it didn't read all
                     return self._channel.recv(1000)
             silent = silent + 1 if self._is_silent() else 0
         return b''
@@ -224,11 +231,13 @@ class Workers:
         return max(self._member.ttl / BEATS, min(left, self._member.ttl / 4))
 
     def _is_silent(self) -> bool:
-        """Whether the guard should have killed the worker for a twentieth of the ttl, or told that it has begun, or has stopped, for a ttl."""
+        """Whether the guard is a twentieth of the ttl late to kill the worker, or a ttl to tell that it began or
+        stopped."""
         stop_begun, now, ttl = self._stop_begun, seconds_of_boot(), self._member.ttl
         is_late = self._may_work and now > max(self._begun, self._until / SECOND) + ttl / BEATS
         is_deaf = self._is_unheard and now > self._begun + ttl + STARTS
-        return not self._left and (is_late or is_deaf or stop_begun is not None and now > stop_begun + self._patience + ttl)
+        is_stuck = stop_begun is not None and now > stop_begun + self._patience + ttl
+        return not self._left and (is_late or is_deaf or is_stuck)
 
     def _end_all(self) -> None:
         """Returns once nothing is left of the guard, and of what it began."""
@@ -237,6 +246,6 @@ class Workers:
             self._guard.wait()
             self._left = []
 
-    def _tell_left(self, processes: List[int]) -> None:
+    def _tell_left(self, processes: list[int]) -> None:
         self._left = processes
-        _told.error('these processes may work on, since SIGKILL has not ended them; until they are gone nothing is begun here: %s', processes)
+        _logger.error(LEFT, processes)

@@ -1,34 +1,45 @@
-"""Tests of the command `bully-member` and of members over etcd. `try` runs them; without the program `etcd` on the path they are skipped."""
+"""Tests of the command `bully-member` and of members over etcd. `try` runs them; without the program `etcd` on the path
+they are skipped."""
+from __future__ import annotations
+
 import json
 import os
 import signal
 import sys
 import time
 import unittest
-from typing import Any, Dict, List, Sequence, Set, Tuple
+from collections.abc import Sequence
+from typing import Any
 from unittest import mock
 
-from bully import check, command, stores
+from bully import check, command, history, stores
 from bully.epochs import Opening, Token
 from bully.etcd import EtcdLog
 from bully.logs import Log
-from etcd_servers import NUMBERS, OLDER, Server, WithCertificates, WithEtcd, add_users, alone, begin_alone, prune_in_part, put_older
-from laws import HEADER, wait_until
-from test_commands import BEGINS, TALKS, MemberProcess, call
-from test_pages import ROOT, TOP, toml
-from test_running import Away, WithFolder, put
-from test_workers import children, is_running
+from .away_laws import Away
+from .configurations import TOP, toml
+from .etcd_servers import (
+    NUMBERS, OLDER, Server, WithCertificates, WithEtcd, add_users, alone, begin_alone, prune_in_part, put_older,
+)  # fmt: skip
+from .folders import WithFolder
+from .member_processes import BEGINS, TALKS, MemberProcess, call
+from .places import ROOT
+from .processes import children, is_running
+from .steps import HEADER
+from .threads import put
+from .waiting import wait_until
 
 TTL = 2  # seconds
 SLOW = 20.0  # seconds that a log of the test's own waits for answers
-NAMES: List[str] = TOP['names']
+NAMES: list[str] = TOP['names']
 PASSWORD = 'BULLY_ETCD_PASSWORD'
-# Tells when two work on one partition, or one by a token below the last one's; else each unit of work is a line in the file of its partition.
+# Tells when two work on one partition, or one by a token below the last one's; else each unit of work is a line in the
+# file of its partition.
 WORKER = [sys.executable, '-I', '-S', str(ROOT / 'tests' / 'members' / 'worker.py')]
 
 
 def setUpModule() -> None:
-    begin_alone('test_etcd_members')
+    begin_alone(__name__)
 
 
 @unittest.skipIf(sys.version_info < (3, 11), 'the standard library reads TOML from Python 3.11 on')
@@ -48,9 +59,9 @@ class OverEtcd(WithEtcd, WithFolder):
         path.write_bytes(toml({**TOP, **more}))
         return str(path)
 
-    def of_log(self, *words: str) -> Tuple[int, str, str]:
+    def of_log(self, *words: str) -> tuple[int, str, str]:
         """What a command that may be tried again comes to over the log, once that answers in time."""
-        ended: List[Tuple[int, str, str]] = []
+        ended: list[tuple[int, str, str]] = []
 
         def is_answered() -> bool:
             ended[:] = [call(words[0], '--log', self.address, *words[1:])]
@@ -67,7 +78,9 @@ class OverEtcd(WithEtcd, WithFolder):
         """A member of this node."""
         folder = self.folder / f'{node}-{next(NUMBERS)}'
         folder.mkdir()
-        member = MemberProcess(folder, ['--log', self.address, '--node', node, '--ttl', str(TTL), *more], worker, **environment)
+        member = MemberProcess(
+            folder, ['--log', self.address, '--node', node, '--ttl', str(TTL), *more], worker, **environment
+        )
         self.addCleanup(member.kill)
         return member
 
@@ -75,20 +88,28 @@ class OverEtcd(WithEtcd, WithFolder):
         """A member of this node, whose worker tells what it works on."""
         return self.begin(node, [*WORKER, str(self.work)], *more)
 
-    def worked(self) -> Dict[int, Tuple[int, str]]:
+    def worked(self) -> dict[int, tuple[int, str]]:
         """By which token, and for which node, each partition was worked on last."""
         found = {int(file.name): file.read_text().splitlines() for file in self.work.iterdir() if file.name != 'faults'}
-        return {partition: (int(lines[-1].split()[0]), lines[-1].split()[1]) for partition, lines in found.items() if lines}
+        return {
+            partition: (int(lines[-1].split()[0]), lines[-1].split()[1]) for partition, lines in found.items() if lines
+        }
 
     def share(self, behind: int, partitions: int, *names: str) -> int:
-        """These nodes, and no others, work on so many partitions by one token behind that one, once they do. The token."""
-        tokens: Set[int] = set()
+        """These nodes, and no others, work on so many partitions by one token behind that one, once they do. The
+        token."""
+        tokens: set[int] = set()
 
         def do_share() -> bool:
             worked = self.worked()
             tokens.clear()
             tokens.update(token for token, _ in worked.values())
-            return len(worked) == partitions and len(tokens) == 1 and min(tokens) > behind and {name for _, name in worked.values()} == set(names)
+            return (
+                len(worked) == partitions
+                and len(tokens) == 1
+                and min(tokens) > behind
+                and {name for _, name in worked.values()} == set(names)
+            )
 
         wait_until(do_share)
         return tokens.pop()
@@ -97,7 +118,11 @@ class OverEtcd(WithEtcd, WithFolder):
         """No two worked on one partition at once, nobody by an old token, and these epochs are lawful."""
         self.assertFalse((self.work / 'faults').exists(), 'two have worked on one partition, or one by an old token')
         for epoch in epochs:
-            self.assertTrue(check(''.join(f'{row}\n' for row in stores.trace(self.opened(patience=SLOW), epoch)).encode()).is_lawful)
+            self.assertTrue(
+                check(
+                    ''.join(f'{row}\n' for row in history.trace(self.opened(patience=SLOW), epoch)).encode()
+                ).is_lawful
+            )
 
     def end(self, *members: MemberProcess) -> None:
         """They leave in order, one by one, and nobody is present any more."""
@@ -111,14 +136,23 @@ class Commands(OverEtcd):
     """`bully-member`, but for `run`."""
 
     def test_life_of_a_log(self) -> None:
-        self.assertEqual(self.of_log('status'), (4, '', f'bully-member: {self.address}: there is none; bully-member init makes a log\n'))
+        self.assertEqual(
+            self.of_log('status'),
+            (4, '', f'bully-member: {self.address}: there is none; bully-member init makes a log\n'),
+        )
         self.assertEqual(call('init', '--log', self.address, '--config', self.config), (0, '', ''))
-        self.assertEqual(self.of_log('init', '--config', self.config), (4, '', f'bully-member: {self.address}: there is a log already\n'))
+        self.assertEqual(
+            self.of_log('init', '--config', self.config),
+            (4, '', f'bully-member: {self.address}: there is a log already\n'),
+        )
         put(self.opened(), 'recover,2')
         self.assertEqual(self.of_log('history'), (0, f'{HEADER}\nrecover,2\n', ''))
         status, said, _ = self.of_log('status')
         self.assertEqual((status, said.splitlines()[0]), (1, 'epoch 1, events 1, token -, coordinator -'))
-        self.assertEqual([node['status'] for node in json.loads(self.of_log('status', '--json')[1])['nodes']], ['down', 'election', 'down'])
+        self.assertEqual(
+            [node['status'] for node in json.loads(self.of_log('status', '--json')[1])['nodes']],
+            ['down', 'election', 'down'],
+        )
         new = self.configured('new.toml', nodes=2, names=['c', 'd'], partitions=4)
         for _ in range(2):
             self.assertEqual(self.of_log('resize', '--config', new), (0, 'epoch 2: 2 nodes, 4 partitions\n', ''))
@@ -134,8 +168,9 @@ class Commands(OverEtcd):
         secure = self.address.replace('etcd:', 'etcds:')
         for words, status, why in (
             (['etcd://x'], 2, 'has to be'), (['etcd:x'], 2, 'has to be'), (['etcd://127.0.0.1:1/log'], 2, '`log`'),
-            ([self.address, '--cacert', 'x'], 2, 'etcds://'), ([self.address, '--cert', 'x', '--key', 'y'], 2, 'etcds://'),
-            ([secure, '--cert', 'x'], 2, '--key'), ([secure, *certificates], 4, 'none'), (['sqlite:x', '--user', 'x'], 2, '--user'),
+            ([self.address, '--cacert', 'x'], 2, 'etcds://'),
+            ([self.address, '--cert', 'x', '--key', 'y'], 2, 'etcds://'), ([secure, '--cert', 'x'], 2, '--key'),
+            ([secure, *certificates], 4, 'none'), (['sqlite:x', '--user', 'x'], 2, '--user'),
             ([self.address, '--user', 'x'], 2, PASSWORD), ([self.address, '--password-file', 'x'], 2, '--user'),
             ([self.address, '--user', 'x', '--password-file', '/nowhere/file'], 4, '/nowhere/file'),
         ):  # fmt: skip
@@ -165,12 +200,22 @@ class Commands(OverEtcd):
         put_older(self.server, self.prefix)
         before = self.server.keys(self.prefix)
         form = 'a log by an older version, and not of form 3; history writes it as a trace, and init makes another log'
-        for words in (['status'], ['resize', '--config', self.config], ['prune', '--keep', '1'], ['run', '--quiet', '--node', 'a', '--', 'true']):
+        for words in (
+            ['status'],
+            ['resize', '--config', self.config],
+            ['prune', '--keep', '1'],
+            ['run', '--quiet', '--node', 'a', '--', 'true'],
+        ):
             with self.subTest(words=words):
                 self.assertEqual(self.of_log(*words), (4, '', f'bully-member: {self.address}: {form}\n'))
-        self.assertEqual(self.of_log('init', '--config', self.config), (4, '', f'bully-member: {self.address}: there is a log already\n'))
+        self.assertEqual(
+            self.of_log('init', '--config', self.config),
+            (4, '', f'bully-member: {self.address}: there is a log already\n'),
+        )
         for epoch, rows in OLDER.items():
-            self.assertEqual(self.of_log('history', '--epoch', str(epoch)), (0, ''.join(f'{row}\n' for row in rows), ''))
+            self.assertEqual(
+                self.of_log('history', '--epoch', str(epoch)), (0, ''.join(f'{row}\n' for row in rows), '')
+            )
         self.assertEqual(self.of_log('history')[1], ''.join(f'{row}\n' for row in OLDER[max(OLDER)]))
         self.assertEqual(self.server.keys(self.prefix), before)
 
@@ -182,9 +227,13 @@ class Runs(OverEtcd):
         self.make()
         member = self.begin('b', ['sh', '-c', BEGINS], '--config', self.config)
         worker, told = member.worker(), member.environment()
-        self.assertEqual([told[f'BULLY_{name}'] for name in ('NODE', 'COORDINATOR', 'PARTITIONS')], ['b', 'b', '0 1 2 3 4 5'])
+        self.assertEqual(
+            [told[f'BULLY_{name}'] for name in ('NODE', 'COORDINATOR', 'PARTITIONS')], ['b', 'b', '0 1 2 3 4 5']
+        )
         settings_told = json.loads(told['BULLY_SETTINGS'])
-        self.assertEqual((settings_told['names'], settings_told['partitions'], settings_told['ttl']), (NAMES, 6, float(TTL)))
+        self.assertEqual(
+            (settings_told['names'], settings_told['partitions'], settings_told['ttl']), (NAMES, 6, float(TTL))
+        )
         log, token = self.opened(), Token(int(told['BULLY_TOKEN']))
         rows = list(log.read(1, 0))
         self.assertEqual((token.epoch, rows[token.events - 1]), (1, 'plan,2,2 2 2 2 2 2'))
@@ -200,7 +249,9 @@ class Runs(OverEtcd):
         self.make()
         member = self.begin('b', ['sh', '-c', TALKS], '--talk')
         worker, (begun,) = member.worker(), member.told(1)
-        self.assertEqual((begun['partitions'], begun['coordinator'], Token(begun['begin']).epoch), ([0, 1, 2, 3, 4, 5], 'b', 1))
+        self.assertEqual(
+            (begun['partitions'], begun['coordinator'], Token(begun['begin']).epoch), ([0, 1, 2, 3, 4, 5], 'b', 1)
+        )
         new = self.configured('new.toml', nodes=2, names=['b', 'd'], partitions=3)
         self.assertEqual(self.of_log('resize', '--config', new)[0], 0)
         _, stopped, again = member.told(3)
@@ -230,7 +281,10 @@ class Runs(OverEtcd):
             file.write_text(password)
         user = ['--user', 'member', '--ttl', '10']  # since to log in takes long
         self.make(user='member', password='member password')
-        cases: List[Tuple[List[str], Dict[str, str]]] = [([], {PASSWORD: 'member password'}), (['--password-file', str(right)], {})]
+        cases: list[tuple[list[str], dict[str, str]]] = [
+            ([], {PASSWORD: 'member password'}),
+            (['--password-file', str(right)], {}),
+        ]
         for words, environment in cases:
             with self.subTest(words=words):
                 member = self.begin('b', ['sh', '-c', BEGINS], *user, *words, **environment)
@@ -300,7 +354,10 @@ class Certificates(OverEtcd, WithCertificates):
 
     def test_run(self) -> None:
         self.address = self.secure_both().address('x', kind='etcds')
-        files = {name: str(self.certificates / file) for name, file in (('cacert', 'mine.pem'), ('cert', 'client.pem'), ('key', 'client.key'))}
+        files = {
+            name: str(self.certificates / file)
+            for name, file in (('cacert', 'mine.pem'), ('cert', 'client.pem'), ('key', 'client.key'))
+        }
         words = [word for name, file in files.items() for word in (f'--{name}', file)]
         self.make(tls=self.tls(client='client'))
         member = self.begin('b', ['sh', '-c', BEGINS], *words)
@@ -312,7 +369,7 @@ class Certificates(OverEtcd, WithCertificates):
         self.assertEqual((status, said.splitlines()[-1]), (0, 'crash,2'))
         self.assertTrue(check(said.encode()).is_lawful)
         other = ['--cacert', str(self.certificates / 'other.pem'), *words[2:]]
-        cases: List[List[str]] = [[], words[:2], words[2:], other]
+        cases: list[list[str]] = [[], words[:2], words[2:], other]
         for fewer in cases:
             with self.subTest(words=fewer):
                 member = self.begin('b', ['sh', '-c', BEGINS], *fewer)
@@ -355,7 +412,8 @@ class Groups(OverEtcd):
         self.judge(1)
 
     def test_resized(self) -> None:
-        """Members go on by their names in a new epoch, also one that was paused until the old one was taken away. Who has none there ends."""
+        """Members go on by their names in a new epoch, also one that was paused until the old one was taken away. Who
+        has none there ends."""
         self.make()
         members = {name: self.begin_work(name) for name in NAMES}
         token = self.share(0, 6, 'a', 'b', 'c')
@@ -410,7 +468,3 @@ class AwayOverEtcd(WithEtcd, Away):
         left = self.server.keys(f'{self.address.split("/", 3)[3]}/log/0000000001/')
         self.assertEqual([int(key[-10:]) for key in left], [place + 1, place + 2])
         self.see_it_work()
-
-
-if __name__ == '__main__':
-    unittest.main()

@@ -1,19 +1,24 @@
 """Tests of what an operator orders: nodes that are drained, and groups that are paused. `try` runs them."""
+from __future__ import annotations
+
 import threading
 import unittest
-from typing import Callable, Dict, FrozenSet, List, Optional, Tuple
+from collections.abc import Callable
 from unittest import mock
 
 from bully import looks, ordering, resizing, running, settings, view
 from bully.epochs import Opening, Token
 from bully.group import Setup
-from bully.logs import Found, Holder, MemoryLog, Unanswered
+from bully.history import timed
+from bully.logs import Found, Holder, Unanswered
 from bully.member import Life, Presence, Promise, Seen, Until
+from bully.memory import MemoryLog
 from bully.orders import Orders
 from bully.running import Member, NotInGroup
-from bully.stores import BadWords, timed
-from laws import OPENING, PATIENCE, wait_until
-from test_running import LONG, Threads
+from bully.stores import BadWords
+from .steps import LONG, OPENING
+from .threads import Threads
+from .waiting import PATIENCE, wait_until
 
 A, B, C, D = (Life(number, 1) for number in (1, 2, 3, 4))
 END = Promise(1, 30)
@@ -28,18 +33,37 @@ class Values(unittest.TestCase):
         for orders in (Orders(), Orders(lives={}), *some):
             self.assertEqual(Orders.parse(orders.text()), orders)
         self.assertEqual(Orders().text(), '')
-        for text in ('x', '[]', '{}', '7', '{"drained": 7}', '{"drained": [], "paused": []}', '{"drained": [], "paused": {"a": [1]}}'):
+        for text in (
+            'x',
+            '[]',
+            '{}',
+            '7',
+            '{"drained": 7}',
+            '{"drained": [], "paused": []}',
+            '{"drained": [], "paused": {"a": [1]}}',
+        ):
             with self.subTest(text=text), self.assertRaises((ValueError, KeyError, TypeError, AttributeError)):
                 Orders.parse(text)
 
     def test_who_is_to_leave(self) -> None:
         """Who is drained; in a pause only who isn't present."""
         drained, paused = Orders(frozenset('b')), Orders(frozenset('b'), {})
-        told = [orders.takes_out(name, is_present) for orders in (drained, paused) for name in 'ab' for is_present in (False, True)]
+        told = [
+            orders.takes_out(name, is_present)
+            for orders in (drained, paused)
+            for name in 'ab'
+            for is_present in (False, True)
+        ]
         self.assertEqual(told, [False, False, True, True, False, False, True, False])
         self.assertEqual(paused.among({'a', 'c'}), Orders(lives={}))
 
-    def seen(self, presences: Dict[str, Holder], orders: Orders, up: FrozenSet[int] = frozenset({1, 2, 3}), is_wished: bool = False) -> Seen:
+    def seen(
+        self,
+        presences: dict[str, Holder],
+        orders: Orders,
+        up: frozenset[int] = frozenset({1, 2, 3}),
+        is_wished: bool = False,
+    ) -> Seen:
         """What node a is told, in a group of a, b and c."""
         wish = OPENING.after(None) if is_wished else None
         return looks.seen_of(Found(1, (), presences, wish, orders), END, 'a', {'a': 1, 'b': 2, 'c': 3}, up.__contains__)
@@ -49,27 +73,47 @@ class Values(unittest.TestCase):
         there = {'b': Holder(B, IDLE), 'a': Holder(A, WORKS)}
         wanted = Presence(1, A, WORKS), Presence(2, B, IDLE)
         self.assertEqual(self.seen(there, Orders(frozenset('b'))), Seen(1, wanted, False, False))
-        self.assertEqual(self.seen({**there, 'x': Holder(C, IDLE)}, Orders(), is_wished=True), Seen(1, wanted, True, True))
+        self.assertEqual(
+            self.seen({**there, 'x': Holder(C, IDLE)}, Orders(), is_wished=True), Seen(1, wanted, True, True)
+        )
 
     def test_a_pause(self) -> None:
-        """All that are up in the log work, but for its own presence; nobody else is there, nothing is wished for, and nothing can be settled."""
+        """All that are up in the log work, but for its own presence; nobody else is there, nothing is wished for, and
+        nothing can be settled."""
         paused = Orders(lives={'a': A, 'b': B, 'c': C})
         others = Presence(2, B, Promise()), Presence(3, C, Promise())
         works = Seen(1, (Presence(1, A, WORKS), *others), True, False)
-        for there in ({'b': Holder(B, WORKS), 'c': Holder(C, WORKS)}, {'c': Holder(C, WORKS)}, {'b': Holder(D, IDLE)}, {'x': Holder(D, IDLE)}):
+        for there in (
+            {'b': Holder(B, WORKS), 'c': Holder(C, WORKS)},
+            {'c': Holder(C, WORKS)},
+            {'b': Holder(D, IDLE)},
+            {'x': Holder(D, IDLE)},
+        ):
             with self.subTest(there=there):
                 self.assertEqual(self.seen({'a': Holder(A, WORKS), **there}, paused, is_wished=True), works)
-        self.assertEqual(self.seen({'b': Holder(B, WORKS)}, paused), Seen(1, others, True, False), 'its presence was lost')
-        self.assertEqual(self.seen({'a': Holder(D, IDLE)}, paused), Seen(1, (Presence(1, D, IDLE), *others), True, False), 'it came in the pause')
+        self.assertEqual(
+            self.seen({'b': Holder(B, WORKS)}, paused), Seen(1, others, True, False), 'its presence was lost'
+        )
+        self.assertEqual(
+            self.seen({'a': Holder(D, IDLE)}, paused),
+            Seen(1, (Presence(1, D, IDLE), *others), True, False),
+            'it came in the pause',
+        )
         down = self.seen({'a': Holder(A, WORKS), 'c': Holder(C, WORKS)}, paused, up=frozenset({1, 2}))
         self.assertEqual(down, Seen(1, (Presence(1, A, WORKS), others[0]), True, False), 'nobody comes in the pause')
-        self.assertEqual(self.seen({}, Orders(lives={}), up=frozenset({2})), Seen(1, (Presence(2, Life(0, 0), Promise()),), True, False))
+        self.assertEqual(
+            self.seen({}, Orders(lives={}), up=frozenset({2})),
+            Seen(1, (Presence(2, Life(0, 0), Promise()),), True, False),
+        )
 
     def test_a_change_that_was_under_way(self) -> None:
         """If one that was there has promised the end it can't go on: all are told what there is."""
         there = {'a': Holder(A, WORKS), 'b': Holder(B, IDLE)}
         for orders in (Orders(lives={'a': A, 'b': B}), Orders(lives={'b': B})):
-            self.assertEqual(self.seen(there, orders, is_wished=True), Seen(1, (Presence(1, A, WORKS), Presence(2, B, IDLE)), False, True))
+            self.assertEqual(
+                self.seen(there, orders, is_wished=True),
+                Seen(1, (Presence(1, A, WORKS), Presence(2, B, IDLE)), False, True),
+            )
         self.assertTrue(self.seen(there, Orders(lives={'a': A, 'b': C})).has_strangers, 'this life came later')
 
     def test_waits(self) -> None:
@@ -80,7 +124,11 @@ class Values(unittest.TestCase):
 
     def test_times(self) -> None:
         """Each row is told with the time of its append, as far as that is kept."""
-        rows, times = ['bully,1,3,6', 'recover,1', 'start,1', 'recover,2', 'recover,3'], {0: 1_700_000_000_007, 2: None, 3: -1}
+        rows, times = ['bully,1,3,6', 'recover,1', 'start,1', 'recover,2', 'recover,3'], {
+            0: 1_700_000_000_007,
+            2: None,
+            3: -1,
+        }
         told = ['', '2023-11-14T22:13:20.007Z', '2023-11-14T22:13:20.007Z', '', '1969-12-31T23:59:59.999Z']
         self.assertEqual(timed(rows, times), [f'{time},{row}' for time, row in zip(told, rows)])
         self.assertEqual(timed(rows, {}), [f',{row}' for row in rows])
@@ -97,7 +145,10 @@ class Giving(unittest.TestCase):
             self.assertEqual(ordering.drain(self.log, name, False), self.log.orders)
         with self.assertRaisesRegex(BadWords, '3 is the last one that is there and not drained'):
             ordering.drain(self.log, '3', False)
-        calls: List[Callable[[], object]] = [lambda: ordering.drain(self.log, '4', True), lambda: ordering.undrain(self.log, '4')]
+        calls: list[Callable[[], object]] = [
+            lambda: ordering.drain(self.log, '4', True),
+            lambda: ordering.undrain(self.log, '4'),
+        ]
         for call in calls:
             with self.assertRaises(NotInGroup):
                 call()
@@ -132,7 +183,7 @@ class Giving(unittest.TestCase):
         """Others give orders between the look and the change."""
         order, others = self.log.order, ['1', '2']
 
-        def slow(orders: Orders, before: Optional[Orders]) -> bool:
+        def slow(orders: Orders, before: Orders | None) -> bool:
             if others:
                 self.log.orders = Orders(self.log.orders.drained | {others.pop()})
             return order(orders, before)
@@ -155,8 +206,8 @@ class Silent(MemoryLog):
 
     def __init__(self, opening: Opening) -> None:
         super().__init__(opening)
-        self.cut: List[str] = []
-        self.renewals: Dict[str, int] = {}
+        self.cut: list[str] = []
+        self.renewals: dict[str, int] = {}
 
     def renew(self, name: str, life: Life, ttl: int) -> bool:
         if name in self.cut:
@@ -174,29 +225,33 @@ class Ordered(Threads):
     """Members in threads to which orders are given."""
 
     def setUp(self) -> None:
-        patch = mock.patch.object(running._told, 'warning')  # of who isn't answered
+        patch = mock.patch.object(running._logger, 'warning')  # of who isn't answered
         patch.start()
         self.addCleanup(patch.stop)
         self.log = Silent(OPENING)
-        self.members: Dict[int, Tuple[Member, List[str], threading.Thread]] = {}
+        self.members: dict[int, tuple[Member, list[str], threading.Thread]] = {}
 
     def begin_members(self, *nodes: int, ttl: float = 2.0) -> None:
         for node in nodes:
             self.members[node] = self.begin(self.log, node, ttl)
 
-    def owners(self) -> Dict[int, int]:
+    def owners(self) -> dict[int, int]:
         """How many partitions each owns that may work, if all of them are owned by one token."""
         owned = {node: member.assignment() for node, (member, _, _) in self.members.items()}
         there = {node: work for node, work in owned.items() if work is not None}
         is_whole = sorted(each for work in there.values() for each in work.partitions) == list(range(6))
-        return {node: len(work.partitions) for node, work in there.items()} if is_whole and len({work.token for work in there.values()}) == 1 else {}
+        return (
+            {node: len(work.partitions) for node, work in there.items()}
+            if is_whole and len({work.token for work in there.values()}) == 1
+            else {}
+        )
 
     def rest(self, *nodes: int) -> None:
         """These own all partitions by one token, and no others, and were told to begin."""
         wait_until(lambda: list(self.owners()) == list(nodes))
         wait_until(lambda: all(self.members[node][1][-1:] == [f'start {self.token(node)}'] for node in nodes))
 
-    def token(self, node: int) -> Optional[Token]:
+    def token(self, node: int) -> Token | None:
         return getattr(self.members[node][0].assignment(), 'token', None)
 
     def plans(self) -> int:
@@ -208,7 +263,8 @@ class Ordered(Threads):
         wait_until(lambda: str(node) not in self.log.presences)
 
     def looks(self, change: Callable[[], object]) -> int:
-        """How often the log is looked at by all behind a change, while the first member renews four times, which is one ttl."""
+        """How often the log is looked at by all behind a change, while the first member renews four times, which is one
+        ttl."""
         count, look = [0], self.log.look
 
         def counted(epoch: int, place: int) -> Found:
@@ -224,21 +280,26 @@ class Ordered(Threads):
     # A drained node.
 
     def test_a_drained_node(self) -> None:
-        """It leaves in one change, its process stays and does nothing, and comes back as another life once that is over."""
+        """It leaves in one change, its process stays and does nothing, and comes back as another life once that is
+        over."""
         self.begin_members(1, 2, 3)
         self.rest(1, 2, 3)
         before, plans, (member, told, thread) = self.log.presences['2'].life, self.plans(), self.members[2]
         ordering.drain(self.log, '2', False)
         self.rest(1, 3)
         wait_until(lambda: member.is_drained)
-        self.assertEqual((self.plans(), '2' in self.log.presences, thread.is_alive(), told[-1][:4]), (plans + 1, False, True, 'stop'))
+        self.assertEqual(
+            (self.plans(), '2' in self.log.presences, thread.is_alive(), told[-1][:4]), (plans + 1, False, True, 'stop')
+        )
         rows = len(self.log.rows)
         self.log.pass_renewals('1', 5)
         self.assertEqual((len(self.log.rows), member.assignment(), member.sure_until), (rows, None, 0.0))
         shown = view.LogView(self.log)
         self.addCleanup(shown.close)
         group = shown.show()
-        self.assertEqual(([node.told_present for node in group.nodes], group.is_well), (['yes', 'no, drained', 'yes'], True))
+        self.assertEqual(
+            ([node.told_present for node in group.nodes], group.is_well), (['yes', 'no, drained', 'yes'], True)
+        )
         ordering.undrain(self.log, '2')
         self.rest(1, 2, 3)
         self.assertFalse(member.is_drained)
@@ -253,7 +314,10 @@ class Ordered(Threads):
         wait_until(lambda: member.is_drained)
         member.leave()
         thread.join(PATIENCE)
-        self.assertEqual((thread.is_alive(), told, getattr(self, 'raised', None), 'recover,2' in self.log.rows), (False, [], None, False))
+        self.assertEqual(
+            (thread.is_alive(), told, getattr(self, 'raised', None), 'recover,2' in self.log.rows),
+            (False, [], None, False),
+        )
 
     def test_its_name_is_gone(self) -> None:
         """It ends as any does whose node isn't in the group any more."""
@@ -293,7 +357,8 @@ class Ordered(Threads):
     # A pause.
 
     def test_a_death_in_a_pause(self) -> None:
-        """The others work on by the same token, nothing is appended, and its partitions wait. Behind the pause all comes to rest."""
+        """The others work on by the same token, nothing is appended, and its partitions wait. Behind the pause all
+        comes to rest."""
         self.begin_members(1, 2, 3)
         self.rest(1, 2, 3)
         rows, told = self.log.rows[:], [len(self.members[node][1]) for node in (1, 2)]
@@ -311,7 +376,9 @@ class Ordered(Threads):
         wait_until(lambda: '3' in self.log.presences)
         for name in '123':
             self.log.pass_renewals(name, 5)
-        self.assertEqual((self.log.rows, self.members[3][0].assignment()), (rows, None), 'it waits for the end of the pause')
+        self.assertEqual(
+            (self.log.rows, self.members[3][0].assignment()), (rows, None), 'it waits for the end of the pause'
+        )
         self.assertEqual((shown.show().is_well, shown.show().behind), (False, {}))
         ordering.resume(self.log)
         self.rest(1, 2, 3)
@@ -361,7 +428,8 @@ class Ordered(Threads):
         wait_until(member.assignment)
 
     def test_a_change_under_way(self) -> None:
-        """Who has promised to be idle when the pause begins can't go on, so that change is finished first, and the next one waits."""
+        """Who has promised to be idle when the pause begins can't go on, so that change is finished first, and the next
+        one waits."""
         is_over = threading.Event()
         self.addCleanup(is_over.set)
         is_over.set()
@@ -370,7 +438,9 @@ class Ordered(Threads):
         self.rest(1, 2)
         is_over.clear()
         self.begin_members(3)
-        wait_until(lambda: '3' in self.log.presences and self.log.presences['2'].promise == Promise(1, len(self.log.rows)))
+        wait_until(
+            lambda: '3' in self.log.presences and self.log.presences['2'].promise == Promise(1, len(self.log.rows))
+        )
         ordering.pause(self.log)
         rows = len(self.log.rows)
         is_over.set()
@@ -422,7 +492,3 @@ class Ordered(Threads):
         self.assertFalse(thread.is_alive())
         self.log.pass_renewals('1', 5)
         self.assertEqual((self.log.rows, set(self.log.presences)), (rows, {'1'}))
-
-
-if __name__ == '__main__':
-    unittest.main()

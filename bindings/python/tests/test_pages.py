@@ -1,4 +1,6 @@
 """Tests of configurations, and of what a member tells over HTTP. `try` runs them."""
+from __future__ import annotations
+
 import contextlib
 import http.client
 import io
@@ -7,86 +9,22 @@ import os
 import resource
 import socket
 import struct
-import sys
 import threading
 import time
 import unittest
-from pathlib import Path
-from typing import Any, Dict, List, Tuple
 from unittest import mock
 
-from bully import page, settings, view
+from bully import page, view
+from bully.clocks import seconds_of_boot
 from bully.epochs import Opening, Token
-from bully.logs import Found, Holder, Unanswered, seconds_of_boot
+from bully.logs import Found, Holder, Unanswered
 from bully.member import Life, Promise
 from bully.orders import Orders
 from bully.running import Member
 from bully.worker import Workers
-from laws import HEADER, PATIENCE, wait_until
-from test_running import LONG, Troubled, put
-
-ROOT = Path(__file__).resolve().parents[3]
-TOP: Dict[str, Any] = {'nodes': 3, 'partitions': 6, 'events': 10, 'turns': 5, 'names': ['a', 'b', 'c']}
-FAULT: Dict[str, Any] = {'at': 1, 'node': 'b', 'kind': 'crash'}
-
-
-def toml(told: Dict[str, Any]) -> bytes:
-    """The document of this table, whose values are spelled as in JSON."""
-    lines = [f'{key} = {json.dumps(value)}' for key, value in told.items() if key != 'fault']
-    for fault in told.get('fault', []):
-        lines += ['[[fault]]', *(f'{key} = {json.dumps(value)}' for key, value in fault.items())]
-    return '\n'.join(lines).encode()
-
-
-def without(table: Dict[str, Any], key: str) -> Dict[str, Any]:
-    return {name: value for name, value in table.items() if name != key}
-
-
-# What docs/FORMATS.md says of these configurations.
-FAULTY = [
-    *[(without(TOP, key), f'Missing {key}') for key in TOP],
-    *[({**TOP, 'fault': [without(FAULT, key)]}, f'Missing {key}') for key in FAULT],
-    *[({**TOP, key: 'x'}, f'Kind {key}') for key in ('nodes', 'partitions', 'events', 'turns', 'period', 'names', 'weights', 'keep')],
-    ({**TOP, 'nodes': True}, 'Kind nodes'), ({**TOP, 'names': ['a', 'b', 3]}, 'Kind names'), ({**TOP, 'weights': [1, 2, '3']}, 'Kind weights'),
-    ({**TOP, 'fault': [{**FAULT, 'at': 'x'}]}, 'Kind at'), ({**TOP, 'fault': [{**FAULT, 'node': 2}]}, 'Kind node'),
-    ({**TOP, 'nodes': 0}, 'Range nodes'), ({**TOP, 'nodes': 1025}, 'Range nodes'), ({**TOP, 'partitions': 4097}, 'Range partitions'),
-    ({**TOP, 'events': 0}, 'Range events'), ({**TOP, 'turns': 1_000_001}, 'Range turns'), ({**TOP, 'period': 1}, 'Range period'),
-    ({**TOP, 'names': ['a', 'b']}, 'Range names'), ({**TOP, 'names': ['a', 'b', '']}, 'Range names'),
-    ({**TOP, 'weights': [1, 1]}, 'Range weights'), ({**TOP, 'weights': [1, 1, 1001]}, 'Range weights'),
-    ({**TOP, 'fault': [{**FAULT, 'at': 6}]}, 'Range at'), ({**TOP, 'fault': [{**FAULT, 'node': 'd'}]}, 'Range node'),
-    ({**TOP, 'fault': [{**FAULT, 'kind': 'halt'}]}, 'Range kind'), ({**TOP, 'names': ['a', 'b', 'a']}, 'DoubleName'),
-    ({**TOP, 'at': 1}, 'UnknownKey'), ({**TOP, 'fault': [{**FAULT, 'keep': True}]}, 'UnknownKey'),
-    ({**without(TOP, 'turns'), 'nodes': 'x', 'more': 1}, 'Missing turns'), ({**TOP, 'nodes': 'x', 'more': 1}, 'Kind nodes'),
-]  # fmt: skip
-
-
-@unittest.skipIf(sys.version_info < (3, 11), 'the standard library reads TOML from Python 3.11 on')
-class Configurations(unittest.TestCase):
-    """What a configuration has, and its faults."""
-
-    def test_examples(self) -> None:
-        places = (ROOT / 'examples').rglob('*.toml')
-        for path in sorted(place for place in places if place.name != 'Cargo.toml'):
-            with self.subTest(path=path.name):
-                read = settings.read_settings(path.read_bytes())
-                self.assertEqual(len(read.names), read.setup.nodes)
-                self.assertEqual([read.number(name) for name in read.names], list(range(1, read.setup.nodes + 1)))
-
-    def test_faults(self) -> None:
-        for told, fault in FAULTY:
-            with self.subTest(fault=fault, told=told), self.assertRaises(settings.ConfigFault) as caught:
-                settings.read_settings(toml(told))
-            self.assertEqual(str(caught.exception), fault)
-
-    def test_other_faults(self) -> None:
-        whole = toml(TOP)
-        for text, fault in (
-            (b'\xff', 'Toml'), (b'nodes = ', 'Toml'), (whole + b'\nfault = 1', 'Kind fault'), (whole + b'\n[fault]\nat = 1', 'Kind fault'),
-            (whole + b'\nfault = [1]', 'Kind fault'), (whole + b'\nmore = 9223372036854775808', 'Toml'),
-        ):  # fmt: skip
-            with self.subTest(text=text), self.assertRaises(settings.ConfigFault) as caught:
-                settings.read_settings(text)
-            self.assertEqual(str(caught.exception), fault)
+from .steps import HEADER, LONG
+from .threads import Troubled, put
+from .waiting import PATIENCE, wait_until
 
 
 class Pages(unittest.TestCase):
@@ -108,7 +46,7 @@ class Pages(unittest.TestCase):
         self.page.start()
         self.addCleanup(self.page.close)
 
-    def get(self, target: str, method: str = 'GET', **headers: str) -> Tuple[int, str, str]:
+    def get(self, target: str, method: str = 'GET', **headers: str) -> tuple[int, str, str]:
         """The status, the kind and the text of an answer."""
         connection = http.client.HTTPConnection('127.0.0.1', self.page.port, timeout=PATIENCE)
         connection.request(method, target, headers=headers)
@@ -141,7 +79,10 @@ class Pages(unittest.TestCase):
         self.assertEqual([node['present'] for node in told['nodes']], [False, True, False])
         self.assertEqual([row['text'] for row in told['last']], self.log.rows[-20:])
         assigned = json.loads(self.get('/assignment')[2])
-        self.assertEqual((assigned['node'], assigned['partitions'], assigned['token']), (self.NAMES[1], list(range(6)), told['token']))
+        self.assertEqual(
+            (assigned['node'], assigned['partitions'], assigned['token']),
+            (self.NAMES[1], list(range(6)), told['token']),
+        )
         self.assertTrue(0 < assigned['sure_seconds'] <= 1.6)
         self.assertEqual(self.get('/healthz')[::2], (200, 'present\n'))
 
@@ -151,15 +92,19 @@ class Pages(unittest.TestCase):
         for orders, paused, drained in ((Orders(), 0, 0), (Orders(frozenset('c'), {}), 1, 1)):
             self.assertTrue(self.log.order(orders, None))
             wait_until(lambda: json.loads(self.get('/group')[2])['paused'] == bool(paused))
-            self.assertEqual([node['drained'] for node in json.loads(self.get('/group')[2])['nodes']], [False, False, bool(drained)])
+            self.assertEqual(
+                [node['drained'] for node in json.loads(self.get('/group')[2])['nodes']], [False, False, bool(drained)]
+            )
             text, shown = self.get('/metrics')[2], self.get('/')[2]
-            self.assertEqual((f'\nbully_paused {paused}\n' in text, f'\nbully_drained{{node="c"}} {drained}\n' in text), (True, True))
+            self.assertEqual(
+                (f'\nbully_paused {paused}\n' in text, f'\nbully_drained{{node="c"}} {drained}\n' in text), (True, True)
+            )
             is_told = '; paused: who works goes on' in shown, '<td>no, drained<td>' in shown
             self.assertEqual(is_told, (bool(paused), bool(drained)))
         self.assertEqual(self.get('/healthz')[2], 'present\n')
 
     def test_long_poll(self) -> None:
-        answers: List[int] = []
+        answers: list[int] = []
         thread = threading.Thread(target=lambda: answers.append(json.loads(self.get('/group?after=0')[2])['events']))
         thread.start()
         self.assertEqual(self.get('/group')[0], 200)
@@ -169,7 +114,7 @@ class Pages(unittest.TestCase):
 
     def test_long_poll_over_epochs(self) -> None:
         """Events of another epoch are more, also if they are fewer."""
-        answers: List[Tuple[int, int]] = []
+        answers: list[tuple[int, int]] = []
 
         def poll() -> None:
             told = json.loads(self.get('/group?after=2')[2])
@@ -180,7 +125,9 @@ class Pages(unittest.TestCase):
         thread.start()
         time.sleep(0.2)
         life, here = Life(1, 1), Promise(1, 2)
-        self.assertTrue(self.log.take('stranger', life, here, LONG) and self.log.finish(1, 2, self.log.opening().next(None, ())))
+        self.assertTrue(
+            self.log.take('stranger', life, here, LONG) and self.log.finish(1, 2, self.log.opening().next(None, ()))
+        )
         self.log.release('stranger', life)
         thread.join()
         self.assertEqual(answers, [(2, 0)])
@@ -212,11 +159,14 @@ class Pages(unittest.TestCase):
         wait_until(lambda: threading.active_count() == threads)
 
     def test_slow_readers(self) -> None:
-        """Whoever asks, and doesn't take the answer, counts up to the end of its time: of more of them all are closed."""
+        """Whoever asks, and doesn't take the answer, counts up to the end of its time: of more of them all are
+        closed."""
         big = 200, 'text/plain', 'x' * 20_000_000
         threads = threading.active_count()
         with contextlib.ExitStack() as opened:
-            with mock.patch.object(self.page, 'answer', lambda *asked: big), mock.patch.object(page.PageHandler, 'timeout', PATIENCE):
+            with mock.patch.object(self.page, 'answer', lambda *asked: big), mock.patch.object(
+                page.PageHandler, 'timeout', PATIENCE
+            ):
                 taken = [self.taken(opened.enter_context(self.client())) for _ in range(page.CONNECTIONS_MAX + 20)]
                 self.assertEqual([bool(part) for part in taken], [True] * page.CONNECTIONS_MAX + [False] * 20)
                 self.assertEqual(threading.active_count(), threads + page.CONNECTIONS_MAX)
@@ -232,15 +182,18 @@ class Pages(unittest.TestCase):
 
     def test_many_polls(self) -> None:
         """There is a bound of them, and all others are answered. They look no more often than one does."""
-        looked: List[int] = []
+        looked: list[int] = []
 
         def look(epoch: int, place: int) -> Found:
             looked.append(place)
             return Troubled.look(self.log, epoch, place)
 
         setattr(self.log, 'look', look)
-        statuses: List[int] = []
-        threads = [threading.Thread(target=lambda: statuses.append(self.get('/group?after=0')[0])) for _ in range(page.POLLS_MAX)]
+        statuses: list[int] = []
+        threads = [
+            threading.Thread(target=lambda: statuses.append(self.get('/group?after=0')[0]))
+            for _ in range(page.POLLS_MAX)
+        ]
         for thread in threads:
             thread.start()
         wait_until(lambda: self.page._polls._value == 0)
@@ -258,13 +211,13 @@ class Pages(unittest.TestCase):
         """Health, and what is measured of the member, are told all the same."""
         self.make(1000.0)
         self.begin()
-        wait_until(lambda: f'bully_node_present{{node={page.label(self.NAMES[1])}}} 1' in self.get('/metrics')[2])
+        wait_until(lambda: f'bully_node_present{page.labels(self.NAMES[1])} 1' in self.get('/metrics')[2])
         self.log.is_silent = True
         self.addCleanup(setattr, self.log, 'is_silent', False)
         wait_until(lambda: self.get('/group')[0] == 503)
         self.assertEqual(self.get('/healthz')[::2], (200, 'present\n'))
         told = dict(line.rsplit(' ', 1) for line in self.get('/metrics')[2].splitlines() if not line.startswith('#'))
-        self.assertGreater(float(told[f'bully_sure_seconds{{node={page.label(self.NAMES[1])}}}']), 700.0)
+        self.assertGreater(float(told[f'bully_sure_seconds{page.labels(self.NAMES[1])}']), 700.0)
 
     def test_a_worker_that_does_not_end(self) -> None:
         self.begin()
@@ -275,14 +228,18 @@ class Pages(unittest.TestCase):
         self.assertEqual(self.get('/healthz')[::2], (503, 'its worker does not end\n'))
         self.assertRegex(self.get('/')[2], 'nodes present; its worker has not stopped for 1[0-9][.][0-9] s<')
         told = dict(line.rsplit(' ', 1) for line in self.get('/metrics')[2].splitlines() if not line.startswith('#'))
-        self.assertGreaterEqual(float(told[f'bully_stopping_seconds{{node={page.label(self.NAMES[1])}}}']), 10.0)
+        self.assertGreaterEqual(float(told[f'bully_stopping_seconds{page.labels(self.NAMES[1])}']), 10.0)
         self.workers._left, self.workers._stop_begun = [], None
 
     def test_an_epoch_that_is_not_told(self) -> None:
         """Where the log doesn't answer with what the next epoch began with, the page goes on once it does."""
         life, here = Life(1, 1), Promise(1, 0)
-        self.assertTrue(self.log.take('stranger', life, here, LONG) and self.log.finish(1, 0, self.log.opening().next(None, ())))
-        with mock.patch.object(page, 'LOOK_SECONDS', 0.0), mock.patch.object(self.log, 'opening', side_effect=Unanswered('silent')) as asked:
+        self.assertTrue(
+            self.log.take('stranger', life, here, LONG) and self.log.finish(1, 0, self.log.opening().next(None, ()))
+        )
+        with mock.patch.object(page, 'LOOK_SECONDS', 0.0), mock.patch.object(
+            self.log, 'opening', side_effect=Unanswered('silent')
+        ) as asked:
             for _ in range(2):
                 self.assertEqual((self.get('/group')[0], self.get('/group')[2]), (503, 'silent\n'))
         self.assertEqual(asked.call_count, 4)
@@ -326,7 +283,7 @@ class Pages(unittest.TestCase):
         self.begin()
         self.assertEqual(json.loads(self.get('/group')[2])['behind'], {})
         name, life = self.NAMES[0], Life(7, 1)
-        self.assertIn(f'bully_idle_behind_seconds{{node={page.label(name)}}} 0.000', self.get('/metrics')[2])
+        self.assertIn(f'bully_idle_behind_seconds{page.labels(name)} 0.000', self.get('/metrics')[2])
         self.assertTrue(self.log.take(name, life, Promise(1, len(self.log.rows)), LONG))
         with self.log._changed:  # it works
             self.log.leases[name] = self.log.leases[name]._replace(holder=Holder(life, Promise()))
@@ -346,7 +303,3 @@ class Pages(unittest.TestCase):
         self.assertEqual(self.get('/group', Host=f'localhost:{self.page.port}')[0], 200)
         for target in ('/group?after=x', '/group?after=-1', '/group?after=99999999999999'):
             self.assertEqual(self.get(target)[0], 200)
-
-
-if __name__ == '__main__':
-    unittest.main()

@@ -1,6 +1,6 @@
 ghost use Rattle.std.specs.Prelude.{◌<◌, IfSome};
 
-/// Pseudo-random numbers: Marsaglia's xorshift with 64 bits. `bindings/python/network.py` has the same ones.
+/// Pseudo-random numbers: Marsaglia's xorshift with 64 bits. `bindings/python/tests/network.py` has the same ones.
 #[derive(Drop)]
 pub struct Random(pub u64);
 

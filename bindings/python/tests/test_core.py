@@ -1,24 +1,24 @@
-#!/usr/bin/env python3
-"""Tests of settlements and of a member's rules. What is wanted comes from `docs/ALGORITHM.md` and `include/bully.h`, and
-never from what the library answered. `try` runs them."""
+"""Tests of settlements and of a member's rules. What is wanted comes from `docs/ALGORITHM.md` and `include/bully.h`,
+and never from what the library answered. `try` runs them."""
+from __future__ import annotations
+
 import copy
 import pickle
 import random
 import re
 import unittest
+from collections.abc import Callable
 from dataclasses import FrozenInstanceError, replace
 from enum import Enum
-from pathlib import Path
-from typing import Callable, Dict, List, Optional, Tuple, Type
 
 import bully
 from bully import NotLearned, Owned, Replica, Status, check
 from bully.member import (
-    TTL_MAX, TTL_MIN, Ask, Begin, Core, End, Ending, Life, Opening, Presence, Present, Promise, Request, Rest, Seen, Step, Stop, StoreAnswer,
-    Unknown, Until, Wait, Way, Work,
+    TTL_MAX, TTL_MIN, Ask, Begin, Core, End, Ending, Life, Opening, Presence, Present, Promise, Request, Rest, Seen,
+    Step, Stop, StoreAnswer, Unknown, Until, Wait, Way, Work,
 )  # fmt: skip
+from .places import ROOT
 
-ROOT = Path(__file__).resolve().parents[2]
 TWO = 'bully,1,2,2'
 ONE = Opening('bully,1,1,1', 7, 1, 22)
 FIRST, SECOND = Life(5, 1), Life(5, 2)
@@ -29,7 +29,7 @@ BEHIND = ['start,2', 'run,2', 'return,2', 'move,2']
 ALONE = ['recover,1', 'move,1', 'move,1', 'move,1', 'plan,1,1', 'move,1']
 
 
-def settled(table: str) -> List[str]:
+def settled(table: str) -> list[str]:
     return [*BEFORE, f'plan,2,{table}', *BEHIND]
 
 
@@ -39,7 +39,7 @@ class Numbers(unittest.TestCase):
     def test_numbers(self) -> None:
         text = (ROOT / 'include' / 'bully.h').read_text()
         named = {name: int(number) for name, number in re.findall(r'\bBULLY_([A-Z_]+)(?: =)? (\d+)\b', text)}
-        prefixes: Dict[Type[Enum], str] = {Ending: 'ENDING_', Until: 'UNTIL_', StoreAnswer: 'STORE_', Way: 'WORK_'}
+        prefixes: dict[type[Enum], str] = {Ending: 'ENDING_', Until: 'UNTIL_', StoreAnswer: 'STORE_', Way: 'WORK_'}
         for kind, prefix in prefixes.items():
             for number, name in enumerate(kind.__members__, 1):
                 self.assertEqual(named[prefix + name], number)
@@ -49,26 +49,33 @@ class Numbers(unittest.TestCase):
 class Settling(unittest.TestCase):
     def test_a_group_of_two(self) -> None:
         with Replica(TWO) as replica:
-            self.assertEqual((replica.settle([]), replica.is_at_rest([], 0xFFFF_FFFF), replica.is_at_rest([1])), ([], True, False))
+            self.assertEqual(
+                (replica.settle([]), replica.is_at_rest([], 0xFFFF_FFFF), replica.is_at_rest([1])), ([], True, False)
+            )
             self.assertEqual(replica.settle({1, 2}), settled('1 2'))
             self.assertEqual(replica.settle((2, 1, 2), [2, 1]), settled('2 1'))
             self.assertEqual(replica.settle(iter([2, 1]), (0, 1)), settled('2 1'))
             self.assertEqual((replica.rows, replica.owned(1)), (0, None))
             replica.learn(settled('1 2'))
             self.assertEqual([replica.is_at_rest([1, 2], place) for place in (0, 11, 12)], [True, True, False])
-            some: List[List[int]] = [[1], [2], []]
+            some: list[list[int]] = [[1], [2], []]
             self.assertEqual([replica.is_at_rest(present) for present in some], [False] * 3)
             self.assertEqual((replica.owned(1), replica.owned(2, 11)), (Owned(12, (0,)), Owned(12, (1,))))
             self.assertEqual((replica.owned(1, 12), replica.owned(2, 0xFFFF_FFFF)), (None, None))
 
     def test_one_of_two_is_left(self) -> None:
-        wanted = ['crash,1', 'recover,1', 'crash,2', 'start,1', 'lose,1', 'return,1', 'move,1', 'move,1', 'move,1', 'plan,1,1 1', 'move,1']
+        wanted = [
+            'crash,1', 'recover,1', 'crash,2', 'start,1', 'lose,1', 'return,1', 'move,1', 'move,1', 'move,1',
+            'plan,1,1 1', 'move,1',
+        ]  # fmt: skip
         with Replica(TWO) as replica:
             replica.learn(settled('1 2'))
             self.assertEqual(replica.settle([1], [2, 2]), wanted)  # (a log with a plan plans from that)
             replica.learn(wanted)
             self.assertTrue(replica.is_at_rest([1], 25))
-            self.assertEqual((replica.owned(1, 25), replica.owned(1, 26), replica.owned(2)), (Owned(26, (0, 1)), None, None))
+            self.assertEqual(
+                (replica.owned(1, 25), replica.owned(1, 26), replica.owned(2)), (Owned(26, (0, 1)), None, None)
+            )
             self.assertEqual(replica.settle([]), ['crash,1'])
             self.assertTrue(check('\n'.join([TWO, *settled('1 2'), *wanted, '']).encode()).is_lawful)
 
@@ -92,15 +99,18 @@ class Settling(unittest.TestCase):
                 self.assertTrue(replica.is_at_rest(present, len(rows)))
                 for node in range(1, nodes + 1):
                     status = Status.NORMAL if node in present else Status.DOWN
-                    self.assertEqual((replica.status(node), replica.coordinator(node)), (status, max(present) if node in present else None))
+                    self.assertEqual(
+                        (replica.status(node), replica.coordinator(node)),
+                        (status, max(present) if node in present else None),
+                    )
                 owned = [replica.owned(node, len(rows)) for node in range(1, nodes + 1)]
                 parts = sorted(part for each in owned if each for part in each.partitions)
                 self.assertEqual(parts, list(range(replica.partitions)) if present else [])
                 self.assertTrue(check(''.join(f'{row}\n' for row in (header, *rows, *more)).encode()).is_lawful)
 
-    def random_log(self, replica: Replica, chance: random.Random) -> List[str]:
+    def random_log(self, replica: Replica, chance: random.Random) -> list[str]:
         """A lawful log of up to 40 rows, which the replica has learned."""
-        rows: List[str] = []
+        rows: list[str] = []
         for _ in range(chance.randrange(40)):
             node = chance.randrange(1, replica.nodes + 1)
             try:
@@ -114,9 +124,9 @@ class Settling(unittest.TestCase):
 
     def test_refusals(self) -> None:
         with Replica(TWO) as replica:
-            cases: List[Tuple[Type[Exception], List[int], Optional[List[int]]]] = [
-                (bully.BadNode, [0], None), (bully.BadNode, [1, 3], [1]), (bully.TableLength, [1], [1]), (bully.TableLength, [1], []),
-                (bully.TableLength, [], [1, 1, 1]), (bully.TableOwner, [1], [1, 3]),
+            cases: list[tuple[type[Exception], list[int], list[int] | None]] = [
+                (bully.BadNode, [0], None), (bully.BadNode, [1, 3], [1]), (bully.TableLength, [1], [1]),
+                (bully.TableLength, [1], []), (bully.TableLength, [], [1, 1, 1]), (bully.TableOwner, [1], [1, 3]),
             ]  # fmt: skip
             for fault, present, old in cases:
                 with self.subTest(present=present, old=old), self.assertRaises(fault):
@@ -134,7 +144,11 @@ class Settling(unittest.TestCase):
             with self.assertRaises(ValueError):
                 replica.owned(1, 0x1_0000_0000)
             self.assertEqual((replica.rows, replica.events), (0, 0))
-        calls: List[Callable[[], object]] = [lambda: replica.settle([0]), lambda: replica.is_at_rest([1]), lambda: replica.owned(1)]
+        calls: list[Callable[[], object]] = [
+            lambda: replica.settle([0]),
+            lambda: replica.is_at_rest([1]),
+            lambda: replica.owned(1),
+        ]
         for call in calls:
             with self.assertRaises(bully.Closed):
                 call()
@@ -153,7 +167,7 @@ class Stories(unittest.TestCase):
     def ask(self, now: int, request: Request, life: Life = Life(0, 0), place: int = 0) -> None:
         self.assertEqual(self.core.next(now), Ask(request, life, place))
 
-    def looked(self, now: int, place: Optional[int] = None, is_wished: bool = False) -> None:
+    def looked(self, now: int, place: int | None = None, is_wished: bool = False) -> None:
         presences = () if place is None else (Presence(1, FIRST, Promise(7, place)),)
         self.core.looked(now, Seen(7, presences, False, is_wished))
 
@@ -179,9 +193,14 @@ class Stories(unittest.TestCase):
         core = self.core
         self.begin()
         self.assertEqual((core.owned(), core.life, core.sure_until), (Owned(5, (0,)), Present(FIRST, 10), 800_010))
-        self.assertEqual((core.promised, core.work, core.ending, core.is_wished), (0, Work(Way.WORKING, 5), None, False))
+        self.assertEqual(
+            (core.promised, core.work, core.ending, core.is_wished), (0, Work(Way.WORKING, 5), None, False)
+        )
         self.assertEqual((core.epoch, core.node, core.place, core.rows, core.events, core.token), (7, 1, 6, 6, 6, 5))
-        self.assertEqual((core.state(1).status, core.last_table, core.planner, core.nodes, core.partitions), (Status.NORMAL, (1,), 1, 1, 1))
+        self.assertEqual(
+            (core.state(1).status, core.last_table, core.planner, core.nodes, core.partitions),
+            (Status.NORMAL, (1,), 1, 1, 1),
+        )
         self.assertEqual(core.next(100), Wait(249_910, Until.ANY_IDLE))
         core.woke()
         self.ask(110, Request.LOOK)
@@ -204,7 +223,9 @@ class Stories(unittest.TestCase):
         self.core.lost(4)
         self.assertEqual(self.core.work, Work(Way.WORKING, 5))
         self.core.lost(5)
-        self.assertEqual((self.core.work, self.core.next(110), self.core.next(120)), (Work(Way.LOST, 5), Stop(), Rest(249_890)))
+        self.assertEqual(
+            (self.core.work, self.core.next(110), self.core.next(120)), (Work(Way.LOST, 5), Stop(), Rest(249_890))
+        )
         self.core.stopped()
         self.assertEqual(self.core.next(130), Begin(5))
 
@@ -240,7 +261,9 @@ class Stories(unittest.TestCase):
         with self.assertRaises(bully.BadNode):
             self.core.followed(180, replace(ONE, epoch=8, node=2))
         self.core.followed(180, Opening('bully,1,1,3', 8, 1, 22, (1, 0, 0)))
-        self.assertEqual((self.core.epoch, self.core.place, self.core.partitions, self.core.life), (8, 0, 3, Present(FIRST, 10)))
+        self.assertEqual(
+            (self.core.epoch, self.core.place, self.core.partitions, self.core.life), (8, 0, 3, Present(FIRST, 10))
+        )
         self.ask(190, Request.LOOK)
         self.core.passed()
         self.ask(200, Request.FOLLOW)
@@ -249,7 +272,11 @@ class Stories(unittest.TestCase):
         self.ask(220, Request.RELEASE, FIRST)
 
     def test_a_log_is_broken(self) -> None:
-        for rows, cause in ((['recover,1', 'recover,1'], bully.IsUp), (['nothing,1'], bully.BadRow), (['\ufeffrecover,1'], bully.BadRow)):
+        for rows, cause in (
+            (['recover,1', 'recover,1'], bully.IsUp),
+            (['nothing,1'], bully.BadRow),
+            (['\ufeffrecover,1'], bully.BadRow),
+        ):
             with self.subTest(rows=rows), Core(ONE, 5, TTL_MIN) as core:
                 core.learn(rows)
                 self.assertEqual(core.ending, Ending.BROKEN)
@@ -281,9 +308,9 @@ class Stories(unittest.TestCase):
             (bully.BadNode, replace(ONE, node=0), TTL_MIN), (bully.BadNode, replace(ONE, node=2), TTL_MIN),
             (bully.TableLength, replace(ONE, old=(1, 1)), TTL_MIN), (bully.TableLength, replace(ONE, old=()), TTL_MIN),
             (bully.TableOwner, replace(ONE, old=(2,)), TTL_MIN), (bully.BadRowsMax, replace(ONE, rows_max=21), TTL_MIN),
-            (bully.BadRowsMax, replace(ONE, rows_max=1_000_001), TTL_MIN),
-            (bully.BadTtl, ONE, TTL_MIN - 1), (bully.BadTtl, ONE, TTL_MAX + 1),
-            (ValueError, replace(ONE, epoch=-1), TTL_MIN), (ValueError, replace(ONE, node=65536), TTL_MIN), (ValueError, ONE, -1),
+            (bully.BadRowsMax, replace(ONE, rows_max=1_000_001), TTL_MIN), (bully.BadTtl, ONE, TTL_MIN - 1),
+            (bully.BadTtl, ONE, TTL_MAX + 1), (ValueError, replace(ONE, epoch=-1), TTL_MIN),
+            (ValueError, replace(ONE, node=65536), TTL_MIN), (ValueError, ONE, -1),
         ):  # fmt: skip
             with self.subTest(opening=opening, ttl=ttl), self.assertRaises(fault):
                 Core(opening, 5, ttl)
@@ -298,7 +325,7 @@ class Stories(unittest.TestCase):
             self.core.next(1 << 64)
 
     def test_it_is_one(self) -> None:
-        copying: List[Callable[[Core], object]] = [copy.copy, copy.deepcopy, pickle.dumps]
+        copying: list[Callable[[Core], object]] = [copy.copy, copy.deepcopy, pickle.dumps]
         for call in copying:
             with self.assertRaises(TypeError):
                 call(self.core)
@@ -307,7 +334,9 @@ class Stories(unittest.TestCase):
             ONE.epoch = 8  # type: ignore[misc]
         self.core.close()
         self.assertEqual((repr(self.core), self.core.is_closed), ('<Core closed>', True))
-        calls: List[Callable[[], object]] = [lambda: self.core.next(0), self.core.settlement, self.core.woke, self.core.close, lambda: self.core.place]
+        calls: list[Callable[[], object]] = [
+            lambda: self.core.next(0), self.core.settlement, self.core.woke, self.core.close, lambda: self.core.place,
+        ]  # fmt: skip
         for closed in calls:
             with self.assertRaises(bully.Closed):
                 closed()
@@ -318,8 +347,8 @@ class Store:
 
     def __init__(self, header: str) -> None:
         self.header = header
-        self.log: List[str] = []
-        self.presences: Dict[int, Presence] = {}
+        self.log: list[str] = []
+        self.presences: dict[int, Presence] = {}
 
     def ask(self, core: Core, now: int, ask: Ask) -> None:
         """Does what is asked, and tells what became of it."""
@@ -353,7 +382,7 @@ class Store:
 
 
 class Groups(unittest.TestCase):
-    def settle(self, store: Store, cores: List[Core], now: int) -> int:
+    def settle(self, store: Store, cores: list[Core], now: int) -> int:
         """Each does what it does, until all wait: the time then."""
         for _ in range(200):
             waiting = 0
@@ -372,7 +401,7 @@ class Groups(unittest.TestCase):
                 return now
         raise AssertionError(f'no rest behind {store.log}')
 
-    def works(self, cores: List[Core]) -> Tuple[int, ...]:
+    def works(self, cores: list[Core]) -> tuple[int, ...]:
         owned = [core.owned() for core in cores]
         return tuple(sorted(part for each in owned if each for part in each.partitions))
 
@@ -394,7 +423,3 @@ class Groups(unittest.TestCase):
         self.assertTrue(check(''.join(f'{row}\n' for row in (store.header, *store.log)).encode()).is_lawful)
         for core in cores:
             core.close()
-
-
-if __name__ == '__main__':
-    unittest.main()

@@ -14,20 +14,23 @@ import subprocess
 import tempfile
 import unittest
 from base64 import b64decode, b64encode
+from collections.abc import Sequence
 from pathlib import Path
-from typing import Any, Dict, List, NamedTuple, Optional, Sequence, Tuple
+from typing import Any, NamedTuple
 from unittest import mock
 
 from bully import etcd
 from bully.epochs import Opening
 from bully.etcd import EtcdLog
 from bully.gateway import Answer, Endpoint
-from laws import OPENING, has_stopped, wait_until
+from .processes import has_stopped
+from .steps import OPENING
+from .waiting import wait_until
 
 PROGRAM = shutil.which('etcd')
 QUICK = ('--heartbeat-interval', '50', '--election-timeout', '500')  # milliseconds; so the shortest lease is of 1 s
 
-Json = Dict[str, Any]
+Json = dict[str, Any]
 
 
 def coded(word: str) -> str:
@@ -38,7 +41,7 @@ def decoded(word: str) -> str:
     return b64decode(word).decode()
 
 
-def free_ports(count: int) -> List[int]:
+def free_ports(count: int) -> list[int]:
     """Ports of the loopback on which nobody listens."""
     found = [socket.create_server(('127.0.0.1', 0)) for _ in range(count)]
     ports = [int(each.getsockname()[1]) for each in found]
@@ -48,14 +51,15 @@ def free_ports(count: int) -> List[int]:
 
 
 class Place(NamedTuple):
-    """Where a server listens: for clients, and for the other servers; and the words by which a process is begun there."""
+    """Where a server listens: for clients, and for the other servers; and the words by which a process is begun
+    there."""
 
     client: Endpoint
     peer: Endpoint
-    within: Tuple[str, ...] = ()
+    within: tuple[str, ...] = ()
 
 
-def free_places(count: int) -> List[Place]:
+def free_places(count: int) -> list[Place]:
     """Places on the loopback."""
     found = [Endpoint('127.0.0.1', port) for port in free_ports(2 * count)]
     return [Place(client, peer) for client, peer in zip(found[::2], found[1::2])]
@@ -69,11 +73,11 @@ class Server:
         self.folder = folder
         client, peer = f'{"https" if "--cert-file" in words else "http"}://{place.client}', f'http://{place.peer}'
         self.words = [
-            *place.within, str(PROGRAM), '--name', name, '--data-dir', str(folder / name), '--listen-client-urls', client,
-            '--advertise-client-urls', client, '--listen-peer-urls', peer, '--initial-advertise-peer-urls', peer,
-            '--initial-cluster', cluster, *words,
+            *place.within, str(PROGRAM), '--name', name, '--data-dir', str(folder / name), '--listen-client-urls',
+            client, '--advertise-client-urls', client, '--listen-peer-urls', peer, '--initial-advertise-peer-urls',
+            peer, '--initial-cluster', cluster, *words,
         ]  # fmt: skip
-        self.process: Optional['subprocess.Popen[bytes]'] = None
+        self.process: subprocess.Popen[bytes] | None = None
 
     def start(self) -> None:
         with open(self.folder / f'{self.name}.said', 'ab') as said:
@@ -99,7 +103,7 @@ class Server:
     def has_ended(self) -> bool:
         return self.process is None or self.process.poll() is not None
 
-    def ask(self, path: str, told: Json, tls: Optional[ssl.SSLContext] = None, token: str = '') -> Json:
+    def ask(self, path: str, told: Json, tls: ssl.SSLContext | None = None, token: str = '') -> Json:
         """What it answers. Raises OSError, HTTPException, ValueError."""
         if tls is None:
             connection = http.client.HTTPConnection(*self.place.client, timeout=5.0)
@@ -112,7 +116,7 @@ class Server:
             raise ValueError(answer['error'])
         return answer
 
-    def is_up(self, tls: Optional[ssl.SSLContext] = None) -> bool:
+    def is_up(self, tls: ssl.SSLContext | None = None) -> bool:
         """Whether it answers what needs a quorum; also that it doesn't know who asks."""
         try:
             self.ask('/v3/kv/range', {'key': coded('x')}, tls)
@@ -122,7 +126,7 @@ class Server:
             return False
         return True
 
-    def keys(self, prefix: str = '') -> Dict[str, Json]:
+    def keys(self, prefix: str = '') -> dict[str, Json]:
         """What is known of the keys that begin so."""
         found = self.ask('/v3/kv/range', {'key': coded(prefix or '\0'), 'range_end': coded(prefix + '\x7f')})
         return {decoded(pair['key']): pair for pair in found.get('kvs', ())}
@@ -143,12 +147,13 @@ class Servers:
     """Servers that are one etcd."""
 
     def __init__(
-        self, count: int = 1, words: Sequence[str] = QUICK, tls: Optional[ssl.SSLContext] = None, places: Sequence[Place] = ()
+        self, count: int = 1, words: Sequence[str] = QUICK, tls: ssl.SSLContext | None = None,
+        places: Sequence[Place] = (),
     ) -> None:  # fmt: skip
         """As many servers as there are places, or else so many on the loopback."""
         self._folder = tempfile.TemporaryDirectory()
         self._tls = tls
-        self.each: List[Server] = []
+        self.each: list[Server] = []
         try:
             for _ in range(5):  # others may take a port before its server does
                 self.each = self._begun(places or free_places(count), words)
@@ -166,7 +171,7 @@ class Servers:
         """Whether one has."""
         return any(server.has_ended for server in self.each)
 
-    def _begun(self, places: Sequence[Place], words: Sequence[str]) -> List[Server]:
+    def _begun(self, places: Sequence[Place], words: Sequence[str]) -> list[Server]:
         named = [(f's{number}', place) for number, place in enumerate(places)]
         cluster = ','.join(f'{name}=http://{place.peer}' for name, place in named)
         shutil.rmtree(self._folder.name)
@@ -181,7 +186,7 @@ class Servers:
 
     def leader(self) -> Server:
         """The one that is known as the leader to a server that answers."""
-        found: List[Server] = []
+        found: list[Server] = []
 
         def is_found() -> bool:
             found[:] = [server for server in self.each if self.leads(server)]
@@ -211,7 +216,7 @@ class Servers:
 
 # ---- What tests share.
 
-_alone: List[Servers] = []  # the server of the module that runs
+_alone: list[Servers] = []  # the server of the module that runs
 NUMBERS = itertools.count()  # of tests, so that none meets what another one left
 
 
@@ -247,7 +252,7 @@ class WithEtcd(unittest.TestCase):
         self.addCleanup(log.close)
         return log
 
-    def servers(self, count: int = 1, words: Sequence[str] = (), tls: Optional[ssl.SSLContext] = None) -> Servers:
+    def servers(self, count: int = 1, words: Sequence[str] = (), tls: ssl.SSLContext | None = None) -> Servers:
         """Servers of the test's own."""
         servers = Servers(count, [*QUICK, *words], tls)
         self.addCleanup(servers.close)
@@ -275,7 +280,12 @@ class WithCertificates(WithEtcd):
 
     def secure(self, certificate: str = 'server', *words: str) -> Servers:
         """Servers with this certificate."""
-        files = ['--cert-file', str(self.certificates / f'{certificate}.pem'), '--key-file', str(self.certificates / f'{certificate}.key')]
+        files = [
+            '--cert-file',
+            str(self.certificates / f'{certificate}.pem'),
+            '--key-file',
+            str(self.certificates / f'{certificate}.key'),
+        ]
         tls = self.tls(client='client')
         tls.check_hostname = False
         return self.servers(1, [*files, *words], tls)
@@ -289,28 +299,37 @@ def make_certificates(folder: Path) -> None:
     """Makes authorities `mine` and `other`; and certificates `server`, `elsewhere` and `client` by the first."""
 
     def openssl(*words: str) -> None:
-        subprocess.run(['openssl', *words], cwd=folder, check=True, stdout=subprocess.DEVNULL, stderr=subprocess.DEVNULL)
+        subprocess.run(
+            ['openssl', *words], cwd=folder, check=True, stdout=subprocess.DEVNULL, stderr=subprocess.DEVNULL
+        )
 
     key = ['-newkey', 'ec', '-pkeyopt', 'ec_paramgen_curve:prime256v1', '-nodes']
     for name in ('mine', 'other'):
-        openssl('req', *key, '-new', '-x509', '-days', '2', '-subj', f'/CN={name}', '-keyout', f'{name}.key', '-out', f'{name}.pem')
+        openssl(
+            'req', *key, '-new', '-x509', '-days', '2', '-subj', f'/CN={name}', '-keyout', f'{name}.key', '-out',
+            f'{name}.pem',
+        )  # fmt: skip
     for name, place in (('server', 'IP:127.0.0.1'), ('elsewhere', 'DNS:elsewhere.example'), ('client', 'DNS:client')):
         openssl('req', *key, '-new', '-subj', f'/CN={name}', '-keyout', f'{name}.key', '-out', f'{name}.csr')
         (folder / 'more').write_text(f'subjectAltName = {place}\n')
         openssl(
-            'x509', '-req', '-in', f'{name}.csr', '-CA', 'mine.pem', '-CAkey', 'mine.key', '-CAcreateserial', '-days', '2', '-extfile', 'more',
-            '-out', f'{name}.pem',
+            'x509', '-req', '-in', f'{name}.csr', '-CA', 'mine.pem', '-CAkey', 'mine.key', '-CAcreateserial', '-days',
+            '2', '-extfile', 'more', '-out', f'{name}.pem',
         )  # fmt: skip
 
 
 def add_users(server: Server) -> None:
-    """Users of an etcd that log in from now on, each with its name and ` password`: `member` writes below `x/`, `reader` reads there, and
-    `other` writes elsewhere."""
+    """Users of an etcd that log in from now on, each with its name and ` password`: `member` writes below `x/`,
+    `reader` reads there, and `other` writes elsewhere."""
     for user, role in (('root', 'root'), ('member', 'group'), ('reader', 'looking'), ('other', 'elsewhere')):
         server.ask('/v3/auth/user/add', {'name': user, 'password': f'{user} password'})
         server.ask('/v3/auth/role/add', {'name': role})
         server.ask('/v3/auth/user/grant', {'user': user, 'role': role})
-    for role, kind, prefix in (('group', 'READWRITE', 'x/'), ('looking', 'READ', 'x/'), ('elsewhere', 'READWRITE', 'y/')):
+    for role, kind, prefix in (
+        ('group', 'READWRITE', 'x/'),
+        ('looking', 'READ', 'x/'),
+        ('elsewhere', 'READWRITE', 'y/'),
+    ):
         permission = {'permType': kind, 'key': coded(prefix), 'range_end': coded(prefix[:-1] + '0')}
         server.ask('/v3/auth/role/grant', {'name': role, 'perm': permission})
     server.ask('/v3/auth/enable', {})
@@ -343,5 +362,7 @@ def prune_in_part(log: EtcdLog, first: int) -> None:
         left.pop()
         return change(conditions, done, *refused)
 
-    with mock.patch.object(etcd, 'PAGE', 2), mock.patch.object(log, '_change', end), contextlib.suppress(KeyboardInterrupt):
+    with mock.patch.object(etcd, 'PAGE', 2), mock.patch.object(log, '_change', end), contextlib.suppress(
+        KeyboardInterrupt
+    ):
         log.prune(first)

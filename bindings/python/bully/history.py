@@ -1,16 +1,50 @@
-"""Reads logs of the form before this one, in which each row stood by itself, the header among them, and an epoch had an end behind its rows.
+"""The history of a group: the log of an epoch as a trace, also of a log of the form before this one.
 
-Members of that form appended row by row; no member of today may share a log with them. `bully-member history` writes the trace.
+In that form each row stood by itself, the header among them, and an epoch had an end behind its rows. No member of
+today may share such a log.
 """
 from __future__ import annotations
 
 import contextlib
 import ssl
-from typing import List, Optional, Sequence
+import time
+from collections.abc import Callable, Mapping, Sequence
 
-from .gateway import KV_RANGE, Client, below, coded, one, pairs_of, read_address
-from .logs import DamagedLog, NoEpoch
+from .gateway import KV_RANGE, Client, pairs_of, range_below, range_from, read_address
+from .logs import DamagedLog, Log, NoEpoch
 from .sqlite import calls, connection, form_of, identity
+
+
+def trace(log: Log, epoch: int | None, has_times: bool = False) -> Sequence[str]:
+    """The trace of an epoch, or of the current one, from its header on; or the same with times. Closes the log."""
+    with contextlib.closing(log):
+        number = log.epochs()[-1] if epoch is None else epoch
+        rows = [log.opening(number).header, *log.read(number, 0)]
+        return timed(rows, log.times(number)) if has_times else rows
+
+
+def traced(log: Callable[[], Log], older: Sequence[str] | None, epoch: int | None, has_times: bool) -> Sequence[str]:
+    """The same of a log, unless an older one was found, which has no times."""
+    if older is None:
+        return trace(log(), epoch, has_times)
+    return timed(older, {}) if has_times else older
+
+
+def timed(rows: Sequence[str], times: Mapping[int, int | None]) -> list[str]:
+    """The rows of a trace, each behind the time of its append, if that is kept, and a comma."""
+    lines, told = [], ''
+    for place, row in enumerate(rows, -1):
+        told = time_text(times[place]) if place in times else told
+        lines.append(f'{told},{row}')
+    return lines
+
+
+def time_text(milliseconds: int | None) -> str:
+    """A time of UTC by ISO 8601; nothing, if there is none."""
+    if milliseconds is None:
+        return ''
+    return time.strftime('%Y-%m-%dT%H:%M:%S', time.gmtime(milliseconds // 1000)) + f'.{milliseconds % 1000:03}Z'
+
 
 FORM = 2  # of a file
 OPENING = b'{"epoch": '  # with which an opening begins in etcd
@@ -18,7 +52,7 @@ END = 'end,'  # with which the end of an epoch begins
 PAGE = 1000  # rows that are read in one request
 
 
-def file_trace(path: str, epoch: Optional[int]) -> Optional[Sequence[str]]:
+def file_trace(path: str, epoch: int | None) -> Sequence[str] | None:
     """The trace of an epoch, or of the current one, in a file of the older form; none, if it has another one.
 
     Raises NoLog, ForeignLog, DamagedLog, NoEpoch, Unanswered."""
@@ -34,7 +68,9 @@ def file_trace(path: str, epoch: Optional[int]) -> Optional[Sequence[str]]:
     return checked(path, number, found, rows[-1][0] + 1 if rows else 0)
 
 
-def etcd_trace(address: str, epoch: Optional[int], tls: Optional[ssl.SSLContext], user: str, password: str) -> Optional[Sequence[str]]:
+def etcd_trace(
+    address: str, epoch: int | None, tls: ssl.SSLContext | None, user: str, password: str
+) -> Sequence[str] | None:
     """The trace of an epoch, or of the current one, in an etcd, if the log there is of the older form; else none.
 
     Raises LogError; ValueError of an address that is none."""
@@ -42,7 +78,7 @@ def etcd_trace(address: str, epoch: Optional[int], tls: Optional[ssl.SSLContext]
     client, root = Client(read, 1.0, tls, user, password), f'{read.prefix}/'.encode()
     with contextlib.closing(client):
         client.begin()
-        last = below(root + b'opening/', limit=1, sort_order='DESCEND', sort_target='KEY')
+        last = range_below(root + b'opening/', limit=1, sort_order='DESCEND', sort_target='KEY')
         opening = pairs_of(client.ask(KV_RANGE, last, repeats=True))
         if not opening or not opening[0].value.startswith(OPENING):
             return None
@@ -52,17 +88,17 @@ def etcd_trace(address: str, epoch: Optional[int], tls: Optional[ssl.SSLContext]
 
 def read_etcd(address: str, client: Client, prefix: bytes, epoch: int) -> Sequence[str]:
     """The same, of a log of the older form."""
-    rows: List[str] = []
+    rows: list[str] = []
     while True:
         client.begin()
         begin, end = prefix + b'%010d' % len(rows), prefix + b'%010d' % (len(rows) + PAGE)
-        found = pairs_of(client.ask(KV_RANGE, one(begin, range_end=coded(end)), repeats=True))
+        found = pairs_of(client.ask(KV_RANGE, range_from(begin, end), repeats=True))
         rows += [pair.value.decode() for pair in found]
         if len(found) < PAGE:
             return checked(address, epoch, rows, int(found[-1].key[-10:]) + 1 if found else len(rows))
 
 
-def checked(where: str, epoch: int, rows: List[str], count: int) -> Sequence[str]:
+def checked(where: str, epoch: int, rows: list[str], count: int) -> Sequence[str]:
     """The rows of a trace, if they are there, and so many."""
     if not rows:
         raise NoEpoch(f'{where}: epoch {epoch} is not there')

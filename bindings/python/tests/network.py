@@ -1,19 +1,19 @@
-#!/usr/bin/env python3
 """Nodes on their own over a simulated network, which delays what they tell each other while nodes crash and recover.
 
-    BULLY_LIBRARY=FOLDER network.py NODES SEED STEPS [BREACH] > TRACE
+    BULLY_LIBRARY=FOLDER python3 -m tests.network NODES SEED STEPS [BREACH] > TRACE
 
-It does over the binding, step by step and with the same random numbers, what `crates/bully_simulator` does in Rattle: so both write
-the same trace. With a BREACH one premise is broken now and then:
+It does over the binding, step by step and with the same random numbers, what `crates/bully_simulator` does in Rattle:
+so both write the same trace. With a BREACH one premise is broken now and then:
 
     slow      calls are taken as failed while their callees are up
     invented  replies are made up
     late      requests of nodes that crashed or dropped them are delivered
     twice     requests run twice
 """
+from __future__ import annotations
+
 import sys
 from dataclasses import dataclass
-from typing import List, Optional
 
 import bully
 from bully import Agent, Setup, Status, Want
@@ -37,7 +37,7 @@ class Random:
         self._state = state
         return state
 
-    def below(self, count: int) -> Optional[int]:
+    def below(self, count: int) -> int | None:
         """A number below this one; none below 0, though the next number is used up."""
         number = self.next()
         return number % count if count else None
@@ -57,18 +57,20 @@ class Mail:
 class Network:
     """Nodes on their own, what is on its way between them, and their log: rows in which all is said."""
 
-    def __init__(self, setup: Setup, seed: int, breach: Optional[str] = None) -> None:
-        """Nodes that are all Down. One of them crashes or recovers in every tenth step; of every third seed in every hundredth."""
+    def __init__(self, setup: Setup, seed: int, breach: str | None = None) -> None:
+        """Nodes that are all Down. One of them crashes or recovers in every tenth step; of every third seed in every
+        hundredth."""
         self.agents = [Agent(setup, number + 1) for number in range(setup.nodes)]
-        self.rows: List[str] = []
+        self.rows: list[str] = []
         self._setup = setup
         self._random = Random(seed * 2 + 1)
         self._breach = breach
         self._period = 100 if seed % 3 == 0 else 10
-        self._mail: List[Mail] = []
+        self._mail: list[Mail] = []
 
     def step(self) -> None:
-        """One step: a crash or a recovery, once in a period; else a delivery, a node's turn, its timer, or a look at it."""
+        """One step: a crash or a recovery, once in a period; else a delivery, a node's turn, its timer, or a look at
+        it."""
         place = self._random.next() % len(self.agents)
         if self._random.next() % self._period == 0:
             self._fall_or_rise(place)
@@ -100,7 +102,8 @@ class Network:
         self.rows += agent.rows()
 
     def _fall_or_rise(self, place: int) -> None:
-        """A node that is up crashes, and what it sent is lost; one that is Down recovers, at times in a process of its own."""
+        """A node that is up crashes, and what it sent is lost; one that is Down recovers, at times in a process of its
+        own."""
         is_new = self._random.next() % 2 == 0
         agent = self.agents[place]
         if agent.status is Status.DOWN:
@@ -219,7 +222,8 @@ class Network:
         self._log(agent)
 
     def _tell(self, mail: Mail) -> None:
-        """A reply comes to its caller, which lets it go where that call is over; it is lost where its callee is Down."""
+        """A reply comes to its caller, which lets it go where that call is over; it is lost where its callee is
+        Down."""
         if self._is_down(mail.callee):
             self._fail(mail)
             return
@@ -234,9 +238,9 @@ class Network:
         return self.agents[node - 1].status is Status.DOWN
 
 
-def trace(nodes: int, seed: int, steps: int, breach: Optional[str] = None) -> str:
-    """The trace of a network, at whose end each node's vector stands. It has as many partitions as nodes; of an even seed tasks are
-    kept over a crash."""
+def trace(nodes: int, seed: int, steps: int, breach: str | None = None) -> str:
+    """The trace of a network, at whose end each node's vector stands. It has as many partitions as nodes; of an even
+    seed tasks are kept over a crash."""
     setup = Setup(nodes, nodes, keeps=seed % 2 == 0)
     network = Network(setup, seed, breach)
     for _ in range(steps):

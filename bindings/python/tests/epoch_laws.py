@@ -1,17 +1,15 @@
 """What each store of a shared log does with epochs: tests that a store's tests have for it."""
-import unittest
-from typing import TYPE_CHECKING, Callable, List, Tuple
+from __future__ import annotations
 
+from collections.abc import Callable
+
+from bully.clocks import SECOND
 from bully.epochs import Opening
-from bully.logs import SECOND, Holder, Log, NoEpoch
+from bully.logs import Holder, Log, NoEpoch
 from bully.member import Promise, Until
 from bully.orders import Orders
-from laws import EMPTY, OPENING, A, B, C, add, be_idle, looked, present
-
-if TYPE_CHECKING:
-    Tests = unittest.TestCase
-else:
-    Tests = object
+from .laws import Tests
+from .steps import EMPTY, OPENING, A, B, C, add, be_idle, looked, present
 
 NEXT = OPENING.next(None, (1, 2, 3, 1, 2, 3))
 
@@ -30,11 +28,11 @@ class EpochLaws(Tests):
         """Another handle of the log, as another process has one."""
         raise NotImplementedError
 
-    def pair(self) -> Tuple[Log, Log]:
+    def pair(self) -> tuple[Log, Log]:
         log = self.created()
         return log, self.handle(log)
 
-    def two(self) -> Tuple[Log, Log]:
+    def two(self) -> tuple[Log, Log]:
         """The same, where 'a' is present."""
         log, other = self.pair()
         self.assertTrue(log.take('a', A, EMPTY, self.LONG))
@@ -76,7 +74,8 @@ class EpochLaws(Tests):
         self.assertEqual(set(present(log)), {'b'})
 
     def test_promises_of_two_epochs(self) -> None:
-        """The same place of another epoch is another place: nothing is appended until all have promised that of the current one."""
+        """The same place of another epoch is another place: nothing is appended until all have promised that of the
+        current one."""
         log, other = self.two()
         self.assertTrue(log.take('b', B, EMPTY, self.LONG))
         self.assertTrue(log.finish(1, 0, NEXT))
@@ -90,8 +89,8 @@ class EpochLaws(Tests):
         self.assertTrue(log.append(2, 0, ['recover,1']))
 
     def test_late_promises_at_an_end(self) -> None:
-        """No epoch ends while somebody hasn't promised its end, a stranger or one of two epochs ago among them; and no promise that comes
-        late lets it."""
+        """No epoch ends while somebody hasn't promised its end, a stranger or one of two epochs ago among them; and no
+        promise that comes late lets it."""
         log, other = self.two()
         self.assertTrue(log.take('b', B, EMPTY, self.LONG))
         self.assertTrue(log.take('stranger', C, EMPTY, self.LONG))
@@ -100,7 +99,10 @@ class EpochLaws(Tests):
         for _ in range(3):
             opening = opening.next(None, ())
             for name, life in (('a', A), ('stranger', C), ('b', B)):
-                for late in (Promise(end.epoch - 1, 10**6), Promise(end.epoch, end.place - 1) if end.place else EMPTY):
+                for late in (
+                    Promise(end.epoch - 1, 10**6),
+                    Promise(end.epoch, end.place - 1) if end.place else EMPTY,
+                ):
                     self.assertTrue(other.promise(name, life, late))
                     self.assertFalse(other.finish(end.epoch, end.place, opening))
                 self.assertTrue(other.promise(name, life, end))
@@ -133,7 +135,9 @@ class EpochLaws(Tests):
         self.assertFalse(log.finish(1, 0, OPENING.next(one, (1, 2, 3, 1, 2, 3))))
         self.assertTrue(log.finish(1, 0, OPENING.next(two, (1, 2, 3, 1, 2, 3))))
         self.assertFalse(other.ask(one, 1), 'the epoch has ended')
-        self.assertEqual((log.opening(), log.look(2, 0).wish, other.look(1, 0).wish), (OPENING.next(two, ()), None, None))
+        self.assertEqual(
+            (log.opening(), log.look(2, 0).wish, other.look(1, 0).wish), (OPENING.next(two, ()), None, None)
+        )
 
     def test_cancelled_wishes(self) -> None:
         log, other = self.two()
@@ -175,8 +179,9 @@ class EpochLaws(Tests):
             self.assertTrue(log.finish(epoch, here.place, opening))
         other.prune(3)
         self.assertEqual((log.epochs(), log.opening(1), other.opening(2).epoch), (range(3, 5), OPENING, 2))
-        calls: List[Callable[[], object]] = [
-            lambda: log.read(2, 0), lambda: log.read(2, 3 * self.APPENDS), lambda: other.read(1, 5), lambda: log.read(5, 0),
+        calls: list[Callable[[], object]] = [
+            lambda: log.read(2, 0), lambda: log.read(2, 3 * self.APPENDS), lambda: other.read(1, 5),
+            lambda: log.read(5, 0),
         ]  # fmt: skip
         for call, epoch in zip(calls, (2, 2, 1, 5)):
             with self.assertRaisesRegex(NoEpoch, f'epoch {epoch} is not there, but 3 to 4'):

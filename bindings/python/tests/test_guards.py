@@ -1,6 +1,6 @@
-"""Tests of workers and of the guard above them. `try` runs them."""
-import ctypes
-import json
+"""Tests of workers that end at each change, and of the guard above them."""
+from __future__ import annotations
+
 import os
 import select
 import shutil
@@ -8,24 +8,19 @@ import signal
 import socket
 import subprocess
 import sys
-import tempfile
 import threading
-import unittest
 from pathlib import Path
 from types import SimpleNamespace
-from typing import Any, Dict, List, Set, cast
+from typing import Any, cast
 from unittest import mock
 
-from bully import Setup, guard, logs
-from bully.epochs import Opening, Token
-from bully.running import Assignment, Member
-from bully.settings import Settings
-from bully.worker import GUARD, GuardLost, WorkerEnded, Workers, WorkerStuck
-from laws import PATIENCE, wait_until
-from test_stores import environment
-
-ROOT = Path(__file__).resolve().parents[3]
-OPENING = Opening.first('bully,1,3,6', ('a', 'b', 'c'))
+from bully import clocks, guard
+from bully.running import Member
+from bully.worker import GuardLost, WorkerEnded, WorkerStuck, Workers
+from .below import Below, assigned
+from .places import environment
+from .processes import children, freeze, is_running, name_of, thaw
+from .waiting import PATIENCE, wait_until
 
 # A worker that is `stubborn`, or is `done` at once; with something that it started.
 WORKER = """
@@ -41,53 +36,25 @@ if way == 'done':
     sys.exit(0)
 time.sleep(1000)
 """
-# One that stays, and writes what it is told. It is `silent`, or answers too often, or ends in place of an answer, or at its second begin.
-TALKING = """
-import json, os, sys
-folder, way = sys.argv[1:]
-begun, answers = 0, os.fdopen(int(os.environ['BULLY_ANSWERS']), 'w', buffering=1)
-for line in sys.stdin:
-    told = json.loads(line)
-    begun += 'begin' in told
-    if way == 'early' and 'begin' in told:
-        print('stopped', file=answers)
-    with open(f'{folder}/told', 'a') as file:
-        file.write(f'{os.getpid()} {line}')
-    if 'stop' in told and way in ('talks', 'fails') or way == 'early' and begun == 1 and 'stop' in told:
-        print('stop', end='', file=answers, flush=True)
-        print('ped', file=answers)
-    if 'stop' in told and way == 'ends':
-        sys.exit(0)
-    if begun == 2 and way == 'fails':
-        sys.exit(9)
-"""
-# Answers without an end, and tells by a file once more of that was taken than a pipe holds.
-FLOODING = """
-import os, sys
-for _ in range(10):
-    os.write(3, bytes(65_536))
-open(sys.argv[1], 'w').close()
-while True:
-    os.write(3, bytes(65_536))
-"""
 
 # A member of an ordinary user, which is to leave, and whose worker is another one's. It tells what becomes of it.
 OTHER_USER = '''
 import logging, sys, threading, time
 from types import SimpleNamespace
 rooted, kills = sys.argv[1:]
-from bully import logs, worker
+from bully import clocks, worker
 from bully.running import Assignment
 logging.basicConfig(stream=sys.stdout, format='%(message)s')
-worker._told.error = lambda _, processes: print('these processes may work on:', processes, flush=True)
+worker._logger.error = lambda _, processes: print('these processes may work on:', processes, flush=True)
 failures, lost = [], []
-workers = worker.Workers([rooted, '--reuid', '0', '--regid', '0', '--clear-groups', 'sh', '-c', 'echo $$; exec sleep 1000'], 'x', 0.1)
+words = [rooted, '--reuid', '0', '--regid', '0', '--clear-groups', 'sh', '-c', 'echo $$; exec sleep 1000']
+workers = worker.Workers(words, 'x', 0.1)
 workers.begin(SimpleNamespace(ttl=2.0, margin=0.4, end_with=failures.append, lose=lost.append, is_leaving=True))
-workers.hear_until(logs.seconds_of_boot() + 1000.0)
+workers.hear_until(clocks.seconds_of_boot() + 1000.0)
 settings = SimpleNamespace(text=lambda *_: '{}', name=str)
 workers.start(Assignment(1, 1, (0,), settings))
 input()
-workers._guard.kill() if kills else workers.hear_until(logs.seconds_of_boot())
+workers._guard.kill() if kills else workers.hear_until(clocks.seconds_of_boot())
 stopping = threading.Thread(target=workers.stop, args=[None])
 stopping.start()
 while not workers.is_stuck:
@@ -106,24 +73,24 @@ from bully.epochs import Opening
 from bully.member import Life, Promise
 from bully.sqlite import SqliteLog
 from types import SimpleNamespace
-from bully import logs, worker
+from bully import clocks, worker
 lost = []
 workers = worker.Workers(['sleep', '1000'], 'x', 1000.0)
 workers.begin(SimpleNamespace(ttl=2.0, margin=0.4, end_with=print, lose=lost.append))
-workers.hear_until(logs.seconds_of_boot() + 1000.0)
+workers.hear_until(clocks.seconds_of_boot() + 1000.0)
 settings = SimpleNamespace(text=lambda *_: '{}', name=str)
 workers.start(worker.Assignment(1, 1, (0,), settings))
 while not Path(f'/proc/{workers._guard.pid}/task/{workers._guard.pid}/children').read_text():
     time.sleep(0.01)
 print('not yet')
-workers.hear_until(logs.seconds_of_boot() + 0.5)
+workers.hear_until(clocks.seconds_of_boot() + 0.5)
 while not lost:
     time.sleep(0.01)
 print('lost')
 workers.close()
 log = SqliteLog.create(sys.argv[1], Opening.first('bully,1,3,6'))
-log.take('a', Life(1, 1), Promise(1, 0), 5 * logs.SECOND)
-print(log._one('select until from presence') > 1_000_000 * logs.SECOND)
+log.take('a', Life(1, 1), Promise(1, 0), 5 * clocks.SECOND)
+print(log._one('select until from presence') > 1_000_000 * clocks.SECOND)
 '''
 
 # It begins a write to a file once it is told to.
@@ -137,96 +104,6 @@ file.execute('begin immediate')
 print('writes', flush=True)
 input()
 '''
-
-
-PTRACE_SEIZE, WAIT_ALL = 0x4206, 0x40000000
-frozen: Set[int] = set()
-
-
-def freeze(test: unittest.TestCase, process: int) -> None:
-    """The process can't be ended from now on, up to `thaw` from the same thread: who is killed stays there until its tracer has waited for it."""
-    traced = ctypes.CDLL(None, use_errno=True).ptrace(PTRACE_SEIZE, process, None, None)
-    test.assertEqual(traced, 0, os.strerror(ctypes.get_errno()))
-    frozen.add(process)
-    test.addCleanup(thaw, process)
-
-
-def thaw(process: int) -> None:
-    """It ends, if it hasn't been thawed before."""
-    if process in frozen:
-        frozen.remove(process)
-        os.kill(process, signal.SIGKILL)
-        os.waitpid(process, WAIT_ALL)
-
-
-def is_running(process: int) -> bool:
-    """Whether the process is there, and not only its status."""
-    try:
-        return Path(f'/proc/{process}/stat').read_text().rsplit(')', 1)[1].split()[0] != 'Z'
-    except OSError:
-        return False
-
-
-def children(process: int) -> List[int]:
-    """The processes that this one has to wait for."""
-    return [int(word) for word in Path(f'/proc/{process}/task/{process}/children').read_text().split()]
-
-
-def name_of(process: int) -> str:
-    """The program that it runs, in short."""
-    return Path(f'/proc/{process}/comm').read_text().strip()
-
-
-def descriptors_of(process: int) -> int:
-    """How many descriptors it has."""
-    return len(list(Path(f'/proc/{process}/fd').iterdir()))
-
-
-def assigned(events: int, *partitions: int) -> Assignment:
-    return Assignment(Token.of(4, events), 3, partitions, OPENING.settings)
-
-
-class Timely(Workers):
-    """Workers whose `stop` fails, and doesn't hang, if it doesn't return."""
-
-    def stop(self, assignment: Assignment) -> None:
-        raised: List[BaseException] = []
-
-        def stop() -> None:
-            try:
-                Workers.stop(self, assignment)
-            except BaseException as fault:
-                raised.append(fault)
-
-        thread = threading.Thread(target=stop, daemon=True)
-        thread.start()
-        thread.join(PATIENCE)
-        if thread.is_alive():
-            raise AssertionError('it does not return')
-        for fault in raised:
-            raise fault
-
-
-class Below(unittest.TestCase):
-    """Tests of workers below a guard."""
-
-    talks = False
-
-    def setUp(self) -> None:
-        folder = tempfile.TemporaryDirectory()
-        self.addCleanup(folder.cleanup)
-        self.folder = Path(folder.name)
-        self.failures: List[BaseException] = []
-        self.lost: List[Assignment] = []
-        self.member = SimpleNamespace(end_with=self.failures.append, lose=self.lost.append, is_leaving=False)
-
-    def made(self, words: List[str], patience: float = PATIENCE, seconds: float = 1000.0, ttl: float = 4.0) -> Workers:
-        workers = Timely(words, 'x', patience, self.talks)
-        self.member.ttl, self.member.margin = ttl, ttl / 5
-        workers.begin(cast(Member, self.member))
-        self.addCleanup(workers.close)
-        workers.hear_until(logs.seconds_of_boot() + seconds)
-        return workers
 
 
 class Guards(Below):
@@ -272,21 +149,23 @@ class Guards(Below):
             wait_until(lambda: not thread.is_alive())
 
     def test_until(self) -> None:
-        """It is killed at that moment, also while it is stopped, and with what it started. Whose worker it was is told then."""
+        """It is killed at that moment, also while it is stopped, and with what it started. Whose worker it was is told
+        then."""
         workers = self.begin('stubborn', seconds=3.0)
         os.kill(self.worker, signal.SIGSTOP)
-        until = logs.seconds_of_boot() + 0.5
+        until = clocks.seconds_of_boot() + 0.5
         workers.hear_until(until)
         workers.hear_until(until)
         wait_until(self.are_gone)
-        self.assertGreaterEqual(logs.seconds_of_boot(), until)
+        self.assertGreaterEqual(clocks.seconds_of_boot(), until)
         wait_until(lambda: self.lost)
         workers.stop(assigned(0))
         self.assertEqual((self.failures, self.lost), ([], [self.assignment]))
 
     def test_another_group(self) -> None:
         """A worker that has left its process group is told to end all the same, and its guard stays."""
-        words = 'import os, signal, sys, time; signal.signal(signal.SIGTERM, lambda *_: sys.exit(open(sys.argv[1] + "/told", "w").close()))'
+        told = 'signal.signal(signal.SIGTERM, lambda *_: sys.exit(open(sys.argv[1] + "/told", "w").close()))'
+        words = f'import os, signal, sys, time; {told}'
         leaves = 'os.setpgid(0, os.getpgid(os.getppid())); open(sys.argv[1] + "/begun", "w").close(); time.sleep(1000)'
         workers = self.made([sys.executable, '-c', f'{words}; {leaves}', str(self.folder)])
         for _ in range(2):
@@ -331,19 +210,20 @@ class Guards(Below):
         self.assertEqual(self.lost, [])
 
     def test_fails_at_once(self) -> None:
-        """It is begun again, each time twice as late, and its member doesn't end. A change of what it owns is no reason to begin it sooner."""
+        """It is begun again, each time twice as late, and its member doesn't end. A change of what it owns is no reason
+        to begin it sooner."""
         begins = self.folder / 'begins'
         workers = self.made(['sh', '-c', f'echo $BULLY_TOKEN >> {begins}; exit 7'], ttl=2.0)
         workers.start(assigned(2, 0))
         with self.assertLogs('bully', 'WARNING') as said:
             for count, rest in enumerate((0.4, 0.8, 1.6), 1):
                 wait_until(lambda: len(said.output) == count)
-                failed = logs.seconds_of_boot()
+                failed = clocks.seconds_of_boot()
                 self.assertIn(f'failed, with status 7, and is begun again in {rest:.1f} s', said.output[-1])
                 workers.stop(assigned(0))
                 workers.start(assigned(count + 2, 0))
                 wait_until(lambda: assigned(count + 2, 0) in self.lost)
-                self.assertGreater(logs.seconds_of_boot() - failed, rest - 0.1)
+                self.assertGreater(clocks.seconds_of_boot() - failed, rest - 0.1)
                 self.assertEqual((len(begins.read_text().split()), workers.rest_seconds), (count, 0.0))
                 workers.stop(assigned(0))
                 workers.start(assigned(count + 2, 0))
@@ -352,12 +232,12 @@ class Guards(Below):
         self.assertEqual(self.failures, [])
 
     def test_stuck(self) -> None:
-        """A worker that doesn't end though it was killed is told of, and isn't waited for by a member that is to leave. Its guard is there until
-        it has ended."""
+        """A worker that doesn't end though it was killed is told of, and isn't waited for by a member that is to leave.
+        Its guard is there until it has ended."""
         workers = self.made([sys.executable, '-c', WORKER, str(self.folder), 'stubborn'], 0.1, ttl=1.0)
         self.begin_again(workers)
         freeze(self, self.worker)
-        raised: List[WorkerStuck] = []
+        raised: list[WorkerStuck] = []
 
         def stop() -> None:
             try:
@@ -405,8 +285,8 @@ class Guards(Below):
         self.assertEqual((self.failures, self.lost, workers._guard.poll()), ([], [], None))
 
     def test_stopped_guard(self) -> None:
-        """One that doesn't kill the worker at its moment, or doesn't tell that it has stopped, is killed with all that it began. So is one that
-        doesn't begin it."""
+        """One that doesn't kill the worker at its moment, or doesn't tell that it has stopped, is killed with all that
+        it began. So is one that doesn't begin it."""
         for stops in (False, True):
             with self.subTest(stops=stops):
                 workers = self.begin('stubborn', patience=0.1)
@@ -414,7 +294,7 @@ class Guards(Below):
                 if stops:
                     workers.stop(assigned(0))
                 else:
-                    workers.hear_until(logs.seconds_of_boot())
+                    workers.hear_until(clocks.seconds_of_boot())
                     wait_until(self.are_gone)
                     workers.stop(assigned(0))
                 self.assertTrue(self.are_gone())
@@ -436,9 +316,10 @@ class Guards(Below):
         self.assertTrue(self.are_gone())
 
     def test_until_behind_a_stop(self) -> None:
-        """A worker that was told to stop, and has much time for that, is killed at the moment until which its work is sure."""
+        """A worker that was told to stop, and has much time for that, is killed at the moment until which its work is
+        sure."""
         workers = self.begin('stubborn', patience=3600.0)
-        workers.hear_until(logs.seconds_of_boot() + 0.3)
+        workers.hear_until(clocks.seconds_of_boot() + 0.3)
         thread = threading.Thread(target=workers.stop, args=[self.assignment], daemon=True)
         thread.start()
         wait_until(self.are_gone)
@@ -446,7 +327,8 @@ class Guards(Below):
         self.assertEqual((self.failures, self.lost), ([], []))
 
     def test_another_user(self) -> None:
-        """What can't be killed is told, and nothing is stopped, or begun again, until it is gone, also if its member is to leave."""
+        """What can't be killed is told, and nothing is stopped, or begun again, until it is gone, also if its member is
+        to leave."""
         if os.getuid() != 0:
             self.skipTest('only root can be somebody else')
         rooted = self.folder / 'rooted'
@@ -459,12 +341,11 @@ class Guards(Below):
 
     def outlives(self, rooted: Path, kills: bool) -> None:
         """A worker by sudo, or the like, outlives its moment, and its guard, if that is killed."""
-        pipes: Dict[str, Any] = {name: subprocess.PIPE for name in ('stdin', 'stdout')}
+        pipes: dict[str, Any] = {name: subprocess.PIPE for name in ('stdin', 'stdout')}
         reads = ['--inh-caps', '+dac_override', '--ambient-caps', '+dac_override']  # whatever Python's folder is
         user = ['setpriv', '--reuid', '65534', '--regid', '65534', '--clear-groups', *reads]
         words = [*user, sys.executable, '-c', OTHER_USER, str(rooted), 'kills' if kills else '']
-        environment = {**os.environ, 'PYTHONPATH': str(ROOT / 'bindings' / 'python')}
-        with subprocess.Popen(words, env=environment, universal_newlines=True, **pipes) as member:
+        with subprocess.Popen(words, env=environment(), universal_newlines=True, **pipes) as member:
             assert member.stdout is not None and member.stdin is not None
             worker = int(member.stdout.readline())
             for process in (worker, member.pid):  # so that what isn't said is missed
@@ -482,12 +363,15 @@ class Guards(Below):
             member.stdin.close()
 
     def test_clocks(self) -> None:
-        """The moment counts by the clock that goes on in a sleep of the machine, and which another one is far from here."""
+        """The moment counts by the clock that goes on in a sleep of the machine, and which another one is far from
+        here."""
         if os.getuid() != 0:
             self.skipTest('only root can have clocks of its own')
-        words = ['unshare', '--time', '--boottime', '1000000', '--fork', '--kill-child', sys.executable, '-c', CLOCKS, str(self.folder / 'group.db')]
-        environment = {**os.environ, 'PYTHONPATH': str(ROOT / 'bindings' / 'python')}
-        ran = subprocess.run(words, env=environment, stdout=subprocess.PIPE, universal_newlines=True, check=True, timeout=PATIENCE)
+        words = [
+            'unshare', '--time', '--boottime', '1000000', '--fork', '--kill-child', sys.executable, '-c', CLOCKS,
+            str(self.folder / 'group.db'),
+        ]  # fmt: skip
+        ran = subprocess.run(words, env=environment(), stdout=subprocess.PIPE, text=True, check=True, timeout=PATIENCE)
         self.assertEqual(ran.stdout, 'not yet\nlost\nTrue\n')
 
     def test_member_is_gone(self) -> None:
@@ -523,8 +407,8 @@ class Guards(Below):
 
         def tell() -> None:
             for _ in range(10_000):
-                workers.hear_until(logs.seconds_of_boot() - 1.0)
-            workers.hear_until(logs.seconds_of_boot() + 1000.0)
+                workers.hear_until(clocks.seconds_of_boot() - 1.0)
+            workers.hear_until(clocks.seconds_of_boot() + 1000.0)
 
         thread = threading.Thread(target=tell, daemon=True)
         thread.start()
@@ -542,7 +426,7 @@ class Guards(Below):
         workers = self.made(['sh', '-c', 'for each in 1 2 3; do (true &); done; exec sleep 1000'])
         workers.start(self.assignment)
         wait_until(lambda: len(children(workers._guard.pid)) == 4)
-        workers.hear_until(logs.seconds_of_boot() + 1000.0)
+        workers.hear_until(clocks.seconds_of_boot() + 1000.0)
         wait_until(lambda: len(children(workers._guard.pid)) == 1)
         workers.stop(assigned(0))
         self.assertEqual((self.failures, self.lost), ([], []))
@@ -561,7 +445,9 @@ workers.begin(SimpleNamespace(ttl=0.6), {str(file)!r})
 file.execute('begin immediate')
 os.kill(os.getpid(), signal.SIGSTOP)
 '''
-        ended = subprocess.run([sys.executable, '-c', words], env=environment(), stderr=subprocess.PIPE, timeout=PATIENCE, check=False)
+        ended = subprocess.run(
+            [sys.executable, '-c', words], env=environment(), stderr=subprocess.PIPE, timeout=PATIENCE, check=False
+        )
         self.assertEqual(ended.returncode, -signal.SIGKILL, ended.stderr)
         self.assertIn(b'is killed', ended.stderr)
 
@@ -570,19 +456,24 @@ os.kill(os.getpid(), signal.SIGSTOP)
         reads, writes = os.pipe()
         os.close(reads)
         words = ['-c', 'from bully import guard; guard.say("x"); print("goes on")']
-        ran = subprocess.run([sys.executable, *words], env=environment(), stdout=subprocess.PIPE, stderr=writes, check=True)
+        ran = subprocess.run(
+            [sys.executable, *words], env=environment(), stdout=subprocess.PIPE, stderr=writes, check=True
+        )
         os.close(writes)
         self.assertEqual(ran.stdout, b'goes on\n')
 
     def test_who_is_stopped(self) -> None:
         """Who is stopped is killed in the middle of a write alone, and only if that lasts."""
         words = [sys.executable, '-c', WRITER, str(self.folder / 'group.db')]
-        pipes: Dict[str, Any] = {name: subprocess.PIPE for name in ('stdin', 'stdout')}
+        pipes: dict[str, Any] = {name: subprocess.PIPE for name in ('stdin', 'stdout')}
         with subprocess.Popen(words, universal_newlines=True, **pipes) as writer:
             assert writer.stdin is not None and writer.stdout is not None
             with mock.patch.object(os, 'getppid', lambda: writer.pid):
-                watch = guard.Watch(f'{self.folder}/group.db-shm', 2.0)
-                self.assertLessEqual((watch.pause() or 0) * guard.MILLISECOND + watch.span, 0.4 * logs.SECOND * 2.0 + 2 * guard.MILLISECOND)
+                watch = guard.Watchdog(f'{self.folder}/group.db-shm', 2.0)
+                self.assertLessEqual(
+                    (watch.pause() or 0) * guard.MILLISECOND + watch.span,
+                    0.4 * clocks.SECOND * 2.0 + 2 * guard.MILLISECOND,
+                )
                 for said in ('idle\n', 'writes\n'):
                     self.assertEqual(writer.stdout.readline(), said)
                     writer.send_signal(signal.SIGSTOP)
@@ -598,210 +489,3 @@ os.kill(os.getpid(), signal.SIGSTOP)
                         writer.send_signal(signal.SIGCONT)
                         print('go on', file=writer.stdin, flush=True)
             self.assertEqual(writer.wait(PATIENCE), -signal.SIGKILL)
-
-
-class Talks(Below):
-    """Workers that stay over changes."""
-
-    talks = True
-
-    def begin(self, way: str, patience: float = PATIENCE, seconds: float = 1000.0) -> Workers:
-        workers = self.made([sys.executable, '-c', TALKING, str(self.folder), way], patience, seconds)
-        workers.start(assigned(2, 0, 5))
-        self.heard(1)
-        return workers
-
-    def heard(self, count: int) -> List[str]:
-        """What workers were told, each behind its process, once there are so many lines."""
-        file = self.folder / 'told'
-        wait_until(lambda: file.exists() and file.read_text().count('\n') >= count)
-        return file.read_text().splitlines()
-
-    def worker(self) -> int:
-        return int(self.heard(1)[-1].split()[0])
-
-    def test_stays(self) -> None:
-        """It is one process, and is told all."""
-        workers = self.begin('talks')
-        for events in range(3, 6):
-            workers.stop(assigned(0))
-            workers.start(assigned(events, 1))
-        workers.stop(assigned(0))
-        lines = [line.partition(' ') for line in self.heard(8)]
-        self.assertEqual(len({process for process, _, _ in lines}), 1)
-        told = [json.loads(line) for _, _, line in lines]
-        settings = told[0].pop('settings')
-        self.assertEqual(told[0], {'begin': 40000002, 'partitions': [0, 5], 'coordinator': 'c'})
-        self.assertEqual((settings['names'], settings['ttl']), (['a', 'b', 'c'], 4.0))
-        self.assertEqual([each.get('begin') for each in told], [40000002, None, 40000003, None, 40000004, None, 40000005, None])
-        worker = self.worker()
-        workers.close()
-        self.assertFalse(is_running(worker))
-        self.assertEqual((self.failures, self.lost), ([], []))
-
-    def test_long_lines(self) -> None:
-        """A line may be longer than a pipe holds, and is read slowly."""
-        workers = self.begin('talks')
-        workers.stop(assigned(0))
-        names = tuple(f'{number:0300}' for number in range(1000))  # more than a message to the guard has room for
-        for events in (3, 4):
-            workers.start(Assignment(Token.of(4, events), 3, tuple(range(4096)), Settings(Setup(1000, 4096), names)))
-            told = json.loads(self.heard(2 * events - 3)[-1].partition(' ')[2])
-            self.assertEqual((told['begin'], told['partitions'], told['settings']['names']), (Token.of(4, events), list(range(4096)), list(names)))
-            workers.stop(assigned(0))
-        self.assertEqual((self.failures, self.lost), ([], []))
-
-    def test_no_room(self) -> None:
-        """A worker that reads nothing, and can't be told all of a line, is killed, and that is said."""
-        workers = self.made(['sleep', '1000'])
-        names = tuple(f'{number:05000}' for number in range(1000))  # more than any socket has room for
-        with self.assertLogs('bully', 'WARNING') as said:
-            workers.start(Assignment(Token.of(4, 3), 3, (0,), Settings(Setup(1000, 1), names)))
-            wait_until(lambda: self.lost)
-        self.assertIn('the worker failed, with status -9', said.output[0])
-        self.assertEqual(self.failures, [])
-        workers.stop(assigned(0))
-
-    def test_until(self) -> None:
-        """It is killed at that moment if it is at work, and else it stays."""
-        workers = self.begin('talks')
-        worker = self.worker()
-        workers.stop(assigned(0))
-        workers.hear_until(logs.seconds_of_boot() - 1)
-        workers.stop(assigned(0))
-        self.assertTrue(is_running(worker))
-        workers.hear_until(logs.seconds_of_boot() + 1000)
-        workers.start(assigned(3, 1))
-        workers.hear_until(logs.seconds_of_boot())
-        wait_until(lambda: self.lost)
-        self.assertFalse(is_running(worker))
-        workers.stop(assigned(0))
-        workers.hear_until(logs.seconds_of_boot() + 1000)
-        workers.start(assigned(3, 1))
-        wait_until(lambda: self.worker() != worker)
-        workers.stop(assigned(0))
-        self.assertEqual((self.failures, self.lost), ([], [assigned(3, 1)]))
-
-    def test_no_answer(self) -> None:
-        """It is killed, if it doesn't answer in time; or at the moment until which its work is sure."""
-        for patience, seconds in ((0.2, 1000.0), (PATIENCE, 2.0)):
-            with self.subTest(patience=patience):
-                workers = self.begin('silent', patience)
-                worker = self.worker()
-                workers.hear_until(logs.seconds_of_boot() + seconds)
-                workers.stop(assigned(0))
-                self.assertFalse(is_running(worker))
-        self.assertEqual((self.failures, self.lost), ([], []))
-
-    def test_early_answers(self) -> None:
-        """What it answered before it was told to stop is no answer."""
-        workers = self.begin('early', patience=0.3)
-        worker = self.worker()
-        workers.stop(assigned(0))
-        workers.start(assigned(3, 1))
-        self.heard(3)
-        workers.stop(assigned(0))  # it doesn't answer this one
-        self.assertFalse(is_running(worker))
-        self.assertEqual(self.failures, [])
-
-    def test_descriptors(self) -> None:
-        """Workers that come and go leave none in the guard."""
-        workers = self.begin('ends')
-        counts = []
-        for events in range(3, 7):
-            counts.append(descriptors_of(workers._guard.pid))
-            workers.stop(assigned(0))
-            workers.start(assigned(events, 1))
-            self.heard(2 * events - 3)
-        self.assertEqual(len(set(counts)), 1, counts)
-        workers.stop(assigned(0))
-
-    def test_a_member_that_is_gone(self) -> None:
-        """Then it is not enough that a worker answers: it is killed if it doesn't end."""
-        begun = self.folder / 'begun'
-        workers = self.made(['sh', '-c', 'trap "echo stopped >&3" TERM; echo > "$0"; while :; do sleep 0.01; done', str(begun)], 0.2)
-        self.addCleanup(workers._guard.kill)
-        workers.start(assigned(2, 0))
-        wait_until(begun.exists)
-        (worker,) = children(workers._guard.pid)
-        workers._channel.shutdown(socket.SHUT_RDWR)
-        wait_until(lambda: not is_running(worker))
-        workers._guard.wait(PATIENCE)
-
-    def test_what_a_member_did_not_read(self) -> None:
-        """A guard whose member is gone, and didn't read all that it said, ends its worker with what that started."""
-        child = self.folder / 'child'
-        worker = 'sleep 1000 & echo $! > "$0.new"; mv "$0.new" "$0"; read -r line; read -r line; echo stopped >&3; read -r line'
-        channel, given = socket.socketpair(socket.AF_UNIX, socket.SOCK_SEQPACKET)
-        with channel, given, open(self.folder / 'said', 'wb') as said:
-            words = [sys.executable, '-I', '-S', GUARD, str(given.fileno()), '0.2', 'talks', '', '1.0', 'sh', '-c', worker, str(child)]
-            guard = subprocess.Popen(words, stdin=subprocess.DEVNULL, stderr=said, pass_fds=[given.fileno()])
-            self.addCleanup(guard.kill)
-            given.close()
-            for message in (f'until {logs.nanoseconds_of_boot() + 10**12}', 'begin {}'):
-                channel.send(message.encode())
-            wait_until(child.exists)
-            channel.send(b'stop')
-            self.assertEqual(logs.slept(PATIENCE, channel.fileno()), [channel.fileno()])  # it has said that nothing is worked on
-        self.assertEqual((guard.wait(PATIENCE), (self.folder / 'said').read_text()), (0, ''))
-        self.assertFalse(is_running(int(child.read_text())))
-
-    def test_too_many_answers(self) -> None:
-        """It is killed at that moment, and if it doesn't stop in time, also while it answers more than can be read."""
-        for patience, seconds in ((PATIENCE, 0.5), (0.2, 1000.0)):
-            with self.subTest(patience=patience):
-                begun = self.folder / f'begun {patience}'
-                workers = self.made([sys.executable, '-c', FLOODING, str(begun)], patience)
-                self.addCleanup(workers._guard.kill)
-                workers.start(assigned(2, 0))
-                wait_until(begun.exists)
-                (worker,) = children(workers._guard.pid)
-                workers.hear_until(logs.seconds_of_boot() + seconds)
-                thread = threading.Thread(target=workers.stop, args=[assigned(0)], daemon=True)
-                thread.start()
-                wait_until(lambda: not is_running(worker) and not thread.is_alive())
-        self.assertEqual(self.failures, [])
-
-    def test_ends(self) -> None:
-        """To end is an answer, too. By itself it may not."""
-        workers = self.begin('ends')
-        workers.stop(assigned(0))
-        workers.start(assigned(3, 1))
-        workers.stop(assigned(0))
-        lines = self.heard(4)
-        self.assertEqual(len({line.split()[0] for line in lines}), 2)
-        self.assertEqual(self.failures, [])
-        workers = self.begin('fails')
-        workers.stop(assigned(0))
-        with self.assertLogs('bully', 'WARNING') as said:
-            workers.start(assigned(3, 1))
-            wait_until(lambda: self.lost)
-        self.assertIn('with status 9', said.output[0])
-        self.assertEqual((self.failures, self.lost), ([], [assigned(3, 1)]))
-        workers.stop(assigned(0))
-
-    def test_examples(self) -> None:
-        """Both work on what they are told, and on nothing else once they have answered."""
-        for name in ('talking.py', 'talking.sh'):
-            with self.subTest(name=name):
-                folder = self.folder / name
-                folder.mkdir()
-                workers = self.made([str(ROOT / 'examples' / 'members' / name), str(folder)])
-                processes: Set[int] = set()
-                sizes: Dict[Path, int] = {}
-                for events, partitions in ((3, (0, 5)), (4, (5, 2)), (5, (1,))):
-                    workers.start(assigned(events, *partitions))
-                    wanted = f'{Token.of(4, events)} x'
-                    files = [folder / str(each) for each in partitions]
-                    wait_until(lambda: all(file.exists() and file.read_text().count(wanted) > 1 for file in files))
-                    processes.add(children(workers._guard.pid)[0])
-                    workers.stop(assigned(0))
-                    before, sizes = sizes, {file: file.stat().st_size for file in folder.iterdir()}
-                    self.assertEqual([file for file, size in before.items() if sizes[file] != size and file not in files], [])
-                self.assertEqual(len(processes), 1)
-                workers.close()
-        self.assertEqual((self.failures, self.lost), ([], []))
-
-
-if __name__ == '__main__':
-    unittest.main()

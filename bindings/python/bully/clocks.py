@@ -1,0 +1,31 @@
+"""The clocks of a machine, and sleep."""
+from __future__ import annotations
+
+import select
+import time
+
+SECOND = 1_000_000_000  # nanoseconds
+
+
+def seconds_of_boot() -> float:
+    """The clock of leases on one machine: seconds since it booted, with those of its sleep."""
+    return time.clock_gettime(time.CLOCK_BOOTTIME)
+
+
+def nanoseconds_of_boot() -> int:
+    """The same clock in whole nanoseconds."""
+    return time.clock_gettime_ns(time.CLOCK_BOOTTIME)
+
+
+def wall_clock() -> int:
+    """Milliseconds since 1970, as far as the machine knows. Nothing depends on it."""
+    return time.time_ns() // 1_000_000
+
+
+def slept(seconds: float, *descriptors: int | None) -> list[int]:
+    """Sleeps so long, or until one of these descriptors, as far as there are any, has something to read. Which have."""
+    poll = select.poll()
+    for descriptor in descriptors:
+        if descriptor is not None:
+            poll.register(descriptor, select.POLLIN)
+    return [descriptor for descriptor, _ in poll.poll(1000 * seconds)]

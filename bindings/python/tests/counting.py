@@ -1,0 +1,67 @@
+"""Counts what is tried, and ends a test that hangs."""
+from __future__ import annotations
+
+import signal
+import sys
+import time
+import unittest
+from types import ModuleType
+
+IDLE_MAX, LEAST_USED = (
+    60,
+    3.0,
+)  # seconds for which a test may wait, and how many of a processor one takes meanwhile that does something
+CLEANUP_MAX = 5  # seconds for each clean-up of a test that hung
+
+
+class CountingResult(unittest.TextTestResult):
+    """Counts what was tried: each part of a test by itself, and the rest of the test as one more. A test that hangs
+    fails, and is the last one of its module: what it hangs by others may hang by, too."""
+
+    passed = 0
+
+    def startTest(self, test: unittest.TestCase) -> None:
+        super().startTest(test)
+        self.used = time.process_time()
+        signal.signal(signal.SIGALRM, self.look)
+        signal.setitimer(signal.ITIMER_REAL, IDLE_MAX, IDLE_MAX)
+
+    def look(self, number: int, frame: object) -> None:
+        """Ends a test, or its clean-up, that only waits. The traceback tells for what."""
+        used, self.used = time.process_time() - self.used, time.process_time()
+        if used < LEAST_USED or self.shouldStop:
+            self.stop()
+            signal.setitimer(signal.ITIMER_REAL, CLEANUP_MAX, CLEANUP_MAX)
+            raise AssertionError(f'it does not end, and only waits, for {IDLE_MAX} s')
+
+    def stopTest(self, test: unittest.TestCase) -> None:
+        signal.setitimer(signal.ITIMER_REAL, 0)
+        super().stopTest(test)
+
+    def addSuccess(self, test: unittest.TestCase) -> None:
+        super().addSuccess(test)
+        self.passed += 1
+
+    def addSubTest(self, test: unittest.TestCase, subtest: unittest.TestCase, err: object) -> None:
+        super().addSubTest(test, subtest, err)  # type: ignore[arg-type]
+        self.passed += err is None
+
+    @property
+    def failed(self) -> int:
+        return len(self.failures) + len(self.errors)
+
+
+def run(module: ModuleType = sys.modules[__name__]) -> tuple[int, int]:
+    """Runs all tests of the module: how many passed, and how many failed."""
+    tests = unittest.defaultTestLoader.loadTestsFromModule(module)
+    result = unittest.TextTestRunner(stream=sys.stdout, resultclass=CountingResult).run(tests)
+    assert isinstance(result, CountingResult)
+    return result.passed, result.failed
+
+
+def has_failed(case: unittest.TestCase) -> bool:
+    """Whether the test tells that something is wrong: by an assertion, or since the log is damaged."""
+    result = unittest.TestResult()
+    case.run(result)
+    assert all('DamagedLog' in told or 'BadPresence' in told for _, told in result.errors), result.errors
+    return not result.wasSuccessful()

@@ -1,0 +1,1 @@
+"""Members of a group, simulated and killed: README.md."""

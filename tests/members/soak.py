@@ -1,0 +1,123 @@
+"""Tries members for a long time, over a file or over three servers of etcd, while a recorder apart judges what their
+workers do.
+
+    tests/members/soak LIBRARY_FOLDER [--store sqlite|etcd] [--seconds SECONDS] [--seed SEED] [--rests SHARE]
+        [--nodes COUNT] [--ttl SECONDS] [--talk] [--program PATH] [--folder FOLDER]
+
+LIBRARY_FOLDER is what `bin/library` wrote. Members, their guards and their workers are killed and paused, by a seed,
+also a member with its worker and with its guard at one moment; so are the servers, one or all. Who has ended is begun
+again. Behind a share of the faults the group gets time to come to rest, and behind the others the next one comes. Each
+worker asks the recorder, a process of its own, for each unit of work (`recorder.py`).
+
+Each kind of fault has to be seen to happen. At the end the group has to come to rest, and to leave in order; no unit
+may have overlapped another one, or have been asked for by an old token; and the logs have to be lawful, also with
+everything said if PATH is the program `bully`. First the recorder has to see a worker that works on, since member and
+guard are paused. The last line is 'N passed, M failed'; the exit status is 0 where M is 0, and else 1. With `--store
+etcd`, but without the program `etcd`, nothing is tried.
+"""
+from __future__ import annotations
+
+import argparse
+import contextlib
+import os
+import random
+import signal
+import sys
+import tempfile
+from pathlib import Path
+
+from tests.etcd_servers import PROGRAM, Servers
+from .faults import addresses
+from .groups import NAMES, Group
+from .soaking import Recorded, Soak, see_faults
+
+NODES_MAX = 5
+
+
+def words() -> argparse.Namespace:
+    parser = argparse.ArgumentParser(description=__doc__, formatter_class=argparse.RawDescriptionHelpFormatter)
+    parser.add_argument('library', type=Path)
+    parser.add_argument('--store', choices=['sqlite', 'etcd'], default='sqlite')
+    parser.add_argument('--seconds', type=float, default=300.0)
+    parser.add_argument('--seed', type=int, default=1)
+    parser.add_argument(
+        '--rests', type=float, default=0.7, help='the share of faults behind which the group gets time to come to rest'
+    )
+    parser.add_argument('--nodes', type=int, choices=range(2, NODES_MAX + 1), default=NODES_MAX)
+    parser.add_argument('--ttl', type=float, default=2.0)
+    parser.add_argument('--talk', action='store_true', help='the workers stay over changes')
+    parser.add_argument('--program', type=Path, help='the program `bully`, by which the log is annotated')
+    parser.add_argument('--folder', type=Path, help='keep the log and the work there')
+    return parser.parse_args()
+
+
+def stores_in(
+    closing: contextlib.ExitStack, folder: Path, options: argparse.Namespace
+) -> tuple[dict[str, str], Servers | None]:
+    """The log's address for each member, and the servers that it is in, if there are any. Each member asks another one
+    first."""
+    if options.store == 'sqlite':
+        return dict.fromkeys(['', *NAMES], f'sqlite:{folder / "group.db"}'), None
+    servers = Servers(3, [])
+    closing.callback(servers.close)
+    return addresses(servers, 'group'), servers
+
+
+def begun(
+    closing: contextlib.ExitStack, folder: Path, stores: dict[str, str], nodes: int, options: argparse.Namespace
+) -> Group:
+    """A group with a recorder."""
+    folder.mkdir(exist_ok=True)
+    group = Group(
+        folder, stores, options.ttl, names=NAMES[:nodes], words=['--talk'] if options.talk else (), work=Recorded
+    )
+    assert isinstance(group.work, Recorded)
+    closing.callback(group.work.close)
+    closing.callback(group.close)
+    return group
+
+
+def see_faults_in(folder: Path, options: argparse.Namespace) -> Group:
+    """The recorder's own try."""
+    with contextlib.ExitStack() as closing:
+        stores = dict.fromkeys(['', *NAMES], f'sqlite:{folder / "group.db"}')
+        group = begun(closing, folder, stores, 2, options)
+        see_faults(group)
+    return group
+
+
+def soak_in(folder: Path, options: argparse.Namespace) -> Group:
+    """All of it; nothing is left of servers and members."""
+    with contextlib.ExitStack() as closing:
+        stores, servers = stores_in(closing, folder, options)
+        group = begun(closing, folder, stores, options.nodes, options)
+        soak = Soak(group, servers, random.Random(options.seed), options.rests)
+        closing.callback(soak.close)
+        soak.run(options.seconds)
+        group.end(options.program)
+        soak.judge()
+        soak.tell()
+    return group
+
+
+def main() -> int:
+    options = words()
+    os.environ['BULLY_LIBRARY'] = str(options.library.resolve())
+    if options.store == 'etcd' and PROGRAM is None:
+        print('tests/members/soak: skipped, since no program `etcd` is on the path\n0 passed, 0 failed')
+        return 0
+    for number in (signal.SIGTERM, signal.SIGHUP):
+        signal.signal(
+            number, lambda number, _: sys.exit(128 + number)
+        )  # it ends as a failure does, so that nothing is left
+    with tempfile.TemporaryDirectory() as room:
+        folder = (options.folder or Path(room)).resolve()
+        folder.mkdir(exist_ok=True)
+        groups = [see_faults_in(folder / 'seen', options), soak_in(folder / 'soak', options)]
+    passed, failed = sum(group.passed for group in groups), sum(group.failed for group in groups)
+    print(f'{passed} passed, {failed} failed')
+    return 1 if failed else 0
+
+
+if __name__ == '__main__':
+    sys.exit(main())

@@ -1,0 +1,73 @@
+"""What goes wrong with groups, and how often."""
+from __future__ import annotations
+
+import random
+
+from bully.member import Request
+
+TTL = 1_000_000_000
+TROUBLE_FOR, REST_WITHIN = 16, 25  # ttl
+
+TROUBLES = (
+    'a pause', 'a pause before a step', 'a pause with a renewal', 'a death', 'a cut', 'a join', 'a loop',
+    'a member is told to leave', 'a worker ends by itself', 'a request is lost', 'an answer is lost',
+    'a request or an answer is slow', 'a request comes behind its time', 'a wish', 'a wish is taken back',
+    'old epochs are taken away', 'an epoch was taken away under a member', 'the end of an epoch', 'an append',
+    'strangers are seen', 'an old token is refused', 'a unit beside one that was paused beyond its presence',
+    'a plan keeps to the epoch before', 'a member ends: left', 'a member ends: not there',
+)  # fmt: skip
+
+
+class Trouble:
+    """How much of each kind, by the seed: shares of requests, steps or units; or how often in a ttl."""
+
+    def __init__(self, choice: random.Random) -> None:
+        def some(most: float) -> float:
+            return choice.choice([0.0, 0.3, 1.0]) * most
+
+        self.lost, self.unanswered, self.slow = some(0.1), some(0.1), some(0.3)
+        self.pauses, self.deaths, self.leaves, self.cuts = some(0.6), some(0.6), some(0.4), some(0.3)
+        self.joins, self.short = 1.0, 0.0  # the share of who joins that leaves again soon
+        self.unit = 0.19  # of a ttl, which a unit of work takes at most
+        self.loops = some(0.2)  # of one node that comes and goes again and again
+        self.ends = some(0.02)  # units behind which a worker ends by itself
+        self.wishes, self.prunes = some(0.3), some(0.5)
+        self.drains = self.halts = 0.0  # nodes that are drained, and groups that are paused
+        self.room = choice.choice([22, 22, 26, 40, 10_000])  # rows of an epoch, for each node
+        self.late = some(0.3)  # by how much of a ttl a presence ends late at most
+        self.trip = choice.choice([0.0, 0.002, 0.002, 0.02, 0.02])
+        self.patience = choice.choice([0.2, 0.2, 1.0, 3.0])  # how long a member waits for an answer
+        self.nodes_least, self.nodes = 1, choice.choice([6, 6, 2])  # at most
+        self.withdrawn = choice.choice([0.0, 0.7])  # the share of wishes that are taken back soon
+        kinds = [None, None, Request.TAKE, Request.RENEW, Request.BE_IDLE, Request.APPEND]
+        self.slowest: Request | None = choice.choice(kinds)  # half the requests of this kind are slow
+        self.renewal_pauses = some(0.1)  # how many renewals a pause comes with
+        if choice.random() < 0.25:  # many come and go at once
+            self.deaths, self.joins, self.leaves, self.slow, self.short = 0.3, 3.0, 0.0, 0.3, 0.7
+        elif (
+            choice.random() < 0.3
+        ):  # all is well but for these, for wishes that are taken back, and for slow requests of one kind
+            self.deaths, self.joins, self.leaves, self.cuts, self.short = 0.3, 1.0, 0.0, 0.0, choice.choice([0.0, 0.7])
+            self.lost, self.unanswered, self.slow, self.wishes, self.withdrawn = (
+                0.0, 0.0, 0.1, choice.choice([0.0, 1.5]), 0.9,
+            )  # fmt: skip
+            self.nodes, self.slowest = choice.choice([1, 2, 3]), choice.choice([Request.TAKE, Request.BE_IDLE])
+            self.patience = choice.choice([0.2, 3.0])
+
+
+class Epochs(Trouble):
+    """Logs are soon full, groups are resized, and old epochs are taken away."""
+
+    def __init__(self, choice: random.Random) -> None:
+        super().__init__(choice)
+        self.room = choice.choice([22, 22, 26])
+        self.wishes, self.withdrawn = choice.choice([0.5, 1.5]), choice.choice([0.0, 0.3])
+        self.prunes = choice.choice([0.3, 1.0])
+
+
+class Ordered(Trouble):
+    """Nodes are drained, and groups are paused."""
+
+    def __init__(self, choice: random.Random) -> None:
+        super().__init__(choice)
+        self.drains, self.halts = choice.choice([0.0, 0.5, 1.0]), choice.choice([0.3, 0.3, 1.0])
