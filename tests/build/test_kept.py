@@ -2,9 +2,12 @@
 import signal
 import subprocess
 import unittest
+from typing import Dict, List
+from unittest import mock
 
 from building.crates import Stopped, read_crates
 from building.kept import sum_of
+from building.running import Children, run_beside
 from stand_in import Tree, waited
 
 
@@ -36,6 +39,18 @@ class Graph(unittest.TestCase):
         self.tree.list_crates({'left': 'right', 'right': 'left'})
         with self.assertRaisesRegex(Stopped, 'left|right'):
             read_crates(self.tree.top)
+
+    def test_the_first_of_those_ready_has_the_cores_that_the_others_leave(self) -> None:
+        given: Dict[str, int] = {}
+
+        def run(name: str, processes: int) -> bool:
+            given[name] = processes
+            return True
+
+        needs: Dict[str, List[str]] = {'low': [], 'beside': [], 'high': ['low', 'beside']}
+        with mock.patch('building.running.all_jobs', return_value=4):
+            done = list(run_beside(needs, lambda name: (name == 'low', 0), run, Children(())))
+        self.assertEqual((given, done[-1]), ({'low': 3, 'beside': 1, 'high': 4}, 'high'))
 
     def test_a_sum_is_that_of_sha256sum(self) -> None:
         self.tree.write('left', 'proofs/half/Answers.antt', 'an answer\n')

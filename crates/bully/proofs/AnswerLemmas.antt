@@ -1,5 +1,5 @@
 -- From what `check` and `upgrade` of bully_trace ensure to what the program answers.
-use Rattle.std.proofs.Common.{◌≡◌, ◌≢◌, ◌⊎◌, inl, inr, ℕ, true, List, Some, None, Ok, Err, refl, ap, arith, subst}
+use Rattle.std.proofs.Common.{◌≡◌, ◌≢◌, ◌∙◌, ◌⊎◌, inl, inr, ℕ, true, List, Some, None, Ok, Err, refl, ap, arith, subst}
 use Rattle.std.specs.Prelude.{IfSome, IsOk, IsTrue}
 use Rattle.std.specs.Io.KnownBytes.{Appends, Keeps}
 use Rattle.bully_base.specs.Setup.{Setup}

@@ -8,7 +8,7 @@ use Rattle.bully_replica.specs.declared.row_replica.LearnFault.{LearnFault}
 use Rattle.bully_rows.specs.Headers.{Record}
 use Rattle.bully_rows.specs.RecordsLeft.{ReadSoFar}
 use Rattle.bully_rows.specs.declared.TheConstants.{ROWS_MAX}
-use Rattle.bully_c.specs.Numbers.{learn_number}
+use Rattle.bully_c.specs.Numbers.{learn_fault_number}
 use Rattle.bully_c.specs.Replicas.{EndsLearning, HasNode, IsAllowedRow, IsNextRow, RefusesNext, RefusesRow}
 
 -- what is said of the node that a number names
@@ -26,7 +26,7 @@ next-err f node e (Ok text) has next refuses = tt
 next-err f node e (Err status) has next refuses = inr (has, inr (e, next, refuses))
 
 -- a text has no header, so its reader gives no more rows than were learned
-pub ends-learning : (records : List Record) (reader : ReadSoFar) (before after : RowReplicaState) (fault : LearnFault) (status : ℕ) → reader.number ≡ 0 → after.rows ≤ ROWS_MAX → status ≡ learn_number fault
+pub ends-learning : (records : List Record) (reader : ReadSoFar) (before after : RowReplicaState) (fault : LearnFault) (status : ℕ) → reader.number ≡ 0 → after.rows ≤ ROWS_MAX → status ≡ learn_fault_number fault
     → (left : List Record) × FollowsUpTo records before after left × Stops reader before left after fault → (left : List Record) × FollowsUpTo records before after left × EndsLearning left after status
 ends-learning records reader before after fault status start within told (left, up, inl stops) = (left, up, inr (fault, told, stops))
 ends-learning records reader before after fault status start within told (left, up, inr (many, given)) = absurd (omega (arith, start, within, given))

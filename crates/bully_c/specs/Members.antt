@@ -21,7 +21,7 @@ use Rattle.bully_rows.specs.declared.header.Header.{Header}
 use Rattle.bully_c.specs.Exports.{AtOpenOf, ShowsOf}
 use Rattle.bully_c.specs.MemberNumbers.{answer_numbered, member_number}
 use Rattle.bully_c.specs.MemberShown.{step_shown}
-use Rattle.bully_c.specs.Numbers.{learn_number}
+use Rattle.bully_c.specs.Numbers.{learn_fault_number}
 use Rattle.bully_c.specs.OldTables.{AreOld, RefusesOld, old_given}
 use Rattle.bully_c.specs.Presences.{ArePresences, RefusesPresences, presence_given}
 use Rattle.bully_c.specs.Replicas.{IsHeaderAlone, RefusesHeader, has_end, has_mark, mark_number}
@@ -118,7 +118,7 @@ EndsAs left f (Err fault) = StopsAt left f fault
 
 abbrev pub learn_number : Result (Unit {0}) LearnFault → ℕ
 learn_number (Ok done) = OK
-learn_number (Err fault) = learn_number fault
+learn_number (Err fault) = learn_fault_number fault
 
 -- the rows of the text were learned up to the first that isn't
 pub record LearnsRows (text : List ℕ) (m : MemberState) (status : ℕ) (after : MemberState) : Type 0 where

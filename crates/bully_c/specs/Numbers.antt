@@ -54,10 +54,10 @@ header_number TraceCause.Read = 23
 header_number TraceCause.Write = 23
 
 -- of a row of a log that isn't learned
-abbrev pub learn_number : LearnFault → ℕ
-learn_number (LearnFault.Form cause) = trace_number cause
-learn_number (LearnFault.Violation (Violation.Refused why)) = refusal_number why
-learn_number (LearnFault.Violation Violation.Differs) = 53
+abbrev pub learn_fault_number : LearnFault → ℕ
+learn_fault_number (LearnFault.Form cause) = trace_number cause
+learn_fault_number (LearnFault.Violation (Violation.Refused why)) = refusal_number why
+learn_fault_number (LearnFault.Violation Violation.Differs) = 53
 
 -- the event of node i of this number, if it is one
 abbrev pub event_numbered : ℕ → ℕ → Option Event

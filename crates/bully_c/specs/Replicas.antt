@@ -22,7 +22,7 @@ use Rattle.bully_world.specs.State.{WorldState, cause_in, state_at}
 use Rattle.bully_c.specs.Arguments.{IsCopied, IsSetupRefusal}
 use Rattle.bully_c.specs.Exports.{AtOpenOf, ShowsOf, number_or_none, shown}
 use Rattle.bully_calls.specs.Events.{refusal_number}
-use Rattle.bully_c.specs.Numbers.{event_numbered, learn_number, trace_number}
+use Rattle.bully_c.specs.Numbers.{event_numbered, learn_fault_number, trace_number}
 use Rattle.bully_c.specs.declared.replicas.CGroup.{CGroup}
 use Rattle.bully_c.specs.declared.shown.CState.{CState}
 use Rattle.bully_c.specs.declared.status.TheConstants.{BAD_EVENT, BAD_HEADER, BAD_NODE, OK, OPEN, OUT_OF_MEMORY, ROW_END}
@@ -68,7 +68,7 @@ has_end (byte ∷ bytes) = ends_with same_byte (byte ∷ bytes) (10 ∷ [])
 
 -- all that is left was learned, or why the first of it wasn't
 abbrev pub EndsLearning : List Record → RowReplicaState → ℕ → Type 0
-EndsLearning left f status = ((status ≡ OK) × (left ≡ [])) ⊎ ((fault : LearnFault) × (status ≡ learn_number fault) × StopsAt left f fault)
+EndsLearning left f status = ((status ≡ OK) × (left ≡ [])) ⊎ ((fault : LearnFault) × (status ≡ learn_fault_number fault) × StopsAt left f fault)
 
 -- a text that begins with a mark begins with no row, or with one that is too many
 abbrev pub mark_number : RowReplicaState → ℕ

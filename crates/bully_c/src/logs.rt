@@ -76,7 +76,7 @@ pub fn learn(alloc: Global, session: &mut RowReplica, text: &[u8], taken: &mut u
         return ROW_END;
     }
     if has_mark(text) {
-        return status_of_mark(&session);
+        return status_of_mark(session);
     }
     let before = session.rows();
     let status = learn_rows(alloc, session, text);

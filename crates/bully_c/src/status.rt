@@ -4,7 +4,7 @@ ghost use Rattle.bully_calls.specs.declared.event.Refused.{Refused};
 ghost use Rattle.bully_lines.specs.declared.fault.RequestFault.{RequestFault};
 ghost use Rattle.bully_c.specs.declared.status.TheConstants.{BAD_ANSWER, BAD_EVENT, BAD_HEADER, BAD_NODE, BAD_ROW, BAD_ROWS_MAX, BAD_TTL, CLOSED, FULL, LINE_WORD, NO_MEMBER, OK, OPEN, OUT_OF_MEMORY, ROW_DIFFERS, ROW_END, SHORT, TABLE_LENGTH, TABLE_OWNER};
 ghost use Rattle.bully_calls.specs.Events.{refusal_number};
-ghost use Rattle.bully_c.specs.Numbers.{answer_number, event_numbered, learn_number, kind_number, reply_number, request_number, setup_number, status_number, trace_number, want_number};
+ghost use Rattle.bully_c.specs.Numbers.{answer_number, event_numbered, learn_fault_number, kind_number, reply_number, request_number, setup_number, status_number, trace_number, want_number};
 
 use bully_base::{Node, SetupFault, Status};
 use bully_calls::{Answer, CallKind};
@@ -147,7 +147,7 @@ pub fn status_of_trace(cause: TraceCause) -> u32
 
 /// Of a row of a log that isn't learned.
 pub fn status_of_learning(fault: LearnFault) -> u32
-    ensures { result ≡ learn_number fault }
+    ensures { result ≡ learn_fault_number fault }
 {
     match fault {
         LearnFault::Form(cause) => status_of_trace(cause),

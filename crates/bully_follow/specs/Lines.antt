@@ -1,14 +1,17 @@
 -- The lines that tell of a trace that grows.
-use Rattle.std.specs.Prelude.{ℕ, List, [], ◌++◌, Option, Some, None, codes, nat_le, if◌then◌else◌}
+use Rattle.std.specs.Prelude.{ℕ, ◌-◌, ◌%◌, Bool, ◌==◌, ◌&&◌, List, [], ◌++◌, Option, Some, None, codes, nat_le, if◌then◌else◌}
 use Rattle.std.specs.Fmt.{decimal}
+use Rattle.std.specs.Io.KnownBytes.{Appends}
 use Rattle.bully_base.specs.Setup.{Setup}
 use Rattle.bully_handlers.specs.Vector.{Vector}
+use Rattle.bully_world.specs.State.{world_of}
 use Rattle.bully_world.specs.World.{World, vector}
 use Rattle.bully_rows.specs.TraceText.{node_text, task_text}
 use Rattle.bully_rows.specs.Words.{status_word}
 use Rattle.bully_json.specs.Objects.{change_line, room_line}
 use Rattle.bully_follow.specs.declared.changes.Changed.{Changed}
 use Rattle.bully_follow.specs.declared.lines.Telling.{Telling}
+use Rattle.bully_follow.specs.declared.watch.Watch.{Watch}
 
 -- what a node shows with this vector; a dash for none
 unfoldable pub vector_words : Vector → List ℕ
@@ -35,3 +38,18 @@ changed_told telling time row setup w changed = node_told telling time row setup
 abbrev pub room_told : Telling → List ℕ → ℕ → ℕ → List ℕ
 room_told Telling.Words time row room = time ++ codes " row " ++ decimal row ++ codes " room for " ++ decimal room ++ codes " rows\n"
 room_told Telling.Json time row room = room_line time row room
+
+-- from row 900,000 on that is told every 10,000 rows
+abbrev pub tells_room : ℕ → Bool
+tells_room row = nat_le 900000 row && (row % 10000 == 0)
+
+abbrev pub room_behind : Telling → List ℕ → ℕ → List ℕ
+room_behind telling time row = if tells_room row then room_told telling time row (1000001 - row) else []
+
+-- what is told behind the row that came at this time
+abbrev pub row_told : Telling → List ℕ → ℕ → Watch → List ℕ
+row_told telling time row watch =
+    changed_told telling time row watch.account.judge.world.setup (world_of watch.account.judge.world) watch.changed ++ room_behind telling time row
+
+abbrev pub IsRowTold : Telling → ℕ → Watch → Option (List ℕ) → Option (List ℕ) → Type 0
+IsRowTold telling row watch output output' = (time : List ℕ) × Appends output output' (row_told telling time row watch)

@@ -2,6 +2,7 @@ ghost use Rattle.std.specs.Prelude.{◌≡◌, ℕ, List, Option, None, Some, If
 ghost use Rattle.std.specs.Io.KnownBytes.{Appends};
 ghost use Rattle.bully_world.specs.State.{world_of};
 ghost use Rattle.bully_follow.specs.LastText.{IsLastText, IsSheetTold, lawful_told};
+ghost use Rattle.bully_follow.specs.Lines.{IsRowTold, row_told, tells_room};
 ghost use Rattle.bully_follow.specs.declared.watch.Watch.{Watch as WatchState};
 ghost use Rattle.bully_follow.specs.Watched.{IsEnded, IsFollowFault, IsFollowedAs, fault_in};
 ghost use Rattle.bully_rows.specs.RecordsLeft.{IsUnread};
@@ -96,21 +97,42 @@ fn tell<C: Clock, W: Write>(
     row: u32,
     output: &mut W,
 ) -> Result<(), TraceFault>
-    ensures { IfErr result IsOfWriting }
+    ensures told { OnOk result (IsRowTold telling row watch.now (W.contents output.old) (W.contents output.new)) }
+    ensures fault { IfErr result IsOfWriting }
 {
-    let tells_room = row >= ROOM_FROM && row % ROOM_STEP == 0;
-    if !watch.changed.is_any() && !tells_room {
+    if !watch.changed.is_any() && !tells_room(row) {
         return Ok(());
     }
     let time = time_text(clock, alloc)?;
+    let text = row_text(alloc, telling, time.as_str(), watch, row)?;
+    put(text.as_str(), output)
+}
+
+// Whether it is told behind the row of this number how many a trace has room for.
+fn tells_room(row: u32) -> bool
+    ensures { result ≡ tells_room row }
+{
+    row >= ROOM_FROM && row % ROOM_STEP == 0
+}
+
+// What is told behind the row of this number, which came at this time.
+fn row_text(
+    alloc: Global,
+    telling: Telling,
+    time: &str,
+    watch: &Watch,
+    row: u32,
+) -> Result<String, OutOfMemory>
+    ensures { IfOk result (λ text. string_bytes text ≡ row_told telling time.now row watch.now) }
+{
     let mut text = String::new(alloc);
     let world = watch.account.world();
-    telling.push_changed(&mut text, time.as_str(), row, world, watch.changed)?;
-    if tells_room {
+    telling.push_changed(&mut text, time, row, world, watch.changed)?;
+    if tells_room(row) {
         let room = (ROWS_MAX + 1).saturating_sub(row);
-        telling.push_room(&mut text, time.as_str(), row, room)?;
+        telling.push_room(&mut text, time, row, room)?;
     }
-    put(text.as_str(), output)
+    Ok(text)
 }
 
 // The time, as `2026-11-27T15:34:19.123Z`; a dash where the clock can't be read. Refused where an allocation fails.

@@ -2,7 +2,8 @@
 //!
 //! It stands on bully_account, which takes the rows, on bully_explain, whose sheet ends a trace that isn't lawful, on bully_json, on the
 //! crates below these, and on the kit's jiff for the time. The program relies on the verdict being that of `check` on the rows that were
-//! read, and on what is written last being the verdict's text or its sheet. What a line of a change tells is tested.
+//! read, and on what is written last being the verdict's text or its sheet. A line of a change tells what its node shows; that each change
+//! has one is tested.
 #![tactic(auto)]
 
 mod changes;
