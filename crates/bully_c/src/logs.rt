@@ -9,8 +9,8 @@ ghost use Rattle.bully_rows.specs.declared.header.Header.{Header as HeaderState}
 
 use crate::shown::copy_text;
 use crate::status::{
-    BAD_EVENT, BAD_HEADER, OK, OUT_OF_MEMORY, ROW_END, event_of, status_of_learning, status_of_refusal,
-    status_of_trace,
+    BAD_EVENT, BAD_HEADER, OK, OUT_OF_MEMORY, ROW_END, event_of, status_of_learning,
+    status_of_refusal, status_of_trace,
 };
 use crate::tables::node_of;
 use bully_base::OutOfMemory;
