@@ -447,18 +447,15 @@ os.kill(os.getpid(), signal.SIGSTOP)
         begun = self.begin(STARTS)
         begun.kill()
         (self.folder / 'begun').unlink(missing_ok=True)
-        words = [
-            'unshare', '--pid', '--fork', '--kill-child', '--mount-proc', 'sh', '-c', '"$@"; exit 7', 'sh',
-            *begun.words,
-        ]  # fmt: skip
-        container = started(self.folder, words)
+        within = ['unshare', '--pid', '--fork', '--kill-child', '--mount-proc', 'sh', '-c', '"$@"; exit 7', 'sh']
+        container = started(self.folder, [*within, *begun.words])
         self.addCleanup(container.wait, PATIENCE)
         self.addCleanup(container.kill)
         wait_until((self.folder / 'begun').exists)
         line = [container.pid]
         for _ in range(5):  # the first process, the member, its guard, the worker, and what that began
-            (below,) = children(line[-1])
-            line.append(below)
+            wait_until(lambda: len(children(line[-1])) == 1)  # what told that the worker has begun may be there still
+            line += children(line[-1])
         _, first, member, guard, worker, child = line
         self.kill_both(member, guard)
         wait_until(lambda: not any(map(is_running, (first, worker, child))))
