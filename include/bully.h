@@ -101,7 +101,10 @@ enum {
 
     /* Of a row of a log that is learned. */
     BULLY_ROW_DIFFERS = 53, /* what it says beside its event, or claims, isn't so */
-    BULLY_ROW_END = 54      /* the last line has no line end */
+    BULLY_ROW_END = 54,     /* the last line has no line end */
+
+    /* Of a configuration, which `docs/FORMATS.md` refuses. */
+    BULLY_BAD_CONFIG = 55
 };
 
 /* The status's name, as BULLY_OK is named "OK"; "?" of a number that is none. It never fails, and the text is never freed. */
@@ -142,6 +145,15 @@ bully_status bully_check(const uint8_t *trace, size_t length, bully_verdict *ver
  * length. */
 bully_status bully_header(const bully_setup *setup, const uint16_t *weights, size_t weight_count, char *row, size_t room,
                           size_t *length);
+
+/* ---- Configurations ---- */
+
+/* Reads a group's configuration, a TOML document as `docs/FORMATS.md` has it, and tells the group: the header of a log of it,
+ * as bully_header has that, and then a line for each node in the order of their numbers: how many bytes its name has, a colon
+ * and the name. This text is in UTF-8: a name may have any characters, a line end or a zero byte, too.
+ * BULLY_NULL, BULLY_OUT_OF_MEMORY; BULLY_BAD_CONFIG, and then its first fault is told as that page names it, as `Range nodes`;
+ * BULLY_SHORT, with the length. */
+bully_status bully_configuration(const uint8_t *text, size_t length, char *told, size_t room, size_t *told_length);
 
 /* ---- Tables ---- */
 

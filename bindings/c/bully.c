@@ -41,6 +41,14 @@ bully_status bully_check(const uint8_t *trace, size_t length, bully_verdict *ver
     return bully_c_check(source(trace, length), length, verdict);
 }
 
+PROVED(configuration);
+bully_status bully_configuration(const uint8_t *text, size_t length, char *told, size_t room, size_t *told_length) {
+    if (!can_lie(text, length, 1) || !can_lie(told, room, 1) || told_length == NULL) {
+        return BULLY_NULL;
+    }
+    return bully_c_configuration(source(text, length), length, target(told, room), room, told_length);
+}
+
 PROVED(header);
 bully_status bully_header(const bully_setup *setup, const uint16_t *weights, size_t weight_count, char *row, size_t room,
                           size_t *length) {

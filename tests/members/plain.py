@@ -12,7 +12,7 @@ from dataclasses import dataclass
 from typing import Optional
 
 from bully import NotLearned, Owned, Replica, Setup, Status
-from bully.epochs import setup_of
+from bully.group import setup_of
 from bully.member import (
     Ask, Begin, End, Ending, Life, Opening, Presence, Present, Promise, Request, Rest, Seen, Step, Stop, StoreAnswer,
     Unknown, Until, Wait, Way, Work,

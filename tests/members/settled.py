@@ -7,7 +7,7 @@ from dataclasses import dataclass, replace
 from pathlib import Path
 
 from bully import BullyError, Replica, Setup, check, plan_table
-from bully.epochs import setup_of
+from bully.group import setup_of
 from . import proved
 from .plain import SETTLEMENT, Settler, is_at_rest, rests_behind, settle_behind, world_of
 from .store import table_of

@@ -12,6 +12,7 @@ int main(int count, char **words) {
     try_names(words[2], words[3]);
     try_arguments();
     try_headers();
+    try_configurations();
     try_traces(words[1]);
     try_tables();
     try_agents();

@@ -121,6 +121,16 @@ static bully_status header(void) {
     return bully_header(&setup, weights, 2, text, sizeof text, &length);
 }
 
+static bully_status configuration(void) {
+    static const char document[] = "nodes = 2\npartitions = 2\nevents = 9\nturns = 9\nnames = ['a', 'b']\nweights = [1, 3]\n";
+    return bully_configuration((const uint8_t *)document, sizeof document - 1, text, sizeof text, &length);
+}
+
+static bully_status no_configuration(void) {
+    static const char document[] = "nodes = 1\n";
+    return bully_configuration((const uint8_t *)document, sizeof document - 1, text, sizeof text, &length);
+}
+
 static bully_status open_replica(void) {
     return bully_replica_open(&opened_replica, VERSION_3, strlen(VERSION_3));
 }
@@ -321,6 +331,10 @@ static void refuse_at_rest(void) {
 static void refuse_of_replica(void) {
     refuse_each("bully_header", BULLY_OK, header, 0);
     EXPECT(is_text(text, length, "bully,2,2,2,1 3,clear\n"));
+    refuse_each("bully_configuration", BULLY_OK, configuration, 0);
+    EXPECT(is_text(text, length, "bully,2,2,2,1 3,clear\n1:a\n1:b\n"));
+    refuse_each("bully_configuration, a fault", BULLY_BAD_CONFIG, no_configuration, 0);
+    EXPECT(is_text(text, length, "Missing partitions"));
     refuse_each("bully_replica_open", BULLY_OK, open_replica, 1);
     replica = opened_replica;
     opened_replica.held = NULL;

@@ -72,6 +72,7 @@ extern const uint16_t two_owners[2];
 void try_names(const char *version, const char *header_folder);
 void try_arguments(void);
 void try_headers(void);
+void try_configurations(void);
 void try_traces(const char *folder);
 void try_tables(void);
 void try_agents(void);

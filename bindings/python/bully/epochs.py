@@ -7,16 +7,14 @@ from __future__ import annotations
 
 import dataclasses
 import json
-import re
 from collections.abc import Sequence
 from dataclasses import dataclass
 
-from .group import Setup
+from .group import setup_of
 from .settings import Settings
 from .values import EVENTS_MAX
 
 FIRST, LATEST = 1, 4_000_000_000  # of the epochs with which a log may begin
-HEADER = re.compile('bully,[1-3],[0-9]+,[0-9]+(,[0-9 ]*,(keep|clear))?')
 LEAST = 22  # rows for each node: fewer than so many an epoch never may have
 SETTLEMENT = 11  # rows for each node: what settles a group has no more
 
@@ -38,15 +36,6 @@ class Token(int):
     @property
     def events(self) -> int:
         return self % Token.SPAN
-
-
-def setup_of(header: str) -> Setup:
-    """The setup that a header of any version tells. Raises ValueError."""
-    if HEADER.fullmatch(header) is None:
-        raise ValueError(f'{header} is no header')
-    _, _, nodes, partitions, *more = header.split(',')
-    weights = tuple(map(int, more[0].split())) if more else ()
-    return Setup(int(nodes), int(partitions), weights=weights, keeps=more[1:] == ['keep'])
 
 
 def room_of(nodes: int, limit: int) -> int:

@@ -210,6 +210,10 @@ class RowDiffers(BullyError, status='ROW_DIFFERS'):
     """What the row says beside its event, or claims, isn't so."""
 
 
+class BadConfig(BullyError, status='BAD_CONFIG'):
+    """A configuration that isn't one. The text tells its first fault, as `docs/FORMATS.md` names it."""
+
+
 class RowEnd(BadArgument, status='ROW_END'):
     """The last line has no line end. This module ends each row."""
 

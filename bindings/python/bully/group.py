@@ -2,6 +2,7 @@
 from __future__ import annotations
 
 import ctypes
+import re
 from collections.abc import Iterable, Sequence
 from dataclasses import dataclass
 from typing import Any
@@ -10,6 +11,7 @@ from .faults import FAULTS, expect_ok
 from .library import STRUCTURES, UINT16_MAX, UINT32_MAX, Room, line_bytes, loaded, number_of, numbers_of, owners_of
 from .values import EVENTS_MAX, PARTITIONS_MAX, TablePlan, Verdict, VerdictKind
 
+HEADER = re.compile('bully,[1-3],[0-9]+,[0-9]+(,[0-9 ]*,(keep|clear))?')
 __all__ = ['Setup', 'check', 'plan_table', 'status_name', 'version']
 
 
@@ -40,6 +42,15 @@ def setup_parts(setup: Setup) -> tuple[Any, ...]:
     events = number_of('events_max', setup.events_max, UINT32_MAX)
     raw = STRUCTURES['bully_setup'](nodes, partitions, events, 1 if setup.keeps else 0)
     return (ctypes.byref(raw), *weights)
+
+
+def setup_of(header: str) -> Setup:
+    """The setup that a header of any version tells. Raises ValueError."""
+    if HEADER.fullmatch(header) is None:
+        raise ValueError(f'{header} is no header')
+    _, _, nodes, partitions, *more = header.split(',')
+    weights = tuple(map(int, more[0].split())) if more else ()
+    return Setup(int(nodes), int(partitions), weights=weights, keeps=more[1:] == ['keep'])
 
 
 def version() -> str:

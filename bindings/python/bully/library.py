@@ -8,7 +8,7 @@ import os
 from collections.abc import Callable, Iterable, Iterator, Sequence
 from typing import Any, NoReturn, TypeVar, Union
 
-from .faults import Short, TableLength, expect_ok
+from .faults import BadConfig, Short, TableLength, expect_ok
 from .header import HERE, functions, structures, top_of_tree, type_of
 from .values import Call, CallKind, Line, Owned, Rows, State, Status, Want
 
@@ -154,9 +154,11 @@ class Room:
         while True:
             text = ctypes.create_string_buffer(self._size)
             status = function(*arguments, text, self._size, ctypes.byref(length))
+            if status == BadConfig.status:
+                raise BadConfig(ctypes.string_at(text, length.value).decode())
             if status != Short.status:
                 expect_ok(status)
-                return ctypes.string_at(text, length.value).decode('ascii')
+                return ctypes.string_at(text, length.value).decode()
             self._size = 1 << (length.value - 1).bit_length()
 
     def row(self, function: Callable[..., int], *arguments: Any) -> str:

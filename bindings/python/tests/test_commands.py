@@ -4,10 +4,8 @@ from __future__ import annotations
 import contextlib
 import json
 import sqlite3
-import sys
 import threading
 import time
-import unittest
 from collections.abc import Callable
 from unittest import mock
 
@@ -27,7 +25,6 @@ from .waiting import wait_until
 WISH = "update epochs set wish = json_set(opening, '$.epoch', 2,"
 
 
-@unittest.skipIf(sys.version_info < (3, 11), 'the standard library reads TOML from Python 3.11 on')
 class Commands(InFolder):
     """`bully-member`, but for `run`."""
 

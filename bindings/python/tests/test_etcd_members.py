@@ -7,7 +7,6 @@ import os
 import signal
 import sys
 import time
-import unittest
 from collections.abc import Sequence
 from typing import Any
 from unittest import mock
@@ -42,7 +41,6 @@ def setUpModule() -> None:
     begin_alone(__name__)
 
 
-@unittest.skipIf(sys.version_info < (3, 11), 'the standard library reads TOML from Python 3.11 on')
 class OverEtcd(WithEtcd, WithFolder):
     """Tests with a configuration, and members in processes."""
 

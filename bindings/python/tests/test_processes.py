@@ -11,7 +11,6 @@ import sqlite3
 import subprocess
 import sys
 import time
-import unittest
 import urllib.request
 from collections.abc import Callable
 from pathlib import Path
@@ -32,7 +31,6 @@ from .processes import children, end, freeze, full_pipe, has_stopped, is_running
 from .waiting import PATIENCE, wait_until
 
 
-@unittest.skipIf(sys.version_info < (3, 11), 'the standard library reads TOML from Python 3.11 on')
 class Processes(InFolder):
     """`bully-member run`."""
 

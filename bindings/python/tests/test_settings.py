@@ -1,7 +1,6 @@
 """Tests of settings and their configurations, by docs/FORMATS.md."""
 from __future__ import annotations
 
-import sys
 import unittest
 from typing import Any
 
@@ -37,7 +36,6 @@ FAULTY = [
 ]  # fmt: skip
 
 
-@unittest.skipIf(sys.version_info < (3, 11), 'the standard library reads TOML from Python 3.11 on')
 class Configurations(unittest.TestCase):
     """What a configuration has, and its faults."""
 
@@ -48,6 +46,18 @@ class Configurations(unittest.TestCase):
                 read = settings.read_settings(path.read_bytes())
                 self.assertEqual(len(read.names), read.setup.nodes)
                 self.assertEqual([read.number(name) for name in read.names], list(range(1, read.setup.nodes + 1)))
+
+    def test_values(self) -> None:
+        """What it tells beside the names is told by the header of a log, and names may have any characters."""
+        names = ('a:b', '\n1:c', '\u00e9\0', '"')
+        cases: list[tuple[dict[str, Any], str]] = [
+            ({}, 'bully,1,4,6'), ({'weights': [1, 1, 1, 1]}, 'bully,1,4,6'),
+            ({'weights': [1, 2, 3, 1000]}, 'bully,2,4,6,1 2 3 1000,clear'), ({'keep': True}, 'bully,2,4,6,1 1 1 1,keep'),
+        ]  # fmt: skip
+        for more, header in cases:
+            with self.subTest(header=header):
+                read = settings.read_settings(toml({**TOP, 'nodes': 4, 'names': list(names), **more}))
+                self.assertEqual((read.names, read.setup.header()), (names, header))
 
     def test_faults(self) -> None:
         for told, fault in FAULTY:

@@ -6,7 +6,8 @@ import unittest
 from unittest import mock
 
 from bully import Setup, settings, sqlite
-from bully.epochs import Opening, Token, setup_of
+from bully.epochs import Opening, Token
+from bully.group import setup_of
 from bully.logs import Log
 from bully.memory import MemoryLog
 from .epoch_laws import EpochLaws

@@ -457,6 +457,21 @@ pub(crate) fn header(setup: &Setup) -> Result<String, bully_status> {
     Ok(text_of(bytes))
 }
 
+/// What is told of a configuration: its group, or if it isn't one its first fault.
+pub(crate) fn configuration(text: &[u8]) -> Result<Result<Vec<u8>, String>, bully_status> {
+    let mut is_group = true;
+    let told = filled(|room: &mut [u8], length| {
+        let (start, count) = (room.as_mut_ptr().cast(), room.len());
+        // SAFETY: each pointer is that of a slice or a value. The room is as long as is said.
+        let status = unsafe {
+            raw::bully_configuration(text.as_ptr(), text.len(), start, count, length)
+        };
+        is_group = status != raw::BULLY_BAD_CONFIG;
+        if is_group { status } else { raw::BULLY_OK }
+    })?;
+    Ok(if is_group { Ok(told) } else { Err(text_of(told)) })
+}
+
 /// The version of the library.
 pub(crate) fn version() -> &'static str {
     // SAFETY: the version is a text with a zero byte at its end, which is never freed.

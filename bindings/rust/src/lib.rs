@@ -5,6 +5,7 @@ mod agent;
 #[allow(unsafe_code)]
 mod calls;
 mod coded;
+mod configuration;
 mod faults;
 mod member;
 mod raw;
@@ -15,6 +16,7 @@ mod table;
 mod trace;
 
 pub use agent::{Agent, AgentBuilder};
+pub use configuration::{Configuration, ConfigurationError};
 pub use faults::{
     FormFault, HeaderError, LearnError, LearnFault, LineFault, LogError, MembersError, NodeFault,
     OpenError, OpeningError, OutOfMemory, OwnedError, PlanError, PrepareError, Refused, ReplyError,

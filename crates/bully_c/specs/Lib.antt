@@ -5,6 +5,7 @@ pub mod AgentSession
 pub mod Arguments
 pub mod Exports
 pub mod Judged
+pub mod Configurations
 pub mod Replicas
 pub mod OldTables
 pub mod Settlements

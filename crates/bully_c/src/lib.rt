@@ -6,6 +6,7 @@
 #![tactic(auto)]
 
 mod agents;
+mod configurations;
 mod handle;
 mod logs;
 mod loose;

@@ -2,7 +2,7 @@
 ghost use Rattle.std.specs.Prelude.{◌≡◌};
 ghost use Rattle.bully_calls.specs.declared.event.Refused.{Refused};
 ghost use Rattle.bully_lines.specs.declared.fault.RequestFault.{RequestFault};
-ghost use Rattle.bully_c.specs.declared.status.TheConstants.{BAD_ANSWER, BAD_EVENT, BAD_HEADER, BAD_NODE, BAD_ROW, BAD_ROWS_MAX, BAD_TTL, CLOSED, FULL, LINE_WORD, NO_MEMBER, OK, OPEN, OUT_OF_MEMORY, ROW_DIFFERS, ROW_END, SHORT, TABLE_LENGTH, TABLE_OWNER};
+ghost use Rattle.bully_c.specs.declared.status.TheConstants.{BAD_ANSWER, BAD_CONFIG, BAD_EVENT, BAD_HEADER, BAD_NODE, BAD_ROW, BAD_ROWS_MAX, BAD_TTL, CLOSED, FULL, LINE_WORD, NO_MEMBER, OK, OPEN, OUT_OF_MEMORY, ROW_DIFFERS, ROW_END, SHORT, TABLE_LENGTH, TABLE_OWNER};
 ghost use Rattle.bully_calls.specs.Events.{refusal_number};
 ghost use Rattle.bully_c.specs.Numbers.{answer_number, event_numbered, follow_number, kind_number, reply_number, request_number, setup_number, status_number, trace_number, want_number};
 
@@ -54,6 +54,8 @@ pub const ROW_DIFFERS: u32 = 53;
 
 pub const ROW_END: u32 = 54;
 
+pub const BAD_CONFIG: u32 = 55;
+
 /// The numbers that stand by themselves.
 pub fn numbers()
     ensures ok { OK ≡ 0 }
@@ -75,6 +77,7 @@ pub fn numbers()
     ensures row { BAD_ROW ≡ 51 }
     ensures differs { ROW_DIFFERS ≡ 53 }
     ensures end { ROW_END ≡ 54 }
+    ensures config { BAD_CONFIG ≡ 55 }
 {}
 
 /// Of an event that is refused.
