@@ -1,4 +1,5 @@
 pub mod RoomLemmas
+pub mod ConfigurationLemmas
 pub mod MappedLemmas
 pub mod OldTableLemmas
 pub mod PresenceLemmas
