@@ -1,5 +1,5 @@
 -- What is told of a configuration.
-use Rattle.std.specs.Prelude.{◌≡◌, ◌≢◌, ◌⊎◌, ◌==◌, ℕ, List, [], ◌∷◌, ◌++◌, Ok, Err, IsUtf8, length, if◌then◌else◌}
+use Rattle.std.specs.Prelude.{◌≡◌, ◌⊎◌, ◌==◌, ℕ, List, [], ◌∷◌, ◌++◌, Ok, Err, IsUtf8, length, if◌then◌else◌}
 use Rattle.std.specs.Fmt.{decimal}
 use Rattle.bully_rows.specs.TraceText.{header_fields, line_of}
 use Rattle.bully_rows.specs.Headers.{version_for}
@@ -11,7 +11,7 @@ use Rattle.bully_c.specs.Arguments.{IsCopied, IsMadeAndCopied}
 use Rattle.bully_c.specs.declared.status.TheConstants.{BAD_CONFIG, OK, OUT_OF_MEMORY}
 
 -- how many bytes a name has, a colon, the name, and a line end
-abbrev pub name_line : List ℕ → List ℕ
+unfoldable pub name_line : List ℕ → List ℕ
 name_line name = decimal (length name) ++ (58 ∷ name) ++ (10 ∷ [])
 
 -- the lines of the names

@@ -75,6 +75,7 @@ fn push_names(text: &mut String, config: &Config) -> Result<(), OutOfMemory>
 }
 
 // Appends how many bytes the name has, and the name.
+#[tactic(auto, unfolding(crate::specs::Configurations::name_line))]
 fn push_name(text: &mut String, name: &str) -> Result<(), OutOfMemory>
     ensures { OnOk result (string_bytes text.new ≡ string_bytes text.old ++ name_line name.now) }
 {
