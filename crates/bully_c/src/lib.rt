@@ -1,4 +1,4 @@
-//! What C may call: each export is the call of bully_agent, bully_replica, bully_settling, bully_member, bully_trace or bully_table
+//! What C may call: each export is the call of bully_agent, bully_replica, bully_settling, bully_member, bully_config, bully_trace or bully_table
 //! behind it, of arguments that it tests.
 //!
 //! It stands on these, on the crates below them, and on bully_lines for requests and replies. `include/bully.h` says what each export
