@@ -273,6 +273,10 @@ struct Log {
 // Both nodes come up, and node 2 leads node 1: 16 events, of which the plan is the twelfth. Then node 2 crashes, and keeps its task.
 void share() {
     std::size_t length = 77;
+    const std::string document = "nodes = 2\npartitions = 3\nevents = 9\nturns = 9\nnames = ['a', 'b']\nkeep = true\n";
+    EXPECT(text_of([&document](char *told, std::size_t room, std::size_t *size) {
+        return bully_configuration(reinterpret_cast<const std::uint8_t *>(document.data()), document.size(), told, room, size);
+    }) == "bully,2,2,3,1 1,keep\n1:a\n1:b\n");
     Log log(text_of([](char *row, std::size_t room, std::size_t *told) { return bully_header(&group, nullptr, 0, row, room, told); }));
     EXPECT(log.text == "bully,2,2,3,1 1,keep\n");
     log.append(log.first.event(1, BULLY_EVENT_RECOVER));

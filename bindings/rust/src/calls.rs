@@ -463,13 +463,20 @@ pub(crate) fn configuration(text: &[u8]) -> Result<Result<Vec<u8>, String>, bull
     let told = filled(|room: &mut [u8], length| {
         let (start, count) = (room.as_mut_ptr().cast(), room.len());
         // SAFETY: each pointer is that of a slice or a value. The room is as long as is said.
-        let status = unsafe {
-            raw::bully_configuration(text.as_ptr(), text.len(), start, count, length)
-        };
+        let status =
+            unsafe { raw::bully_configuration(text.as_ptr(), text.len(), start, count, length) };
         is_group = status != raw::BULLY_BAD_CONFIG;
-        if is_group { status } else { raw::BULLY_OK }
+        if is_group {
+            status
+        } else {
+            raw::BULLY_OK
+        }
     })?;
-    Ok(if is_group { Ok(told) } else { Err(text_of(told)) })
+    Ok(if is_group {
+        Ok(told)
+    } else {
+        Err(text_of(told))
+    })
 }
 
 /// The version of the library.
