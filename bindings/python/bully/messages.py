@@ -11,7 +11,6 @@ from contextlib import suppress
 
 from .settings import shown_name
 
-from .settings import shown_name
 
 WAITING_MAX = 1000  # messages that wait to be written; of more the newest are left out
 LAST_SECONDS = 1.0  # for which it is waited at the end, until all are written
