@@ -52,12 +52,8 @@ class Configurations(unittest.TestCase):
         names = ('a:b', '\n1:c', '\u00e9\0', '"')
         cases: list[tuple[dict[str, Any], str]] = [
             ({}, 'bully,1,4,6'), ({'weights': [1, 1, 1, 1]}, 'bully,1,4,6'),
-<<<<<<< HEAD
-            ({'weights': [1, 2, 3, 1000]}, 'bully,2,4,6,1 2 3 1000,clear'), ({'keep': True}, 'bully,2,4,6,1 1 1 1,keep'),
-=======
             ({'weights': [1, 2, 3, 1000]}, 'bully,2,4,6,1 2 3 1000,clear'),
             ({'keep': True}, 'bully,2,4,6,1 1 1 1,keep'),
->>>>>>> af6b4a9af3b215b5baea96a9002bad1da53f9a0d
         ]  # fmt: skip
         for more, header in cases:
             with self.subTest(header=header):
