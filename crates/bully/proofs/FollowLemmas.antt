@@ -5,7 +5,7 @@ use Rattle.bully_rows.specs.declared.trace.TraceCause.{TraceCause}
 use Rattle.bully_rows.specs.declared.trace.TraceFault.{TraceFault}
 use Rattle.bully_rows.specs.Rows.{IsOfWriting, is_of_form}
 use Rattle.bully_trace.specs.declared.verdict.Verdict.{Verdict}
-use Rattle.bully_follow.specs.Watched.{IsFollowedAs, IsFollowFault}
+use Rattle.bully_follow.specs.Followed.{IsFollowedAs, IsFollowFault}
 use Rattle.bully.specs.Answer.{KnownBytes, Tells, row_line, stop_line, stop_of, verdict_status}
 use Rattle.bully.specs.FollowAnswer.{IsFollowAnswer}
 use Rattle.bully.specs.declared.telling.Stop.{Stop}

@@ -5,7 +5,7 @@ use Rattle.bully_cli.specs.Shells.{shell_named}
 use Rattle.bully_rows.specs.declared.trace.TraceFault.{TraceFault}
 use Rattle.bully_rows.specs.Rows.{records_of, trace_of}
 use Rattle.bully_trace.specs.declared.verdict.Verdict.{Verdict}
-use Rattle.bully_follow.specs.Watched.{IsFollowedAs}
+use Rattle.bully_follow.specs.Followed.{IsFollowedAs}
 use Rattle.bully.specs.Answer.{IsBadWord, IsShort, KnownBytes, Tells, row_line, stop_line, verdict_status}
 use Rattle.bully.specs.ConfigAnswer.{IsStopped}
 use Rattle.bully.specs.declared.telling.Stop.{Stop}

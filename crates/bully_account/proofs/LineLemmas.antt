@@ -3,7 +3,7 @@ use Rattle.std.proofs.Common.{◌≡◌, ◌∙◌, ℕ, ◌+◌, ◌-◌, ◌<�
 use Rattle.std.proofs.lemmas.List.{take_more}
 use Rattle.csv.specs.Records.{field_at}
 use Rattle.csv.proofs.RecordFacts.{field-get}
-use Rattle.bully_account.specs.Lines.{feeds, feeds_within}
+use Rattle.bully_account.specs.Tail.{feeds, feeds_within}
 
 feeds-append : (fields : List (List ℕ)) (field : List ℕ) → feeds_within (fields ++ field ∷ []) ≡ feeds_within fields + feeds field
 feeds-append [] field = omega arith

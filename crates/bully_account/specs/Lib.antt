@@ -5,4 +5,4 @@ pub mod Remembered
 pub mod RowsOf
 pub mod Accounts
 pub mod TraceReport
-pub mod Lines
+pub mod Tail

@@ -1,14 +1,14 @@
 ghost use Rattle.std.specs.Prelude.{◌≡◌, ◌-◌, ◌≤◌, None, IfSome, IsSomeAnd};
-ghost use Rattle.bully_account.specs.Lines.{ends_line, start_line};
+ghost use Rattle.bully_account.specs.Tail.{ends_line, start_line};
 ghost use Rattle.bully_account.specs.Moving.{moves_in};
 ghost use Rattle.bully_account.specs.RowsOf.{event_in};
 ghost use Rattle.bully_calls.specs.Events.{node_of};
 ghost use Rattle.bully_world.specs.State.{world_of};
 
-use crate::lines::{Lines, line_of};
 use crate::memory::Memories;
 use crate::moving::{Moves, moves_by, no_moves};
 use crate::showing::node_sheets;
+use crate::tail::{TailReader, line_of};
 use crate::{Memory, NodeSheet};
 use bully_base::{Node, OutOfMemory};
 use bully_rows::{Header, Row, RowReader, Version};
@@ -73,18 +73,18 @@ impl Account {
 
     /// Takes the row that was read last. The first event that the world refuses, or the first claim or detail that is
     /// false of it, decides: that row is kept, and no later one changes anything.
-    pub fn take_row<R: Read + Drop>(&mut self, rows: &RowReader<Lines<R>>, row: Row)
+    pub fn feed_row<R: Read + Drop>(&mut self, rows: &RowReader<TailReader<R>>, row: Row)
         ensures version { self.new.judge.version ≡ self.old.judge.version }
         ensures taken { (setup : SetupState) (before : List RowState) → length before + 2 ≡ rows.now.number → HasTaken setup before self.old → HasTaken setup (before ++ row ∷ []) self.new }
     {
         let number = rows.number();
         let moves = moves_of(self.judge.world(), &row);
-        self.judge.take_row(number, &row);
+        self.judge.feed_row(number, &row);
         if self.judge.stopped().is_some() {
             keep(&mut self.stop, rows, rows.source(), rows.end(), row);
         } else {
             self.memories
-                .take_row(self.judge.world(), number, &row, moves);
+                .feed_row(self.judge.world(), number, &row, moves);
         }
     }
 
@@ -141,8 +141,8 @@ impl Account {
 // Keeps the row that was read last as the one that decided, where none was kept yet. It ends at this place of what the source gave.
 fn keep<R: Read + Drop>(
     stop: &mut Option<Stop>,
-    rows: &RowReader<Lines<R>>,
-    source: &Lines<R>,
+    rows: &RowReader<TailReader<R>>,
+    source: &TailReader<R>,
     end: Position,
     row: Row,
 )

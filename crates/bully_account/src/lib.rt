@@ -8,20 +8,20 @@
 #![tactic(auto)]
 
 mod account;
-mod lines;
 mod memory;
 mod moving;
 mod possible;
 mod reading;
 mod showing;
+mod tail;
 mod telling;
 
 pub use account::{Account, Stop};
 pub use bully_calls::EventKind;
-pub use lines::{Lines, line_of};
 pub use memory::{Memory, Note, What};
 pub use possible::possible_now;
 pub use showing::{NodeSheet, NodeSummary, node_sheet, shown_of};
+pub use tail::{TailReader, line_of};
 pub use telling::{TraceReport, tell};
 
 /// How many of its last rows a node has remembered.

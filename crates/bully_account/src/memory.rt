@@ -201,20 +201,20 @@ impl Memories {
 
     /// Remembers the row of this number, which led to the world, and which nodes it took to another point; where that isn't told of its
     /// own, it did if the node isn't idle now. A Halt that ran is remembered of the callee, too, and a claim of nobody.
-    pub fn take_row(&mut self, world: &World, number: u32, row: &Row, moves: Moves)
+    pub fn feed_row(&mut self, world: &World, number: u32, row: &Row, moves: Moves)
         ensures count { vec_len self.new.nodes ≡ vec_len self.old.nodes }
         ensures taken { MatchOption (event_in row.now) (self.new.nodes.items ≡ self.old.nodes.items)
             (λ e. node_of e ≤ world.now.setup.nodes → self.new.nodes.items ≡ each_from 1 (behind_event (world_of world.now) e number moves) self.old.nodes.items) }
     {
         match row {
-            Row::Event(event) => self.take_event(world, number, event, moves),
-            Row::Detailed(event) => self.take_event(world, number, &event.event(), moves),
+            Row::Event(event) => self.feed_event(world, number, event, moves),
+            Row::Detailed(event) => self.feed_event(world, number, &event.event(), moves),
             Row::Claim(_) | Row::Whole(_) => {}
         }
     }
 
     // Remembers the event of this row.
-    fn take_event(&mut self, world: &World, row: u32, event: &Event, moves: Moves)
+    fn feed_event(&mut self, world: &World, row: u32, event: &Event, moves: Moves)
         ensures count { vec_len self.new.nodes ≡ vec_len self.old.nodes }
         ensures taken { node_of event.now ≤ world.now.setup.nodes → self.new.nodes.items ≡ each_from 1 (behind_event (world_of world.now) event.now row moves) self.old.nodes.items }
     {

@@ -3,9 +3,9 @@ ghost use Rattle.bully_account.specs.Accounts.{AreTakenToEnd};
 ghost use Rattle.bully_rows.specs.RecordsLeft.{EndsReading, IsUnread};
 
 use crate::Account;
-use crate::lines::Lines;
+use crate::tail::TailReader;
 use bully_base::OutOfMemory;
-use bully_rows::{Header, Row, RowReader, Started, TraceFault, TraceTaker, take_text};
+use bully_rows::{Header, Row, RowReader, TraceFault, TraceFeed, TraceSink, feed_text};
 use std::alloc::Global;
 use std::io::Read;
 
@@ -13,25 +13,25 @@ use std::io::Read;
 /// then that of the rows before the one at fault.
 pub fn read_each<R: Read + Drop>(
     alloc: Global,
-    rows: &mut RowReader<Lines<R>>,
+    rows: &mut RowReader<TailReader<R>>,
     account: &mut Option<Account>,
 ) -> Result<(), TraceFault>
     requires { account.old ≡ None }
     ensures taken { (known : Option (List ℕ)) → IsUnread known rows.old → OnOk result (AreTakenToEnd known account.new) }
     ensures fault { (known : Option (List ℕ)) → IsUnread known rows.old → IfErr result (EndsReading known) }
 {
-    let mut text: Started<(), Account> = Started {
+    let mut text: TraceFeed<(), Account> = TraceFeed {
         start: (),
         begun: None,
     };
-    let taken = take_text(alloc, rows, &mut text);
+    let taken = feed_text(alloc, rows, &mut text);
     if let Some(begun) = text.begun {
-        *account = Some(begun.taker);
+        *account = Some(begun.sink);
     }
     taken
 }
 
-impl<R: Read + Drop> TraceTaker<Lines<R>, ()> for Account {
+impl<R: Read + Drop> TraceSink<TailReader<R>, ()> for Account {
     ghost use Rattle.bully_account.specs.Accounts.{HasTakenBehind};
 
     ghost has_taken = { λ _. HasTakenBehind };
@@ -40,13 +40,13 @@ impl<R: Read + Drop> TraceTaker<Lines<R>, ()> for Account {
         Account::new(alloc, header)
     }
 
-    fn take_read_row(
+    fn feed_read_row(
         &mut self,
         _alloc: Global,
-        rows: &RowReader<Lines<R>>,
+        rows: &RowReader<TailReader<R>>,
         row: Row,
     ) -> Result<(), OutOfMemory> {
-        self.take_row(rows, row);
+        self.feed_row(rows, row);
         Ok(())
     }
 }

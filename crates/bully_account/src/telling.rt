@@ -5,8 +5,8 @@ ghost use Rattle.bully_rows.specs.RecordsLeft.{EndsReading, IsUnread};
 ghost use Rattle.bully_rows.specs.Rows.{OfTrace, is_of_form, no_memory};
 ghost use Rattle.bully_trace.specs.declared.verdict.Verdict.{Verdict as VerdictState};
 
-use crate::lines::Lines;
 use crate::reading::read_each;
+use crate::tail::TailReader;
 use crate::{Account, NodeSheet};
 use bully_rows::{RowReader, TraceCause, TraceFault, no_header};
 use bully_trace::{Verdict, reached};
@@ -25,7 +25,7 @@ pub struct TraceReport {
 /// those that were read; and as `OutOfMemory`, at row 0, where the account or what is shown can't be made.
 pub fn tell<R: Read + Drop>(
     alloc: Global,
-    rows: &mut RowReader<Lines<R>>,
+    rows: &mut RowReader<TailReader<R>>,
     account: &mut Option<Account>,
 ) -> Result<TraceReport, TraceFault>
     requires { account.old ≡ None }

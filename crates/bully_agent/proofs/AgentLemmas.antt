@@ -7,7 +7,7 @@ use Rattle.bully_handlers.specs.Handler.{reply}
 use Rattle.bully_calls.specs.declared.message.Reply.{Reply}
 use Rattle.bully_calls.specs.declared.message.Request.{Request}
 use Rattle.bully_calls.specs.declared.event.Event.{Event}
-use Rattle.bully_world.specs.declared.take.TakenStep.{TakenStep}
+use Rattle.bully_world.specs.declared.take.AppliedStep.{AppliedStep}
 use Rattle.bully_calls.specs.Events.{node_of}
 use Rattle.bully_world.specs.State.{StoredNode}
 use Rattle.bully_world.specs.StateAfter.{heard_state, node_after, node_answer, phased_state}
@@ -24,7 +24,7 @@ abbrev reply_of : Request → Answer → Reply
 reply_of r a = record { caller = r.caller; number = r.number; answer = a }
 
 module _ (setup : Setup) (i events number : ℕ) (m n : StoredNode) where
-  pub taken_is : (e : Event) (k : ℕ) (taken : TakenStep) → events < setup.events_max → node_of e ≡ i → taken.event ≡ e → n ≡ node_after setup e m → taken.answer ≡ node_answer e m → k ≡ number_after e events number
+  pub taken_is : (e : Event) (k : ℕ) (taken : AppliedStep) → events < setup.events_max → node_of e ≡ i → taken.event ≡ e → n ≡ node_after setup e m → taken.answer ≡ node_answer e m → k ≡ number_after e events number
       → FollowsAt Always setup (node_of e) m e taken.answer n → IsTaken (agent setup i events number m) e (agent setup i (events + 1) k n) taken
   taken_is e k taken room named event after answer numbered follows = record {
     room = room;
@@ -39,7 +39,7 @@ module _ (setup : Setup) (i events number : ℕ) (m n : StoredNode) where
       → IsServed (agent setup i events number m) r (agent setup i (events + 1) number n) (record { event = Event.Run r.caller; reply = record { caller = r.caller; number = r.number; answer = a } })
   served_is r a can answer after follows = record { can = can; event = refl; answered = ap (reply_of r) answer; after = ap (agent setup i (events + 1) number) after; follows = follows }
 
-  pub returned_is : (r : Reply) (taken : TakenStep) → events < setup.events_max → IsDue (agent setup i events number m) r → taken.event ≡ Event.Return i → n ≡ returned_by setup i (Phase.Ran r.answer) m → taken.answer ≡ returned_answer i (Phase.Ran r.answer) m
+  pub returned_is : (r : Reply) (taken : AppliedStep) → events < setup.events_max → IsDue (agent setup i events number m) r → taken.event ≡ Event.Return i → n ≡ returned_by setup i (Phase.Ran r.answer) m → taken.answer ≡ returned_answer i (Phase.Ran r.answer) m
       → FollowsAt (HasRun i r.answer) setup i m (Event.Return i) taken.answer n → IsReturned (agent setup i events number m) r (agent setup i (events + 1) number n) taken
   returned_is r taken room due event after answer follows = record { room = room; due = due; event = event; answer = answer; after = ap (agent setup i (events + 1) number) after; follows = follows }
 

@@ -10,7 +10,7 @@ use Rattle.bully_calls.specs.declared.event.Event.{Event}
 use Rattle.bully_calls.specs.declared.event.Refused.{Refused}
 use Rattle.bully_calls.specs.declared.kind.EventKind.{EventKind}
 use Rattle.bully_calls.specs.declared.kind.NodeEventKind.{NodeEventKind}
-use Rattle.bully_world.specs.declared.take.TakenStep.{TakenStep}
+use Rattle.bully_world.specs.declared.take.AppliedStep.{AppliedStep}
 use Rattle.bully_world.specs.NodeInvariant.{NodeInvariant}
 use Rattle.bully_world.specs.State.{StoredNode, node_state_of, IsKept}
 use Rattle.bully_world.specs.StateAfter.{down_state, node_after, node_answer}
@@ -74,7 +74,7 @@ agent_after e a = record a { events = a.events + 1; number = number_after e a.ev
 
 -- the agent took the event, for which there was room: it tells event and answer, is what the event makes of it, and the
 -- event leads on in every world of which it may be a part
-pub record IsTaken (old : AgentState) (e : Event) (new : AgentState) (taken : TakenStep) : Type 0 where
+pub record IsTaken (old : AgentState) (e : Event) (new : AgentState) (taken : AppliedStep) : Type 0 where
   pub room : old.events < old.setup.events_max
   pub event : taken.event ≡ e
   pub answer : taken.answer ≡ node_answer e old.node_state

@@ -11,7 +11,7 @@ use Rattle.bully_calls.specs.declared.message.Request.{Request}
 use Rattle.bully_calls.specs.declared.message.Reply.{Reply}
 use Rattle.bully_calls.specs.declared.event.Event.{Event}
 use Rattle.bully_calls.specs.declared.event.Refused.{Refused}
-use Rattle.bully_world.specs.declared.take.TakenStep.{TakenStep}
+use Rattle.bully_world.specs.declared.take.AppliedStep.{AppliedStep}
 use Rattle.bully_world.specs.NodeInvariant.{SuitsCallee, SuitsPhase, SuitsTable}
 use Rattle.bully_world.specs.State.{StoredNode}
 use Rattle.bully_world.specs.StateAfter.{heard_state, node_after, node_answer, phased_state}
@@ -119,7 +119,7 @@ abbrev pub returned_answer : ℕ → Phase → StoredNode → Answer
 returned_answer i f m = node_answer (Event.Return i) (phased_state f m)
 
 -- the agent's call returned with the reply, which is one to it, and for which there was room
-pub record IsReturned (old : AgentState) (reply : Reply) (new : AgentState) (taken : TakenStep) : Type 0 where
+pub record IsReturned (old : AgentState) (reply : Reply) (new : AgentState) (taken : AppliedStep) : Type 0 where
   pub room : old.events < old.setup.events_max
   pub due : IsDue old reply
   pub event : taken.event ≡ Event.Return old.node

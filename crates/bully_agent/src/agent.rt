@@ -10,16 +10,16 @@ ghost use Rattle.bully_agent.specs.Agent.{IsAlone, IsRefused, IsTaken, PartOf, d
 ghost use Rattle.bully_agent.specs.Calls.{GivesOut, IsAwaited, IsDue, IsFailed, IsReplyTo, IsRequested, IsReturned, IsServed, RefusesFailure, RefusesReply, RefusesRequest, TellsRun, request_of};
 ghost use Rattle.bully_agent.specs.Part.{Always};
 
+use crate::applying::apply_alone;
 use crate::due::{can_return, is_under_way};
 use crate::requests::{request_cause, serve_request};
 use crate::returns::{return_failure, return_reply};
-use crate::taking::take_alone;
 use bully_base::{Node, OutOfMemory, Setup};
 use bully_calls::{NodeEventKind, Reply, Request, Slot};
 use bully_handlers::Vector;
 use bully_steps::{Point, Want, planned_table};
 use bully_table::{Table, copied};
-use bully_world::{Event, NodeState, Refused, TakenStep, is_full_for};
+use bully_world::{AppliedStep, Event, NodeState, Refused, is_full_for};
 use std::alloc::{AllocError, Global};
 use std::marker::Model;
 
@@ -62,7 +62,7 @@ pub struct FailedCall {
     /// The loss, for the log.
     pub lost: Event,
     /// The return, behind it.
-    pub returned: TakenStep,
+    pub returned: AppliedStep,
 }
 
 impl Agent {
@@ -204,22 +204,22 @@ impl Agent {
     /// - a Check and a Timeout as `Busy`;
     /// - a Start and a Move as `NoStep`, `SlotBusy`;
     /// - a Drop as `NoCall`, `NotOrphan`.
-    pub fn take(&mut self, kind: NodeEventKind) -> Result<TakenStep, Refused>
+    pub fn apply(&mut self, kind: NodeEventKind) -> Result<AppliedStep, Refused>
         requires alone { IsAlone (EventKind.Node kind) }
         ensures taken { IfOk result (IsTaken self.old (event_at kind self.old.node) self.new) }
         ensures why { IfErr result (IsRefused Always self.old (event_at kind self.old.node)) }
         ensures unchanged { IfErr result (λ _. self.new ≡ self.old) }
     {
-        self.take_event(kind.event(self.node))
+        self.apply_event(kind.event(self.node))
     }
 
     /// The node has planned this table. Refused as `Full`, `IsDown`, `NoStep`, `SlotBusy`, `BadTable`.
-    pub fn plan(&mut self, table: Table) -> Result<TakenStep, Refused>
+    pub fn plan(&mut self, table: Table) -> Result<AppliedStep, Refused>
         ensures taken { IfOk result (IsTaken self.old (Event.Plan self.old.node table) self.new) }
         ensures why { IfErr result (IsRefused Always self.old (Event.Plan self.old.node table)) }
         ensures unchanged { IfErr result (λ _. self.new ≡ self.old) }
     {
-        self.take_event(Event::Plan(self.node, table))
+        self.apply_event(Event::Plan(self.node, table))
     }
 
     /// The request runs at the node. Refused as `Full`; `BadNode`, where its caller is above the setup's last node;
@@ -267,7 +267,7 @@ impl Agent {
     /// has under way.
     ///
     /// Premise: the call ran at its callee and was answered so. The reply of [`Agent::serve`] of the callee tells that.
-    pub fn replied(&mut self, reply: Reply) -> Result<TakenStep, Refused>
+    pub fn replied(&mut self, reply: Reply) -> Result<AppliedStep, Refused>
         ensures returned { IfOk result (IsReturned self.old reply self.new) }
         ensures why { IfErr result (RefusesReply self.old reply) }
         ensures unchanged { IfErr result (λ _. self.new ≡ self.old) }
@@ -287,7 +287,7 @@ impl Agent {
             told,
         );
         self.events += 1;
-        Ok(TakenStep {
+        Ok(AppliedStep {
             event: Event::Return(self.node),
             answer,
         })
@@ -312,7 +312,7 @@ impl Agent {
         self.events += 2;
         Ok(FailedCall {
             lost: Event::Lose(self.node),
-            returned: TakenStep {
+            returned: AppliedStep {
                 event: Event::Return(self.node),
                 answer,
             },
@@ -322,17 +322,17 @@ impl Agent {
     // An event that the node takes by itself.
     // (inlined with what it calls, so that a call for an event that is known has what that needs, and no more)
     #[inline(always)]
-    fn take_event(&mut self, event: Event) -> Result<TakenStep, Refused>
+    fn apply_event(&mut self, event: Event) -> Result<AppliedStep, Refused>
         requires alone { IsAlone (kind_of event) }
         requires named { node_of event ≡ self.old.node }
         ensures taken { IfOk result (IsTaken self.old event self.new) }
         ensures why { IfErr result (IsRefused Always self.old event) }
         ensures unchanged { IfErr result (λ _. self.new ≡ self.old) }
     {
-        let answer = take_alone(&self.setup, self.events, &mut self.node_state, &event)?;
+        let answer = apply_alone(&self.setup, self.events, &mut self.node_state, &event)?;
         self.number = number_after(&event, self.events, self.number);
         self.events += 1;
-        Ok(TakenStep { event, answer })
+        Ok(AppliedStep { event, answer })
     }
 
     // Whether there is no room for so many events more, one at least.

@@ -10,10 +10,10 @@
 ghost use Rattle.bully_agent.specs.Laws.{GroupGoesOn, KeepsOthers, PartsAgree, RunsStay};
 
 mod agent;
+mod applying;
 mod due;
 mod requests;
 mod returns;
-mod taking;
 
 pub use agent::{Agent, FailedCall, Served};
 

@@ -93,7 +93,7 @@ fn verdict_of(alloc: Global, trace: &Trace) -> Result<Verdict, OutOfMemory>
     let mut judge = Judge::new(alloc, header)?;
     let mut number = 2;
     for row in trace.rows.as_slice() {
-        judge.take_row(number, row);
+        judge.feed_row(number, row);
         number += 1;
     }
     Ok(judge.verdict())

@@ -112,15 +112,15 @@ pub extern "C" fn bully_c_agent_close(alloc: Global, agent: &mut AgentHandle) ->
     }
 }
 
-// The node takes the event of this kind by itself: [`Agent::take`].
-fn take(alloc: Global, agent: &mut AgentHandle, kind: NodeEventKind) -> u32
+// The node takes the event of this kind by itself: [`Agent::apply`].
+fn apply(alloc: Global, agent: &mut AgentHandle, kind: NodeEventKind) -> u32
     requires { IsAlone (EventKind.Node kind) }
     ensures { AtOpen (IsOwn kind) agent.old.value result agent.new.value }
 {
     let Some(mut session) = agent.take(alloc) else {
         return CLOSED;
     };
-    let status = done(session.take(kind));
+    let status = done(session.apply(kind));
     agent.put(alloc, session);
     status
 }
@@ -130,7 +130,7 @@ fn take(alloc: Global, agent: &mut AgentHandle, kind: NodeEventKind) -> u32
 pub extern "C" fn bully_c_agent_recover(alloc: Global, agent: &mut AgentHandle) -> u32
     ensures { AtOpen (IsOwn KindState.Recover) agent.old.value result agent.new.value }
 {
-    take(alloc, agent, NodeEventKind::Recover)
+    apply(alloc, agent, NodeEventKind::Recover)
 }
 
 /// The node crashes.
@@ -138,7 +138,7 @@ pub extern "C" fn bully_c_agent_recover(alloc: Global, agent: &mut AgentHandle) 
 pub extern "C" fn bully_c_agent_crash(alloc: Global, agent: &mut AgentHandle) -> u32
     ensures { AtOpen (IsOwn KindState.Crash) agent.old.value result agent.new.value }
 {
-    take(alloc, agent, NodeEventKind::Crash)
+    apply(alloc, agent, NodeEventKind::Crash)
 }
 
 /// The idle node begins to check.
@@ -146,7 +146,7 @@ pub extern "C" fn bully_c_agent_crash(alloc: Global, agent: &mut AgentHandle) ->
 pub extern "C" fn bully_c_agent_check(alloc: Global, agent: &mut AgentHandle) -> u32
     ensures { AtOpen (IsOwn KindState.Check) agent.old.value result agent.new.value }
 {
-    take(alloc, agent, NodeEventKind::Check)
+    apply(alloc, agent, NodeEventKind::Check)
 }
 
 /// The idle node heard nothing for too long.
@@ -154,7 +154,7 @@ pub extern "C" fn bully_c_agent_check(alloc: Global, agent: &mut AgentHandle) ->
 pub extern "C" fn bully_c_agent_timeout(alloc: Global, agent: &mut AgentHandle) -> u32
     ensures { AtOpen (IsOwn KindState.Timeout) agent.old.value result agent.new.value }
 {
-    take(alloc, agent, NodeEventKind::Timeout)
+    apply(alloc, agent, NodeEventKind::Timeout)
 }
 
 /// The node starts its call.
@@ -162,7 +162,7 @@ pub extern "C" fn bully_c_agent_timeout(alloc: Global, agent: &mut AgentHandle) 
 pub extern "C" fn bully_c_agent_start(alloc: Global, agent: &mut AgentHandle) -> u32
     ensures { AtOpen (IsOwn KindState.Start) agent.old.value result agent.new.value }
 {
-    take(alloc, agent, NodeEventKind::Start)
+    apply(alloc, agent, NodeEventKind::Start)
 }
 
 /// The node moves on without a call.
@@ -170,7 +170,7 @@ pub extern "C" fn bully_c_agent_start(alloc: Global, agent: &mut AgentHandle) ->
 pub extern "C" fn bully_c_agent_advance(alloc: Global, agent: &mut AgentHandle) -> u32
     ensures { AtOpen (IsOwn KindState.Move) agent.old.value result agent.new.value }
 {
-    take(alloc, agent, NodeEventKind::Move)
+    apply(alloc, agent, NodeEventKind::Move)
 }
 
 /// The node's call, an orphan, is given up.
@@ -178,7 +178,7 @@ pub extern "C" fn bully_c_agent_advance(alloc: Global, agent: &mut AgentHandle) 
 pub extern "C" fn bully_c_agent_drop_orphan(alloc: Global, agent: &mut AgentHandle) -> u32
     ensures { AtOpen (IsOwn KindState.Drop) agent.old.value result agent.new.value }
 {
-    take(alloc, agent, NodeEventKind::Drop)
+    apply(alloc, agent, NodeEventKind::Drop)
 }
 
 /// The node has planned the table of these owners: [`Agent::plan`].

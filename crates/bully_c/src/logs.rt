@@ -90,7 +90,7 @@ fn learn_rows(alloc: Global, learned: &mut RowReplica, text: &[u8]) -> u32
     ensures counted { learned.old.rows ≤ learned.new.rows }
 {
     let mut reader = RowReader::open(alloc, text);
-    match learned.take_all(alloc, &mut reader) {
+    match learned.learn_all(alloc, &mut reader) {
         Ok(()) => OK,
         Err(fault) => status_of_learning(fault),
     }

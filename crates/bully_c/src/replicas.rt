@@ -93,7 +93,7 @@ pub extern "C" fn bully_c_replica_close(alloc: Global, replica: &mut ReplicaHand
     }
 }
 
-/// Learns the rows that stand next in the log: [`RowReplica::take_all`].
+/// Learns the rows that stand next in the log: [`RowReplica::learn_all`].
 #[unsafe(no_mangle)]
 pub extern "C" fn bully_c_replica_learn(
     alloc: Global,

@@ -47,13 +47,13 @@ impl AgentSession {
         }
     }
 
-    /// [`Agent::take`].
-    pub fn take(&mut self, kind: NodeEventKind) -> Result<Answer, Refused>
+    /// [`Agent::apply`].
+    pub fn apply(&mut self, kind: NodeEventKind) -> Result<Answer, Refused>
         requires { IsAlone (EventKind.Node kind) }
         ensures { Takes (event_at kind) (TellsOwn kind) self.old result self.new }
     {
         let before = self.agent.slot().call();
-        let taken = self.agent.take(kind)?;
+        let taken = self.agent.apply(kind)?;
         let after = self.agent.slot().call();
         self.told = own_told(kind, self.agent.node(), before, after);
         Ok(taken.answer)

@@ -1,18 +1,16 @@
 -- How a sheet begins, and what its account has to do with the trace.
-use Rattle.std.proofs.Common.{◌≡◌, ◌∙◌, ◌++◌, ℕ, false, List, [], ◌∷◌, Option, Some, None, Result, Ok, Err, IfOk, IfErr, IfSome, IsSome, IsSomeAnd, refl, sym, ap, subst, codes, append_assoc, append-nil, arith, MatchOption, inl, inr}
+use Rattle.std.proofs.Common.{◌≡◌, ◌∙◌, ◌++◌, ℕ, false, List, [], Option, Some, None, Result, Ok, Err, IfOk, IfErr, IfSome, IsSome, IsSomeAnd, refl, sym, ap, subst, codes, append_assoc, append-nil, arith, MatchOption, inl, inr}
 use Rattle.std.specs.Fmt.{decimal}
 use Rattle.bully_base.specs.Setup.{Setup}
 use Rattle.bully_world.specs.State.{world_of}
 use Rattle.bully_world.specs.World.{World, first_world}
-use Rattle.bully_rows.specs.RecordsLeft.{EndsReading}
-use Rattle.bully_rows.specs.Rows.{OfTrace, trace_of, records_of}
+use Rattle.bully_rows.specs.Rows.{OfTrace}
 use Rattle.bully_rows.specs.Trace.{Trace}
 use Rattle.bully_rows.specs.TraceText.{line_of, row_fields, trace_cause_text}
 use Rattle.bully_rows.specs.declared.trace.Row.{Row}
 use Rattle.bully_rows.specs.declared.trace.TraceFault.{TraceFault}
-use Rattle.bully_trace.specs.Judging.{HasJudged, IsJudgedOn, JudgeState}
+use Rattle.bully_trace.specs.Judging.{HasJudged, JudgeState}
 use Rattle.bully_trace.specs.Verdict.{IsJudged, IsVerdict}
-use Rattle.bully_trace.specs.VerdictText.{verdict_head}
 use Rattle.bully_trace.specs.declared.verdict.Verdict.{Verdict}
 use Rattle.bully_trace.proofs.JudgeLemmas.{judged-all}
 use Rattle.bully_trace.proofs.OneVerdictLemmas.{one-verdict}
@@ -23,7 +21,7 @@ use Rattle.bully_account.specs.declared.account.Stop.{Stop}
 use Rattle.bully_account.specs.declared.showing.NodeSheet.{NodeSheet}
 use Rattle.bully_explain.specs.Differing.{decided_text}
 use Rattle.bully_explain.specs.Drafted.{Appends, AppendsPrinted, Drafted, blank}
-use Rattle.bully_explain.specs.SheetText.{AppendsForm, Begins, BeginsSheet, IsDecided, IsFormText, IsRowShown, IsSheet, IsSheetOf, IsSheetText, form_head, head_text, place_text}
+use Rattle.bully_explain.specs.SheetText.{AppendsForm, Begins, BeginsSheet, IsDecided, IsFormText, IsSheet, IsSheetOf, IsSheetText, form_head, head_text, place_text}
 
 -- ---- more text behind a head
 

@@ -1,7 +1,6 @@
 //! What a row says beside what the group shows, where the two differ.
 ghost use Rattle.std.specs.Prelude.{◌≡◌, ◌≤◌, nat_le, true};
 ghost use Rattle.bully_calls.specs.Events.{node_saying};
-ghost use Rattle.bully_rows.specs.EventsTold.{event_of_detailed};
 ghost use Rattle.bully_trace.specs.Details.{said_of};
 ghost use Rattle.bully_world.specs.State.{world_of};
 ghost use Rattle.bully_explain.specs.Differing.{answer_in, answer_text, answers_text, callee_in, claimed_text, detailed_text, differing_text, kind_text, whole_text};

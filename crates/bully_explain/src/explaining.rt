@@ -6,7 +6,7 @@ ghost use Rattle.bully_rows.specs.Rows.{is_of_form};
 
 use crate::form_text::form_text;
 use crate::sheet_text::sheet_text;
-use bully_account::{Account, Lines, NodeSheet, TraceReport, tell};
+use bully_account::{Account, NodeSheet, TailReader, TraceReport, tell};
 use bully_base::OutOfMemory;
 use bully_rows::{RowReader, TraceFault};
 use bully_trace::Verdict;
@@ -33,7 +33,7 @@ pub fn explain<R: Read + Drop>(alloc: Global, reader: R) -> Result<Sheet, TraceF
     ensures fault { IfErr result (EndsReading (R.remaining reader)) }
     ensures untold { IfErr result IsUntold }
 {
-    let mut rows = RowReader::open(alloc, Lines::new(reader));
+    let mut rows = RowReader::open(alloc, TailReader::new(reader));
     let mut account: Option<Account> = None;
     read_sheet(alloc, &mut rows, &mut account)
 }
@@ -41,7 +41,7 @@ pub fn explain<R: Read + Drop>(alloc: Global, reader: R) -> Result<Sheet, TraceF
 // The sheet of the rows of a text of which none was read. They are taken to the account, which their header makes.
 fn read_sheet<R: Read + Drop>(
     alloc: Global,
-    rows: &mut RowReader<Lines<R>>,
+    rows: &mut RowReader<TailReader<R>>,
     account: &mut Option<Account>,
 ) -> Result<Sheet, TraceFault>
     requires { account.old ≡ None }
@@ -63,7 +63,7 @@ fn read_sheet<R: Read + Drop>(
 // The text of the sheet.
 fn text_of<R: Read + Drop>(
     alloc: Global,
-    rows: &RowReader<Lines<R>>,
+    rows: &RowReader<TailReader<R>>,
     account: &Option<Account>,
     told: &TraceReport,
 ) -> Result<String, OutOfMemory>

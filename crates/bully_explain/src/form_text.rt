@@ -5,7 +5,7 @@ ghost use Rattle.bully_explain.specs.SheetText.{AppendsForm, IsFormText};
 use crate::draft::Draft;
 use crate::form::{Expected, FieldCounts, Misfit, field_at, misfit_of_header, misfit_of_row};
 use crate::words::push_row_place;
-use bully_account::{Account, Lines, line_of};
+use bully_account::{Account, TailReader, line_of};
 use bully_base::{OutOfMemory, Setup, WEIGHT_MAX};
 use bully_calls::EVERY_EVENT_KIND;
 use bully_rows::{ROWS_MAX, RowReader, SAW, TraceCause, TraceFault, Version};
@@ -32,7 +32,7 @@ const EACH: &str = " parted by single spaces, each";
 #[tactic(auto, using(crate::proofs::SheetLemmas::form_more))]
 pub fn form_text<R: Read + Drop>(
     alloc: Global,
-    rows: &RowReader<Lines<R>>,
+    rows: &RowReader<TailReader<R>>,
     account: &Option<Account>,
     fault: TraceFault,
 ) -> Result<String, OutOfMemory>
@@ -48,7 +48,7 @@ pub fn form_text<R: Read + Drop>(
 #[tactic(auto, using(crate::proofs::SheetLemmas::form_whole))]
 fn form_head<R: Read + Drop>(
     alloc: Global,
-    rows: &RowReader<Lines<R>>,
+    rows: &RowReader<TailReader<R>>,
     fault: TraceFault,
 ) -> Result<String, OutOfMemory>
     ensures { IfOk result (λ text. IsFormText fault (string_bytes text)) }
@@ -59,7 +59,11 @@ fn form_head<R: Read + Drop>(
 }
 
 // Appends the same.
-fn push_form_head<R: Read + Drop>(text: &mut Draft, rows: &RowReader<Lines<R>>, fault: TraceFault)
+fn push_form_head<R: Read + Drop>(
+    text: &mut Draft,
+    rows: &RowReader<TailReader<R>>,
+    fault: TraceFault,
+)
     ensures { AppendsForm fault text.old text.new }
 {
     if rows.number() == 0 {
@@ -89,7 +93,7 @@ fn push_faulty_row(text: &mut Draft, line: u64, fields: &ByteRecord, fault: Trac
 // What stands behind the head of the sheet: where the row breaks its form.
 fn form_rest<R: Read + Drop>(
     alloc: Global,
-    rows: &RowReader<Lines<R>>,
+    rows: &RowReader<TailReader<R>>,
     account: &Option<Account>,
     cause: TraceCause,
 ) -> Result<String, OutOfMemory> {

@@ -10,6 +10,7 @@
 mod claim_rules;
 mod config;
 mod config_text;
+mod context;
 mod detail_rules;
 mod differing;
 mod draft;
@@ -18,7 +19,6 @@ mod form;
 mod form_text;
 mod point_words;
 mod rules;
-mod scene;
 mod sentences;
 mod sheet_text;
 mod shown;

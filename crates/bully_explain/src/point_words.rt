@@ -1,42 +1,42 @@
 //! Points in words, and the steps of an election.
 
+use crate::context::{DecisionContext, last_halt, last_move};
 use crate::draft::Draft;
-use crate::scene::{Scene, last_halt, last_move};
 use crate::words::push_point;
 use bully_base::Setup;
 use bully_steps::Point;
 
 /// Appends the line of the step: which of an election's, as docs/FORMATS.md counts them, and the point in words.
-pub fn push_step_line(text: &mut Draft, scene: &Scene) {
+pub fn push_step_line(text: &mut Draft, context: &DecisionContext) {
     text.push_str("  the step      ");
-    match step_of(scene.setup(), &scene.shown.point) {
+    match step_of(context.setup(), &context.shown.point) {
         Some(step) => text.push_value(step),
         None => text.push_str("none"),
     }
     text.push_str(" of an election: ");
-    push_point_told(text, scene.setup(), &scene.shown.point);
+    push_point_told(text, context.setup(), &context.shown.point);
     text.push_str("\n");
 }
 
 /// Appends where the row's node stands, as `node 2 is at step 1, Asking 3 (it asks if node 3 is up)`; of an idle one since when.
-pub fn push_where(text: &mut Draft, scene: &Scene) {
-    if let Point::Idle = scene.shown.point {
-        return push_idle(text, scene);
+pub fn push_where(text: &mut Draft, context: &DecisionContext) {
+    if let Point::Idle = context.shown.point {
+        return push_idle(text, context);
     }
-    text.push_between("node ", scene.number(), " is at ");
-    if let Some(step) = step_of(scene.setup(), &scene.shown.point) {
+    text.push_between("node ", context.number(), " is at ");
+    if let Some(step) = step_of(context.setup(), &context.shown.point) {
         text.push_between("step ", step, ", ");
     }
-    push_point_told(text, scene.setup(), &scene.shown.point);
+    push_point_told(text, context.setup(), &context.shown.point);
 }
 
 // Appends that no procedure of the row's node runs, and since which row, or whose Halt.
-fn push_idle(text: &mut Draft, scene: &Scene) {
-    let notes = scene.notes(scene.node);
+fn push_idle(text: &mut Draft, context: &DecisionContext) {
+    let notes = context.notes(context.node);
     let Some(moved) = last_move(notes) else {
-        return text.push_between("no procedure of node ", scene.number(), " runs");
+        return text.push_between("no procedure of node ", context.number(), " runs");
     };
-    text.push_between("no procedure of node ", scene.number(), " has run since ");
+    text.push_between("no procedure of node ", context.number(), " has run since ");
     match last_halt(notes) {
         Some((halter, row)) if row == moved => {
             text.push_between("the Halt of node ", halter.number(), " in row ");

@@ -1,8 +1,8 @@
 //! The rule that a refused row breaks, in a sentence with what would be right: one for each of the causes.
 
+use crate::context::{DecisionContext, push_down, push_start, push_up};
 use crate::draft::Draft;
 use crate::point_words::{push_point_told, push_where};
-use crate::scene::{Scene, push_down, push_start, push_up};
 use crate::words::{push_call, push_members, push_offer};
 use bully_account::{EventKind, Note, What};
 use bully_base::Setup;
@@ -33,63 +33,67 @@ pub fn push_room(text: &mut Draft, setup: &Setup) {
 }
 
 /// Appends that a node which is down has no call, where the event is of one, or else what it may do.
-pub fn push_is_down(text: &mut Draft, scene: &Scene, event: &Event) {
+pub fn push_is_down(text: &mut Draft, context: &DecisionContext, event: &Event) {
     match event {
         Event::Run(_) | Event::Lose(_) | Event::Return(_) | Event::Drop(_) => {
             text.push_str("a node that is down has no call, as a crash ends it: ");
-            push_down(text, scene, scene.node);
+            push_down(text, context, context.node);
         }
-        _ => push_needs_recover(text, scene),
+        _ => push_needs_recover(text, context),
     }
 }
 
 /// Appends what a node that is down may do.
-pub fn push_needs_recover(text: &mut Draft, scene: &Scene) {
+pub fn push_needs_recover(text: &mut Draft, context: &DecisionContext) {
     text.push_str("a node that is down does nothing but recover: ");
-    push_down(text, scene, scene.node);
-    text.push_between(", and needs a recover,", scene.number(), " before this row");
+    push_down(text, context, context.node);
+    text.push_between(
+        ", and needs a recover,",
+        context.number(),
+        " before this row",
+    );
 }
 
 /// Appends that the node, which is up, has to crash first.
-pub fn push_needs_crash(text: &mut Draft, scene: &Scene) {
-    push_up(text, scene);
-    text.push_between(", and needs a crash,", scene.number(), " before this row");
+pub fn push_needs_crash(text: &mut Draft, context: &DecisionContext) {
+    push_up(text, context);
+    text.push_between(", and needs a crash,", context.number(), " before this row");
 }
 
 /// Appends that the procedure which runs at the node has to end before the event.
-pub fn push_one_procedure(text: &mut Draft, scene: &Scene, event: &Event) {
+pub fn push_one_procedure(text: &mut Draft, context: &DecisionContext, event: &Event) {
     text.push_str("a node runs one procedure at a time: a ");
     text.push_str(event.kind().word());
-    text.push_str(match scene.shown.point {
+    text.push_str(match context.shown.point {
         Point::Checking(_) => " waits until the check of node ",
         Point::Inquiring => " waits until the timeout of node ",
         _ => " waits until the election of node ",
     });
-    text.push_between("", scene.number(), ", at ");
-    push_point_told(text, scene.setup(), &scene.shown.point);
+    text.push_between("", context.number(), ", at ");
+    push_point_told(text, context.setup(), &context.shown.point);
     text.push_str(", ends or is stopped by a Halt");
 }
 
 /// Appends at which steps of an election the event comes, where the node is, and what comes next there.
-pub fn push_steps(text: &mut Draft, scene: &Scene, event: &Event) {
+pub fn push_steps(text: &mut Draft, context: &DecisionContext, event: &Event) {
     text.push_str(match event {
         Event::Start(_) => "an election has a call at its steps 1, 3, 5 and 8 alone: ",
         Event::Move(_) => "an election has a move at its steps 2, 4, 6 and 9 alone: ",
         _ => "an election has a plan at its step 7 alone: ",
     });
-    push_where(text, scene);
-    if !matches!(scene.shown.point, Point::Idle) {
+    push_where(text, context);
+    if !matches!(context.shown.point, Point::Idle) {
         text.push_str(", where ");
-        push_offer(text, scene.shown.offer);
+        push_offer(text, context.shown.offer);
         text.push_str(" comes next");
     }
 }
 
 /// Appends that the call in the slot has to leave it first.
-pub fn push_one_call(text: &mut Draft, scene: &Scene) {
+pub fn push_one_call(text: &mut Draft, context: &DecisionContext) {
     text.push_str("a node has one call under way at most: ");
-    if let Some(held) = scene.shown.call {
-        push_own_call(text, scene, held);
+    if let Some(held) = context.shown.call {
+        push_own_call(text, context, held);
         text.push_str(if held.is_live {
             " has to return first"
         } else {
@@ -99,43 +103,43 @@ pub fn push_one_call(text: &mut Draft, scene: &Scene) {
 }
 
 /// Appends the call in the slot of the row's node, as `node 2's Ready to 1, started in row 17,`.
-pub fn push_own_call(text: &mut Draft, scene: &Scene, held: PendingCall) {
-    text.push_between("node ", scene.number(), "'s ");
+pub fn push_own_call(text: &mut Draft, context: &DecisionContext, held: PendingCall) {
+    text.push_between("node ", context.number(), "'s ");
     push_call(text, held.call);
-    if let Some(row) = scene.started() {
+    if let Some(row) = context.started() {
         text.push_between(", started in row ", row, ",");
     }
 }
 
 /// Appends when the event comes in the life of a call, and how far the node's call came.
-pub fn push_life(text: &mut Draft, scene: &Scene, event: &Event) {
+pub fn push_life(text: &mut Draft, context: &DecisionContext, event: &Event) {
     text.push_str(match event {
         Event::Run(_) => "a call runs once, behind its start: ",
         Event::Lose(_) => "a call is lost once, before it returns: ",
         Event::Return(_) => "a call returns behind its run or its loss: ",
         _ => "only a call that is under way is dropped: ",
     });
-    match scene.shown.call {
+    match context.shown.call {
         Some(held) => {
-            push_own_call(text, scene, held);
+            push_own_call(text, context, held);
             text.push_str(match held.phase {
                 Phase::Sent => " has had neither",
                 Phase::Ran(_) => " ran already",
                 Phase::Failed => " was lost already",
             });
         }
-        None => push_no_call(text, scene),
+        None => push_no_call(text, context),
     }
 }
 
 // Appends that the node has no call under way, and what ended its last one, where it had one and that is remembered.
-fn push_no_call(text: &mut Draft, scene: &Scene) {
-    text.push_behind("node ", scene.number());
-    if scene.started().is_none() {
+fn push_no_call(text: &mut Draft, context: &DecisionContext) {
+    text.push_behind("node ", context.number());
+    if context.started().is_none() {
         return text.push_str(" has started none");
     }
     text.push_str(" has none under way");
-    if let Some((words, row)) = last_end(scene.notes(scene.node)) {
+    if let Some((words, row)) = last_end(context.notes(context.node)) {
         text.push_behind(words, row);
     }
 }
@@ -165,20 +169,20 @@ fn end_words(what: &What) -> Option<&'static str> {
 }
 
 /// Appends that a call whose callee is down doesn't run.
-pub fn push_callee_down(text: &mut Draft, scene: &Scene) {
+pub fn push_callee_down(text: &mut Draft, context: &DecisionContext) {
     text.push_str("a call runs only while its callee is up: ");
-    if let Some(held) = scene.shown.call {
+    if let Some(held) = context.shown.call {
         let callee = held.call.callee;
-        push_down(text, scene, callee);
-        text.push_between(", so this call is lost (lose,", scene.number(), ")");
+        push_down(text, context, callee);
+        text.push_between(", so this call is lost (lose,", context.number(), ")");
         text.push_behind(", or waits for a recover,", callee.number());
     }
 }
 
 /// Appends that a call whose callee is up isn't lost.
-pub fn push_callee_up(text: &mut Draft, scene: &Scene) {
+pub fn push_callee_up(text: &mut Draft, context: &DecisionContext) {
     text.push_str("a call fails only while its callee is down: ");
-    if let Some(held) = scene.shown.call {
+    if let Some(held) = context.shown.call {
         let callee = held.call.callee.number();
         text.push_between("node ", callee, " is up, so this call can't be lost: it ");
         text.push_str(match held.phase {
@@ -191,27 +195,27 @@ pub fn push_callee_up(text: &mut Draft, scene: &Scene) {
 }
 
 /// Appends over whom a plan shares the partitions out, and a table that does so.
-pub fn push_members_rule(text: &mut Draft, scene: &Scene) {
+pub fn push_members_rule(text: &mut Draft, context: &DecisionContext) {
     text.push_str("a plan shares the partitions out by weight, over node ");
-    text.push_value(scene.number());
-    if scene.shown.up.is_empty() {
+    text.push_value(context.number());
+    if context.shown.up.is_empty() {
         text.push_str(" alone, whose up set is empty");
     } else {
         text.push_str(" and its up set");
-        push_members(text, &scene.shown.up);
+        push_members(text, &context.shown.up);
     }
-    if scene.plan.is_some() {
+    if context.plan.is_some() {
         text.push_str(": as the table ");
-        text.push_task(scene.plan);
+        text.push_task(context.plan);
         text.push_str(" does");
     }
 }
 
 /// Appends which call may be dropped.
-pub fn push_orphans(text: &mut Draft, scene: &Scene) {
+pub fn push_orphans(text: &mut Draft, context: &DecisionContext) {
     text.push_str("only an orphan is dropped, a call whose caller was halted since its start: ");
-    if let Some(held) = scene.shown.call {
-        text.push_between("node ", scene.number(), " wasn't halted since it ");
-        push_start(text, scene, held.call);
+    if let Some(held) = context.shown.call {
+        text.push_between("node ", context.number(), " wasn't halted since it ");
+        push_start(text, context, held.call);
     }
 }

@@ -1,13 +1,13 @@
 //! Why an event is refused, and which rule it breaks, in a sentence for each of the causes.
 ghost use Rattle.std.specs.Prelude.{◌<◌, length, IfSome};
 
+use crate::context::DecisionContext;
 use crate::draft::Draft;
 use crate::rules::{
     RULE, push_callee_down, push_callee_up, push_is_down, push_life, push_members_rule,
     push_needs_crash, push_nodes, push_one_call, push_one_procedure, push_orphans, push_room,
     push_steps,
 };
-use crate::scene::Scene;
 use crate::words::{push_held, push_offer, push_point};
 use bully_account::{NodeSheet, NodeSummary};
 use bully_base::{NODES_MAX, Node, NodeSet, Setup};
@@ -32,27 +32,32 @@ pub fn push_sentence(
 }
 
 /// Appends the line of the rule by which the event was refused, as the verdict says.
-pub fn push_cause_rule(text: &mut Draft, scene: &Scene, event: &Event, verdict: Verdict) {
+pub fn push_cause_rule(
+    text: &mut Draft,
+    context: &DecisionContext,
+    event: &Event,
+    verdict: Verdict,
+) {
     let Verdict::Refused(_, cause) = verdict else {
         return;
     };
     text.push_str(RULE);
     match cause {
-        Refused::Full => push_room(text, scene.setup()),
-        Refused::BadNode => push_nodes(text, scene.setup()),
-        Refused::IsDown => push_is_down(text, scene, event),
+        Refused::Full => push_room(text, context.setup()),
+        Refused::BadNode => push_nodes(text, context.setup()),
+        Refused::IsDown => push_is_down(text, context, event),
         Refused::IsUp => {
             text.push_str("only a node that is down recovers: ");
-            push_needs_crash(text, scene);
+            push_needs_crash(text, context);
         }
-        Refused::Busy => push_one_procedure(text, scene, event),
-        Refused::NoStep => push_steps(text, scene, event),
-        Refused::SlotBusy => push_one_call(text, scene),
-        Refused::NoCall => push_life(text, scene, event),
-        Refused::CalleeDown => push_callee_down(text, scene),
-        Refused::CalleeUp => push_callee_up(text, scene),
-        Refused::BadTable => push_members_rule(text, scene),
-        Refused::NotOrphan => push_orphans(text, scene),
+        Refused::Busy => push_one_procedure(text, context, event),
+        Refused::NoStep => push_steps(text, context, event),
+        Refused::SlotBusy => push_one_call(text, context),
+        Refused::NoCall => push_life(text, context, event),
+        Refused::CalleeDown => push_callee_down(text, context),
+        Refused::CalleeUp => push_callee_up(text, context),
+        Refused::BadTable => push_members_rule(text, context),
+        Refused::NotOrphan => push_orphans(text, context),
     }
     text.push_str("\n");
 }

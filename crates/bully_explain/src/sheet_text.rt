@@ -7,12 +7,12 @@ ghost use Rattle.bully_explain.specs.Drafted.{Appends};
 ghost use Rattle.bully_explain.specs.SheetText.{Begins, BeginsSheet, head_text, stop_text};
 
 use crate::claim_rules::{push_claim_rules, push_whole_rules};
+use crate::context::{DecisionContext, last_move, node_at};
 use crate::detail_rules::push_detail_rules;
 use crate::differing::push_differing;
 use crate::draft::Draft;
 use crate::point_words::push_step_line;
 use crate::rules::push_nodes_rule;
-use crate::scene::{Scene, last_move, node_at};
 use crate::sentences::{push_cause_rule, push_no_node, push_sentence};
 use crate::words::{push_held, push_offer, push_point, push_row_place, push_vector, push_what};
 use bully_account::{Account, EventKind, Memory, NodeSheet, NodeSummary, Note, Stop, node_sheet};
@@ -147,14 +147,14 @@ fn push_stopped(
     match sheet {
         Some(sheet) => {
             let shown = &sheet.shown;
-            let scene = Scene {
+            let context = DecisionContext {
                 account,
                 nodes,
                 node,
                 shown,
                 plan,
             };
-            push_rules(text, &scene, &stop.row);
+            push_rules(text, &context, &stop.row);
             text.push_str("\n");
             push_node(text, node, sheet, account.memory(node));
         }
@@ -199,18 +199,18 @@ fn push_reason(
 }
 
 // Appends the lines of the rules that the row breaks, and that of the step at which its node stands.
-fn push_rules(text: &mut Draft, scene: &Scene, row: &Row) {
-    let verdict = scene.account.verdict();
+fn push_rules(text: &mut Draft, context: &DecisionContext, row: &Row) {
+    let verdict = context.account.verdict();
     match row {
-        Row::Event(event) => push_cause_rule(text, scene, event, verdict),
+        Row::Event(event) => push_cause_rule(text, context, event, verdict),
         Row::Detailed(event) if matches!(verdict, Verdict::Differs(_)) => {
-            push_detail_rules(text, scene, event)
+            push_detail_rules(text, context, event)
         }
-        Row::Detailed(event) => push_cause_rule(text, scene, &event.event(), verdict),
-        Row::Claim(claim) => push_claim_rules(text, scene, *claim),
-        Row::Whole(whole) => push_whole_rules(text, scene, whole),
+        Row::Detailed(event) => push_cause_rule(text, context, &event.event(), verdict),
+        Row::Claim(claim) => push_claim_rules(text, context, *claim),
+        Row::Whole(whole) => push_whole_rules(text, context, whole),
     }
-    push_step_line(text, scene);
+    push_step_line(text, context);
 }
 
 /// Why the row decided, by this verdict, in the world before it: its text, the cause, and what it speaks of, as a sheet has them. Refused

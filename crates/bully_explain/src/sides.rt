@@ -1,5 +1,5 @@
 //! Two columns: what a row says, and beside it what the group shows.
-ghost use Rattle.std.specs.Prelude.{◌≡◌, ◌-◌, List, ℕ, false, length};
+ghost use Rattle.std.specs.Prelude.{◌≡◌, ◌-◌, length};
 ghost use Rattle.std.specs.Option.{option_copied};
 ghost use Rattle.bully_rows.specs.TraceText.{node_text, set_text, task_text};
 ghost use Rattle.bully_explain.specs.Differing.{gap, heads, padded, part_name, sides, words_beside};

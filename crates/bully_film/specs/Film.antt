@@ -4,7 +4,7 @@ use Rattle.std.specs.Option.{option_and_then}
 use Rattle.bully_base.specs.Setup.{Setup}
 use Rattle.bully_rows.specs.declared.header.Header.{Header}
 use Rattle.bully_rows.specs.declared.trace.Row.{Row}
-use Rattle.bully_rows.specs.Taking.{IsWhollyTaken}
+use Rattle.bully_rows.specs.Feeding.{IsWhollyTaken}
 use Rattle.bully_rows.specs.Trace.{Trace}
 use Rattle.bully_trace.specs.Judging.{HasJudged, JudgeState}
 use Rattle.bully_trace.specs.declared.verdict.Verdict.{Verdict}

@@ -88,7 +88,7 @@ impl Film {
     }
 
     /// Takes the row of this number. Refused where an allocation fails, and then the film is of no more use.
-    pub fn take_row(&mut self, alloc: Global, number: u32, row: Row) -> Result<(), OutOfMemory>
+    pub fn feed_row(&mut self, alloc: Global, number: u32, row: Row) -> Result<(), OutOfMemory>
         ensures window { self.new.window ≡ self.old.window }
         ensures filmed { (setup : SetupState) (rows : List RowState) → length rows + 2 ≡ number → HasFilmed setup rows self.old → OnOk result (HasFilmed setup (rows ++ row ∷ []) self.new) }
     {
@@ -100,10 +100,10 @@ impl Film {
         self.keep_said(alloc, number, &scene_start, row)
     }
 
-    /// Takes the row of this number, which tells this event, as `take_row` does.
+    /// Takes the row of this number, which tells this event, as `feed_row` does.
     // (inlined with what it calls, since it is what most rows tell)
     #[inline(always)]
-    pub fn take_node_event(
+    pub fn feed_node_event(
         &mut self,
         alloc: Global,
         number: u32,
@@ -149,7 +149,7 @@ impl Film {
         ensures noted { OnOk result (self.old.judge.stopped ≡ None → IsNoted number row.now self.old self.new) }
         ensures judged { (setup : SetupState) (rows : List RowState) → length rows + 2 ≡ number → HasJudged setup rows self.old.judge → HasJudged setup (rows ++ row.now ∷ []) self.new.judge }
     {
-        self.judge.take_row(number, row);
+        self.judge.feed_row(number, row);
         self.keep_stop(alloc, row)?;
         Ok(())
     }
@@ -164,7 +164,7 @@ impl Film {
         ensures judged { (setup : SetupState) (rows : List RowState) → length rows + 2 ≡ number → HasJudged setup rows self.old.judge
             → HasJudged setup (rows ++ Row.Event (event_at kind node) ∷ []) self.new.judge }
     {
-        self.judge.take_node_event(number, NodeEvent { kind, node });
+        self.judge.feed_node_event(number, NodeEvent { kind, node });
         if self.is_over() {
             self.stop_at(kind, node);
         }

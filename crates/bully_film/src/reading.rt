@@ -6,7 +6,7 @@ ghost use Rattle.bully_rows.specs.Rows.{OfTrace};
 use crate::film::{Film, FinishedFilm};
 use crate::window::Window;
 use bully_base::OutOfMemory;
-use bully_rows::{Header, NodeEvent, Row, RowReader, TraceFault, TraceTaker, take_trace};
+use bully_rows::{Header, NodeEvent, Row, RowReader, TraceFault, TraceSink, feed_trace};
 use std::alloc::Global;
 use std::io::Read;
 
@@ -37,11 +37,11 @@ fn film_text<R: Read + Drop>(alloc: Global, reader: R, window: Window) -> Result
     let mut reader = reader;
     let mut lent = &mut reader;
     let mut rows = RowReader::open(alloc, &mut lent);
-    take_trace(alloc, &mut rows, window)
+    feed_trace(alloc, &mut rows, window)
 }
 
 // (an event that names a node and no more is filmed in the loop over the rows, and is never a `Row`, as in `check`)
-impl<R: Read + Drop> TraceTaker<R, Window> for Film {
+impl<R: Read + Drop> TraceSink<R, Window> for Film {
     ghost use Rattle.bully_film.specs.Film.{HasFilmedBehind};
 
     ghost has_taken = { HasFilmedBehind };
@@ -51,21 +51,21 @@ impl<R: Read + Drop> TraceTaker<R, Window> for Film {
     }
 
     #[inline(always)]
-    fn take_read_event(
+    fn feed_read_event(
         &mut self,
         alloc: Global,
         rows: &RowReader<R>,
         event: NodeEvent,
     ) -> Result<(), OutOfMemory> {
-        self.take_node_event(alloc, rows.number(), event)
+        self.feed_node_event(alloc, rows.number(), event)
     }
 
-    fn take_read_row(
+    fn feed_read_row(
         &mut self,
         alloc: Global,
         rows: &RowReader<R>,
         row: Row,
     ) -> Result<(), OutOfMemory> {
-        self.take_row(alloc, rows.number(), row)
+        self.feed_row(alloc, rows.number(), row)
     }
 }

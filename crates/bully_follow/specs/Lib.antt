@@ -1,3 +1,3 @@
 pub mod LastText
 pub mod Lines
-pub mod Watched
+pub mod Followed

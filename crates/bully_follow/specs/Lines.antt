@@ -11,7 +11,7 @@ use Rattle.bully_rows.specs.Words.{status_word}
 use Rattle.bully_json.specs.Objects.{change_line, room_line}
 use Rattle.bully_follow.specs.declared.changes.Changed.{Changed}
 use Rattle.bully_follow.specs.declared.lines.Telling.{Telling}
-use Rattle.bully_follow.specs.declared.watch.Watch.{Watch}
+use Rattle.bully_follow.specs.declared.followed.Followed.{Followed}
 
 -- what a node shows with this vector; a dash for none
 unfoldable pub vector_words : Vector → List ℕ
@@ -47,9 +47,9 @@ abbrev pub room_behind : Telling → List ℕ → ℕ → List ℕ
 room_behind telling time row = if tells_room row then room_told telling time row (1000001 - row) else []
 
 -- what is told behind the row that came at this time
-abbrev pub row_told : Telling → List ℕ → ℕ → Watch → List ℕ
-row_told telling time row watch =
-    changed_told telling time row watch.account.judge.world.setup (world_of watch.account.judge.world) watch.changed ++ room_behind telling time row
+abbrev pub row_told : Telling → List ℕ → ℕ → Followed → List ℕ
+row_told telling time row followed =
+    changed_told telling time row followed.account.judge.world.setup (world_of followed.account.judge.world) followed.changed ++ room_behind telling time row
 
-abbrev pub IsRowTold : Telling → ℕ → Watch → Option (List ℕ) → Option (List ℕ) → Type 0
-IsRowTold telling row watch output output' = (time : List ℕ) × Appends output output' (row_told telling time row watch)
+abbrev pub IsRowTold : Telling → ℕ → Followed → Option (List ℕ) → Option (List ℕ) → Type 0
+IsRowTold telling row followed output output' = (time : List ℕ) × Appends output output' (row_told telling time row followed)

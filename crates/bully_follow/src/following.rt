@@ -3,20 +3,20 @@ ghost use Rattle.std.specs.Io.KnownBytes.{Appends};
 ghost use Rattle.bully_world.specs.State.{world_of};
 ghost use Rattle.bully_follow.specs.LastText.{IsLastText, IsSheetTold, lawful_told};
 ghost use Rattle.bully_follow.specs.Lines.{IsRowTold, row_told, tells_room};
-ghost use Rattle.bully_follow.specs.declared.watch.Watch.{Watch as WatchState};
-ghost use Rattle.bully_follow.specs.Watched.{IsEnded, IsFollowFault, IsFollowedAs, fault_in};
+ghost use Rattle.bully_follow.specs.declared.followed.Followed.{Followed as FollowedState};
+ghost use Rattle.bully_follow.specs.Followed.{IsEnded, IsFollowFault, IsFollowedAs, fault_in};
 ghost use Rattle.bully_rows.specs.RecordsLeft.{IsUnread};
 ghost use Rattle.bully_rows.specs.Rows.{IsOfWriting};
 
+use crate::followed::Followed;
 use crate::lines::Telling;
-use crate::watch::Watch;
 use crate::{ROOM_FROM, ROOM_STEP};
-use bully_account::{Account, Lines};
+use bully_account::{Account, TailReader};
 use bully_base::OutOfMemory;
 use bully_explain::account_sheet;
 use bully_json::{sheet_line, verdict_line};
 use bully_rows::{
-    ROWS_MAX, RowReader, RowTaker, Started, TraceFault, no_header, not_written, take_each,
+    ROWS_MAX, RowReader, RowSink, TraceFault, TraceFeed, feed_each, no_header, not_written,
 };
 use bully_trace::{Verdict, verdict_lines};
 use bully_world::World;
@@ -51,35 +51,35 @@ struct Live<'a, C: Clock, W: Write> {
     clock: &'a C,
     output: W,
     telling: Telling,
-    text: Started<(), Watch>,
+    text: TraceFeed<(), Followed>,
 }
 
-impl<'a, C: Clock, R: Read + Drop, W: Write> RowTaker<Lines<R>> for Live<'a, C, W> {
+impl<'a, C: Clock, R: Read + Drop, W: Write> RowSink<TailReader<R>> for Live<'a, C, W> {
     ghost use Rattle.std.specs.Prelude.{◌≡◌};
-    ghost use Rattle.bully_follow.specs.Watched.{Refuses, TakesWatched};
+    ghost use Rattle.bully_follow.specs.Followed.{Refuses, TakesFollowed};
 
     type Fault = Stop;
 
-    ghost takes = { λ reader before after. TakesWatched reader before.text.begun after.text.begun };
+    ghost takes = { λ reader before after. TakesFollowed reader before.text.begun after.text.begun };
 
     ghost refuses = { λ reader before after stop. Refuses reader before.text.begun after.text.begun stop };
 
-    fn take(&mut self, alloc: Global, rows: &RowReader<Lines<R>>) -> Result<(), Stop> {
-        self.text.take(alloc, rows)?;
+    fn feed(&mut self, alloc: Global, rows: &RowReader<TailReader<R>>) -> Result<(), Stop> {
+        self.text.feed(alloc, rows)?;
         let Some(begun) = &self.text.begun else {
             return Ok(());
         };
-        let watch = &begun.taker;
+        let followed = &begun.sink;
         let row = rows.number();
         tell(
             self.clock,
             alloc,
             self.telling,
-            watch,
+            followed,
             row,
             &mut self.output,
         )?;
-        let verdict = watch.account.verdict();
+        let verdict = followed.account.verdict();
         if verdict.decides(row) {
             Err(Stop::Decided(verdict))
         } else {
@@ -93,18 +93,18 @@ fn tell<C: Clock, W: Write>(
     clock: &C,
     alloc: Global,
     telling: Telling,
-    watch: &Watch,
+    followed: &Followed,
     row: u32,
     output: &mut W,
 ) -> Result<(), TraceFault>
-    ensures told { OnOk result (IsRowTold telling row watch.now (W.contents output.old) (W.contents output.new)) }
+    ensures told { OnOk result (IsRowTold telling row followed.now (W.contents output.old) (W.contents output.new)) }
     ensures fault { IfErr result IsOfWriting }
 {
-    if !watch.changed.is_any() && !tells_room(row) {
+    if !followed.changed.is_any() && !tells_room(row) {
         return Ok(());
     }
     let time = time_text(clock, alloc)?;
-    let text = row_text(alloc, telling, time.as_str(), watch, row)?;
+    let text = row_text(alloc, telling, time.as_str(), followed, row)?;
     put(text.as_str(), output)
 }
 
@@ -120,14 +120,14 @@ fn row_text(
     alloc: Global,
     telling: Telling,
     time: &str,
-    watch: &Watch,
+    followed: &Followed,
     row: u32,
 ) -> Result<String, OutOfMemory>
-    ensures { IfOk result (λ text. string_bytes text ≡ row_told telling time.now row watch.now) }
+    ensures { IfOk result (λ text. string_bytes text ≡ row_told telling time.now row followed.now) }
 {
     let mut text = String::new(alloc);
-    let world = watch.account.world();
-    telling.push_changed(&mut text, time, row, world, watch.changed)?;
+    let world = followed.account.world();
+    telling.push_changed(&mut text, time, row, world, followed.changed)?;
     if tells_room(row) {
         let room = (ROWS_MAX + 1).saturating_sub(row);
         telling.push_room(&mut text, time, row, room)?;
@@ -172,12 +172,12 @@ pub fn follow<C: Clock, R: Read + Drop, W: Write + Drop>(
     ensures verdict { IfOk result (IsFollowedAs (R.remaining reader)) }
     ensures fault { IfErr result (IsFollowFault (R.remaining reader)) }
 {
-    let mut rows = RowReader::open(alloc, Lines::new(reader));
+    let mut rows = RowReader::open(alloc, TailReader::new(reader));
     let mut live = Live {
         clock,
         output,
         telling,
-        text: Started {
+        text: TraceFeed {
             start: (),
             begun: None,
         },
@@ -189,17 +189,17 @@ pub fn follow<C: Clock, R: Read + Drop, W: Write + Drop>(
 // (what has to be dropped is owned by the function above)
 fn follow_rows<C: Clock, R: Read + Drop, W: Write>(
     alloc: Global,
-    rows: &mut RowReader<Lines<R>>,
+    rows: &mut RowReader<TailReader<R>>,
     live: &mut Live<'_, C, W>,
 ) -> Result<Verdict, TraceFault>
     requires { live.old.text.begun ≡ None }
     ensures verdict { (known : Option (List ℕ)) → IsUnread known rows.old → IfOk result (IsFollowedAs known) }
     ensures fault { (known : Option (List ℕ)) → IsUnread known rows.old → IfErr result (IsFollowFault known) }
 {
-    let ended = take_each(alloc, rows, live);
+    let ended = feed_each(alloc, rows, live);
     match &live.text.begun {
         Some(begun) => {
-            let account = &begun.taker.account;
+            let account = &begun.sink.account;
             finish(alloc, live.telling, ended, account, &mut live.output)
         }
         None => Err(fault_of(ended)),
@@ -214,9 +214,9 @@ fn finish<W: Write>(
     account: &Account,
     output: &mut W,
 ) -> Result<Verdict, TraceFault>
-    ensures verdict { (known : Option (List ℕ)) (watch : WatchState) → watch.account ≡ account.now → IsEnded known ended (Some watch) → IfOk result (IsFollowedAs known) }
+    ensures verdict { (known : Option (List ℕ)) (followed : FollowedState) → followed.account ≡ account.now → IsEnded known ended (Some followed) → IfOk result (IsFollowedAs known) }
     ensures last { IfOk result (λ verdict. (text : List ℕ) × IsLastText telling account.now verdict text × Appends (W.contents output.old) (W.contents output.new) text) }
-    ensures fault { (known : Option (List ℕ)) (watch : Option WatchState) → IsEnded known ended watch → IfErr result (IsFollowFault known) }
+    ensures fault { (known : Option (List ℕ)) (followed : Option FollowedState) → IsEnded known ended followed → IfErr result (IsFollowFault known) }
 {
     let verdict = match ended {
         Ok(()) => account.verdict(),

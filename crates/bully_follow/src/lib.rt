@@ -7,9 +7,9 @@
 #![tactic(auto)]
 
 mod changes;
+mod followed;
 mod following;
 mod lines;
-mod watch;
 
 pub use following::follow;
 pub use lines::Telling;

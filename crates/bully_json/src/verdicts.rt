@@ -1,6 +1,6 @@
 //! Verdicts, with the nodes of a lawful trace, or with a sheet.
 ghost use Rattle.std.specs.Prelude.{◌≡◌, ◌++◌, IfOk, OnOk, codes, string_bytes};
-ghost use Rattle.bully_json.specs.Objects.{comma_behind, node_object, node_objects, nodes_member, sheet_line, verdict_line, verdict_members};
+ghost use Rattle.bully_json.specs.Objects.{comma_behind, node_object, node_objects, sheet_line, verdict_line, verdict_members};
 ghost use Rattle.bully_world.specs.State.{world_of};
 
 use crate::values::{push_halter, push_last, push_place, push_quoted};

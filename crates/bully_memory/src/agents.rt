@@ -4,7 +4,7 @@ use bully_base::{EVENTS_MAX, Node, OutOfMemory, Setup};
 use bully_calls::{Answer, NodeEventKind, Reply, Request};
 use bully_lines::{push_reply, push_request, read_request};
 use bully_steps::Want;
-use bully_world::{Refused, TakenStep};
+use bully_world::{AppliedStep, Refused};
 use std::alloc::Global;
 
 /// A request of the group.
@@ -74,13 +74,13 @@ fn request_call<R: Print>(trial: &Trial<R>, agent: &mut Agent) -> Option<Outcome
 
 // Takes the node on from its recovery, and tells whether it comes to plan.
 fn comes_to_plan(agent: &mut Agent) -> bool {
-    if !is_taken(agent.take(NodeEventKind::Recover)) {
+    if !is_taken(agent.apply(NodeEventKind::Recover)) {
         return false;
     }
     for _ in 0..STEPS {
         let goes_on = match agent.wants() {
             Want::Start(_) => is_called(agent),
-            Want::Move => is_taken(agent.take(NodeEventKind::Move)),
+            Want::Move => is_taken(agent.apply(NodeEventKind::Move)),
             _ => return true,
         };
         if !goes_on {
@@ -92,7 +92,7 @@ fn comes_to_plan(agent: &mut Agent) -> bool {
 
 // The node's call is started, and is answered Yes.
 fn is_called(agent: &mut Agent) -> bool {
-    if !is_taken(agent.take(NodeEventKind::Start)) {
+    if !is_taken(agent.apply(NodeEventKind::Start)) {
         return false;
     }
     let reply = Reply {
@@ -106,12 +106,12 @@ fn is_called(agent: &mut Agent) -> bool {
 // Plans the table, and starts the first Ready.
 fn comes_to_ready(alloc: Global, agent: &mut Agent) -> bool {
     match agent.prepare(alloc, None) {
-        Ok(table) => is_taken(agent.plan(table)) && is_taken(agent.take(NodeEventKind::Start)),
+        Ok(table) => is_taken(agent.plan(table)) && is_taken(agent.apply(NodeEventKind::Start)),
         Err(_) => false,
     }
 }
 
-fn is_taken(step: Result<TakenStep, Refused>) -> bool {
+fn is_taken(step: Result<AppliedStep, Refused>) -> bool {
     step.is_ok()
 }
 

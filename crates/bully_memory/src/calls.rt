@@ -99,9 +99,9 @@ const NAMES: [(&str, Call); 67] = [
     ("Replica::next", Call::Replica(ReplicaCall::Next)),
     ("settle", Call::Replica(ReplicaCall::Settle)),
     ("owned", Call::Replica(ReplicaCall::Owned)),
-    ("RowReplica::take_all", Call::Follow(Version::First)),
-    ("RowReplica::take_all/2", Call::Follow(Version::Second)),
-    ("RowReplica::take_all/3", Call::Follow(Version::Third)),
+    ("RowReplica::learn_all", Call::Follow(Version::First)),
+    ("RowReplica::learn_all/2", Call::Follow(Version::Second)),
+    ("RowReplica::learn_all/3", Call::Follow(Version::Third)),
     ("upgrade", Call::Trace(TraceCall::Upgrade, Version::First)),
     (
         "upgrade/2",

@@ -91,9 +91,9 @@ Replica::learn
 Replica::next
 settle
 owned
-RowReplica::take_all
-RowReplica::take_all/2
-RowReplica::take_all/3
+RowReplica::learn_all
+RowReplica::learn_all/2
+RowReplica::learn_all/3
 upgrade
 upgrade/2
 upgrade/3

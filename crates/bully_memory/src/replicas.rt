@@ -140,7 +140,7 @@ fn take_call<R: Print, I: Read + Drop>(
     rows: &mut RowReader<I>,
 ) -> Option<Outcome> {
     trial.begin();
-    let answer = learned.take_all(trial.alloc, rows);
+    let answer = learned.learn_all(trial.alloc, rows);
     trial.end();
     match answer {
         Ok(()) => trial.tell(false, &text_of(trial.alloc, learned.replica())),

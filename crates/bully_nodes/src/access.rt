@@ -63,7 +63,7 @@ impl<'a, L: Naming, R: Wait> Backend for GroupAccess<'a, L, R> {
     }
 
     // The lock is held once, for the serve and for what comes where no call waits.
-    fn take(&mut self, choice: Choice, procedure: &mut Procedure) -> Result<(), OutOfMemory> {
+    fn carry_out(&mut self, choice: Choice, procedure: &mut Procedure) -> Result<(), OutOfMemory> {
         let mut guard = self.group.locked.lock(self.rt);
         let answer = take_at(
             &mut guard,

@@ -40,7 +40,7 @@ pub trait Backend {
 
     /// Runs the call that waits for the procedure's node. Where none does, the node does what it chose: a check, a timeout, or
     /// what the turn rule says of the procedure, which goes on by that.
-    fn take(&mut self, choice: Choice, procedure: &mut Procedure) -> Result<(), OutOfMemory>
+    fn carry_out(&mut self, choice: Choice, procedure: &mut Procedure) -> Result<(), OutOfMemory>
         requires { (state_of procedure.old).setup ≡ setup self.old }
         ensures takes { OnOk result (takes choice self.old (state_of procedure.old) self.new (state_of procedure.new)) }
         ensures same_node { HasSameNode (state_of procedure.old) (state_of procedure.new) }

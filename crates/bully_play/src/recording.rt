@@ -72,19 +72,19 @@ impl Recording {
                 Ok(())
             }
             Next::Rest => Ok(()),
-            Next::Take(kind) => self.take_step(kind, procedure),
+            Next::Take(kind) => self.apply_step(kind, procedure),
         }
     }
 
     // Takes a step that the turn rule offers, and records its event; the procedure goes on by it. Where the world
     // refuses the step, nothing changes. Refused where an allocation fails.
-    fn take_step(&mut self, kind: StepKind, procedure: &mut Procedure) -> Result<(), OutOfMemory>
+    fn apply_step(&mut self, kind: StepKind, procedure: &mut Procedure) -> Result<(), OutOfMemory>
         requires setup { (state_of procedure.old).setup ≡ self.old.world.setup }
         requires offered { turn self.old.world (state_of procedure.old) ≡ Next.Take kind }
         ensures steps { OnOk result (Steps kind self.old (state_of procedure.old) self.new (state_of procedure.new)) }
         ensures same_node { HasSameNode (state_of procedure.old) (state_of procedure.new) }
     {
-        match self.world.take_step(kind, procedure) {
+        match self.world.apply_step(kind, procedure) {
             Ok(step) => self.record(step.event),
             Err(_) => Ok(()),
         }
@@ -133,7 +133,7 @@ impl Backend for Recording {
         procedure.prepare(*self.rows.allocator(), task)
     }
 
-    fn take(&mut self, choice: Choice, procedure: &mut Procedure) -> Result<(), OutOfMemory> {
+    fn carry_out(&mut self, choice: Choice, procedure: &mut Procedure) -> Result<(), OutOfMemory> {
         match self.world.caller_to_serve(procedure.node()) {
             Some(caller) => self.apply(Event::Run(caller)),
             None => self.go_on(choice, procedure),

@@ -58,5 +58,5 @@ pub fn take_node_turn<S: Backend>(
 {
     backend.prepare(place)?;
     let choice = Driver::choose_every(period, turn, place);
-    backend.take(choice, place)
+    backend.carry_out(choice, place)
 }

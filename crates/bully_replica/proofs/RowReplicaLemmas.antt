@@ -13,7 +13,7 @@ use Rattle.bully_rows.specs.declared.TheConstants.{ROWS_MAX}
 use Rattle.bully_rows.specs.declared.header.Version.{Version}
 use Rattle.bully_rows.specs.declared.trace.TraceCause.{TraceCause}
 use Rattle.bully_rows.specs.declared.trace.TraceFault.{TraceFault}
-use Rattle.bully_rows.specs.Taking.{AllTaken, AreTakenBy, IsLast, IsNext, IsUnreadable, StopsBehind, StopsNext}
+use Rattle.bully_rows.specs.Feeding.{AllTaken, AreTakenBy, IsLast, IsNext, IsUnreadable, StopsBehind, StopsNext}
 use Rattle.bully_rows.proofs.TakingLemmas.{kept-by-all}
 
 -- before any of the records

@@ -9,7 +9,7 @@ ghost use Rattle.bully_rows.specs.declared.TheConstants.{ROWS_MAX};
 use crate::Replica;
 use bully_base::OutOfMemory;
 use bully_rows::{
-    Header, ROWS_MAX, RowReader, RowTaker, TraceCause, TraceFault, take_each, take_next,
+    Header, ROWS_MAX, RowReader, RowSink, TraceCause, TraceFault, feed_each, feed_next,
 };
 use bully_trace::Violation;
 use std::alloc::Global;
@@ -85,7 +85,7 @@ impl RowReplica {
     /// Learns the row that the reader gives next, and tells whether there is one. Refused if there is one that isn't
     /// learned, or that can't be read, and then nothing changes but how far the reader has come: `TooManyRows` behind as
     /// many rows as a trace has at most, then `BadRow`, then what is wrong with the row. The rule: docs/FORMATS.md.
-    pub fn take_next<R: Read + Drop>(
+    pub fn learn_next<R: Read + Drop>(
         &mut self,
         alloc: Global,
         reader: &mut RowReader<R>,
@@ -98,15 +98,15 @@ impl RowReplica {
         ensures unchanged { IfErr result (λ _. self.new ≡ self.old) }
         ensures within { self.new.rows ≤ ROWS_MAX }
     {
-        let taken = take_next(alloc, reader, self);
+        let taken = feed_next(alloc, reader, self);
         // Shows the proof what the type keeps.
         let _ = &self.replica;
         taken
     }
 
-    /// Learns the rows that the reader still gives, in their order, up to the first that [`RowReplica::take_next`] refuses; what was
+    /// Learns the rows that the reader still gives, in their order, up to the first that [`RowReplica::learn_next`] refuses; what was
     /// learned before it stays.
-    pub fn take_all<R: Read + Drop>(
+    pub fn learn_all<R: Read + Drop>(
         &mut self,
         alloc: Global,
         reader: &mut RowReader<R>,
@@ -118,14 +118,14 @@ impl RowReplica {
         ensures setup { self.new.replica.world.setup ≡ self.old.replica.world.setup }
         ensures within { self.new.rows ≤ ROWS_MAX }
     {
-        let taken = take_each(alloc, reader, self);
+        let taken = feed_each(alloc, reader, self);
         // Shows the proof what the type keeps.
         let _ = &self.replica;
         taken
     }
 }
 
-impl<R: Read + Drop> RowTaker<R> for RowReplica {
+impl<R: Read + Drop> RowSink<R> for RowReplica {
     ghost use Rattle.std.specs.Prelude.{◌≡◌};
     ghost use Rattle.bully_replica.specs.RowReplica.{FailsBehind, Follows};
 
@@ -135,11 +135,11 @@ impl<R: Read + Drop> RowTaker<R> for RowReplica {
 
     ghost refuses = { λ reader f after fault. FailsBehind reader.fields f fault × (after ≡ f) };
 
-    fn take(&mut self, alloc: Global, rows: &RowReader<R>) -> Result<(), LearnFault> {
+    fn feed(&mut self, alloc: Global, rows: &RowReader<R>) -> Result<(), LearnFault> {
         if self.rows == ROWS_MAX {
             return Err(LearnFault::Form(TraceCause::TooManyRows));
         }
-        learn_next(alloc, &mut self.replica, rows)?;
+        learn_read_row(alloc, &mut self.replica, rows)?;
         self.rows += 1;
         Ok(())
     }
@@ -147,7 +147,7 @@ impl<R: Read + Drop> RowTaker<R> for RowReplica {
 
 // Learns the row that was read last.
 // (an event that names a node and no more, as most rows do, is never a `Row`, as in `bully_trace::check`)
-fn learn_next<R: Read + Drop>(
+fn learn_read_row<R: Read + Drop>(
     alloc: Global,
     replica: &mut Replica,
     reader: &RowReader<R>,
@@ -177,7 +177,7 @@ fn learn_longer<R: Read + Drop>(
     ensures fault { IfErr result (FailsOn reader.now.fields replica.old) }
     ensures unchanged { IfErr result (λ _. replica.new ≡ replica.old) }
 {
-    match &reader.longer_row(alloc, replica.version(), replica.world().setup()) {
+    match &reader.other_row(alloc, replica.version(), replica.world().setup()) {
         Ok(Some(row)) => match replica.learn_row(row) {
             Ok(()) => Ok(()),
             Err(violation) => Err(LearnFault::Violation(violation)),

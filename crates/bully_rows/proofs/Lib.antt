@@ -5,7 +5,7 @@ pub mod HeaderLemmas
 pub mod RecordsLemmas
 pub mod RowsLemmas
 pub mod TraceLemmas
-pub mod TakingLemmas
+pub mod FeedingLemmas
 pub mod TextLemmas
 pub mod SetTextLemmas
 pub mod NumberTexts

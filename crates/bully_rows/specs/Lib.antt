@@ -5,7 +5,7 @@ pub mod EventsTold
 pub mod Trace
 pub mod Rows
 pub mod RecordsLeft
-pub mod Taking
+pub mod Feeding
 pub mod TraceText
 pub mod ReadBack
 pub mod Kinds

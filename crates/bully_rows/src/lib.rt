@@ -10,32 +10,32 @@ ghost use Rattle.bully_rows.specs.declared.TheConstants.{ROWS_MAX, FIRST_NODES_M
 ghost use Rattle.bully_rows.specs.ReadBack.{ReadsBack, ReadsTold};
 
 mod detail;
+mod feeding;
 mod header;
 mod node_event;
 mod reading;
 mod row;
 mod row_reader;
 mod saying;
-mod taking;
 mod text;
 mod trace;
-mod trace_taking;
+mod trace_feeding;
 mod words;
 mod writing;
 
 pub use detail::{Detail, DetailedEvent};
+pub use feeding::{RowSink, feed_each, feed_next};
 pub use header::{Header, Version, read_weights, version_for};
 pub use node_event::NodeEvent;
 pub use reading::read_trace;
 pub use row::{number_within, read_coordinator, read_node};
 pub use row_reader::{RowReader, no_header};
 pub use saying::read_set;
-pub use taking::{RowTaker, take_each, take_next};
 pub use text::{
     push_detailed, push_event, push_header, push_node, push_row, push_set, push_task, push_vector,
 };
 pub use trace::{Claim, Row, Rows, Trace, TraceCause, TraceFault, WholeClaim};
-pub use trace_taking::{Begun, Started, TraceTaker, take_text, take_trace};
+pub use trace_feeding::{BehindHeader, TraceFeed, TraceSink, feed_text, feed_trace};
 pub use words::{
     SAW, answer_word, call_named, call_word, outcome_named, reply_named, status_named, status_word,
 };

@@ -5,7 +5,7 @@ ghost use Rattle.bully_rows.specs.Rows.{IsFirstFault, IsReadAtItsRow, IsTraceOf}
 use crate::header::Header;
 use crate::row_reader::RowReader;
 use crate::trace::{Row, Rows, Trace, TraceCause, TraceFault};
-use crate::trace_taking::{TraceTaker, take_trace};
+use crate::trace_feeding::{TraceSink, feed_trace};
 use bully_base::OutOfMemory;
 use std::alloc::Global;
 use std::io::Read;
@@ -35,7 +35,7 @@ fn read_all<R: Read + Drop>(alloc: Global, rows: &mut RowReader<R>) -> Result<Tr
     ensures read { (known : Option (List ℕ)) → IsUnread known rows.old → IfOk result (IsTraceOf known) }
     ensures fault { (known : Option (List ℕ)) → IsUnread known rows.old → IfErr result (EndsReading known) }
 {
-    let read: TraceRows = take_trace(alloc, rows, ())?;
+    let read: TraceRows = feed_trace(alloc, rows, ())?;
     Ok(Trace {
         version: read.header.version,
         setup: read.header.setup,
@@ -50,7 +50,7 @@ struct TraceRows {
     rows: Vec<Row>,
 }
 
-impl<R: Read + Drop> TraceTaker<R, ()> for TraceRows {
+impl<R: Read + Drop> TraceSink<R, ()> for TraceRows {
     ghost use Rattle.std.specs.Prelude.{◌≡◌};
     ghost use Rattle.bully_rows.specs.Headers.{IsVersionFor};
     ghost use Rattle.bully_rows.specs.Trace.{AreRowsFor};
@@ -62,7 +62,7 @@ impl<R: Read + Drop> TraceTaker<R, ()> for TraceRows {
         Ok(TraceRows { header, rows })
     }
 
-    fn take_read_row(
+    fn feed_read_row(
         &mut self,
         _alloc: Global,
         _rows: &RowReader<R>,

@@ -21,7 +21,7 @@ use std::alloc::{AllocError, Global};
 
 /// The row that its record of other than two fields tells in a trace of this version and this setup; none where it has two, or
 /// no form that the profile lists. Refused where an allocation fails.
-pub fn read_longer_row(
+pub fn read_other_row(
     alloc: Global,
     version: Version,
     setup: &Setup,

@@ -12,7 +12,7 @@ ghost use Rattle.bully_rows.specs.RecordsLeft.{EndsReading, HasRead, IsOutside, 
 use crate::ROWS_MAX;
 use crate::header::{Header, Version, read_header};
 use crate::node_event::NodeEvent;
-use crate::row::{read_longer_row, read_node_event};
+use crate::row::{read_node_event, read_other_row};
 use crate::trace::{Row, TraceCause, TraceFault};
 use bully_base::{OutOfMemory, Setup};
 use csv::{ByteRecord, ErrorKind, Position, Reader, ReaderBuilder};
@@ -122,7 +122,7 @@ impl<R: Read + Drop> RowReader<R> {
 
     /// What the row read last means in a trace of this version and this setup where it has other than two fields; none where it
     /// has two, or no form that the profile lists. Refused where an allocation fails.
-    pub fn longer_row(
+    pub fn other_row(
         &self,
         alloc: Global,
         version: Version,
@@ -131,7 +131,7 @@ impl<R: Read + Drop> RowReader<R> {
         ensures two { length self.now.fields ≡ 2 → IfOk result (λ row. row ≡ None) }
         ensures other { length self.now.fields ≢ 2 → IfOk result (λ row. row ≡ row_of version setup.now self.now.fields) }
     {
-        read_longer_row(alloc, version, setup, &self.fields)
+        read_other_row(alloc, version, setup, &self.fields)
     }
 
     /// The fault of a row of no form, at the one read last.

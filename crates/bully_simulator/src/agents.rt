@@ -4,7 +4,7 @@ ghost use Rattle.std.specs.Prelude.{◌≤◌};
 use bully_agent::Agent;
 use bully_base::{Node, Setup};
 use bully_calls::{Answer, NodeEventKind, Reply, Request};
-use bully_world::{Refused, TakenStep};
+use bully_world::{AppliedStep, Refused};
 use std::alloc::Global;
 
 /// The node of this number, Down.
@@ -17,7 +17,7 @@ pub fn new_agent(alloc: Global, setup: &Setup, number: u16) -> Option<Agent>
 /// The request of the call that the node starts.
 #[inline(always)]
 pub fn started(caller: &mut Agent) -> Option<Request> {
-    if answer_of(caller.take(NodeEventKind::Start)).is_err() {
+    if answer_of(caller.apply(NodeEventKind::Start)).is_err() {
         return None;
     }
     match caller.request() {
@@ -37,7 +37,7 @@ pub fn asked(callee: &mut Agent, request: &Request) -> Option<Reply> {
 
 /// What the step was answered.
 #[inline(always)]
-pub fn answer_of(taken: Result<TakenStep, Refused>) -> Result<Answer, Refused> {
+pub fn answer_of(taken: Result<AppliedStep, Refused>) -> Result<Answer, Refused> {
     match taken {
         Ok(taken) => Ok(taken.answer),
         Err(why) => Err(why),

@@ -69,7 +69,7 @@ fn agents_turn(actors: &mut [Actor], number: u32) -> Option<()> {
 
 #[inline(always)]
 fn turn(caller: &mut Agent, callee: &mut Agent) -> Option<()> {
-    answer_of(caller.take(NodeEventKind::Timeout)).ok()?;
+    answer_of(caller.apply(NodeEventKind::Timeout)).ok()?;
     let request = started(caller)?;
     let reply = asked(callee, &request)?;
     answer_of(caller.replied(reply)).ok()?;
@@ -157,12 +157,12 @@ fn act(actor: &mut Actor, event: &Event) -> Option<Result<Answer, Refused>> {
         Event::Run(_) => return None,
         Event::Lose(_) => return lose(actor),
         Event::Return(_) => return come_back(actor),
-        Event::Recover(_) => actor.agent.take(NodeEventKind::Recover),
-        Event::Crash(_) => actor.agent.take(NodeEventKind::Crash),
-        Event::Check(_) => actor.agent.take(NodeEventKind::Check),
-        Event::Timeout(_) => actor.agent.take(NodeEventKind::Timeout),
-        Event::Drop(_) => actor.agent.take(NodeEventKind::Drop),
-        Event::Move(_) => actor.agent.take(NodeEventKind::Move),
+        Event::Recover(_) => actor.agent.apply(NodeEventKind::Recover),
+        Event::Crash(_) => actor.agent.apply(NodeEventKind::Crash),
+        Event::Check(_) => actor.agent.apply(NodeEventKind::Check),
+        Event::Timeout(_) => actor.agent.apply(NodeEventKind::Timeout),
+        Event::Drop(_) => actor.agent.apply(NodeEventKind::Drop),
+        Event::Move(_) => actor.agent.apply(NodeEventKind::Move),
         Event::Plan(_, table) => actor.agent.plan(table.copy().ok()?),
     };
     Some(answer_of(taken))
@@ -170,7 +170,7 @@ fn act(actor: &mut Actor, event: &Event) -> Option<Result<Answer, Refused>> {
 
 // The node starts its call, whose request is on its way then.
 fn start(actor: &mut Actor) -> Option<Result<Answer, Refused>> {
-    let taken = answer_of(actor.agent.take(NodeEventKind::Start));
+    let taken = answer_of(actor.agent.apply(NodeEventKind::Start));
     if taken.is_ok() {
         let request = actor.agent.request().ok()??;
         send(actor, OnItsWay::Request(request));

@@ -36,7 +36,7 @@ fn verdict_behind<R: Read + Drop>(
     learned: &mut RowReplica,
     rows: &mut RowReader<R>,
 ) -> Option<Verdict> {
-    match learned.take_all(alloc, rows) {
+    match learned.learn_all(alloc, rows) {
         Ok(()) => Some(Verdict::Lawful(learned.replica().events())),
         Err(LearnFault::Violation(violation)) => Some(violation.at(rows.number())),
         Err(LearnFault::Form(_)) => None,

@@ -5,7 +5,7 @@ use bully_base::{Node, Setup, Status};
 use bully_calls::{Answer, Call, NodeEventKind, Reply, Request};
 use bully_rows::{Claim, Detail, DetailedEvent, Row, WholeClaim};
 use bully_steps::Want;
-use bully_world::{Event, Refused, TakenStep};
+use bully_world::{AppliedStep, Event, Refused};
 use std::alloc::Global;
 
 /// The premise that a network breaks on purpose, now and then.
@@ -111,7 +111,7 @@ impl Network {
     }
 
     // The step's event comes into the log, if it was taken.
-    fn log_taken(&mut self, taken: Result<TakenStep, Refused>) -> Option<()> {
+    fn log_taken(&mut self, taken: Result<AppliedStep, Refused>) -> Option<()> {
         match taken {
             Ok(taken) => self.log(Row::Event(taken.event)),
             Err(_) => None,
@@ -146,7 +146,7 @@ impl Network {
     fn fall(&mut self, place: usize) -> Option<()> {
         let agent = self.agents.get_mut(place)?;
         let node = agent.node();
-        let taken = agent.take(NodeEventKind::Crash);
+        let taken = agent.apply(NodeEventKind::Crash);
         self.forget(node);
         self.log_taken(taken)
     }
@@ -158,7 +158,7 @@ impl Network {
         if is_new {
             make_anew(alloc, agent)?;
         }
-        let taken = agent.take(NodeEventKind::Recover);
+        let taken = agent.apply(NodeEventKind::Recover);
         self.log_taken(taken)
     }
 
@@ -174,9 +174,9 @@ impl Network {
         let checks = self.random.next() % 2 == 0;
         let agent = self.agents.get_mut(place)?;
         let taken = if checks {
-            agent.take(NodeEventKind::Check)
+            agent.apply(NodeEventKind::Check)
         } else {
-            agent.take(NodeEventKind::Timeout)
+            agent.apply(NodeEventKind::Timeout)
         };
         match taken {
             Err(Refused::IsDown | Refused::Busy) => Some(()),
@@ -204,7 +204,7 @@ impl Network {
             Want::Await => return self.give_up(place),
             Want::Start(call) => self.start(place, call)?,
             Want::Move => {
-                let taken = agent.take(NodeEventKind::Move);
+                let taken = agent.apply(NodeEventKind::Move);
                 self.log_taken(taken)?;
             }
             Want::Plan => {
@@ -250,7 +250,7 @@ impl Network {
     fn drop_orphan(&mut self, place: usize, call: Call) -> Option<()> {
         let agent = self.agents.get_mut(place)?;
         let node = agent.node();
-        answer_of(agent.take(NodeEventKind::Drop)).ok()?;
+        answer_of(agent.apply(NodeEventKind::Drop)).ok()?;
         self.forget(node);
         self.log_call(node, Detail::unanswered(NodeEventKind::Drop, call))
     }
@@ -360,7 +360,7 @@ fn agents_of(alloc: Global, setup: &Setup) -> Option<Vec<Agent>> {
 }
 
 // The node plans, from the task that it has. Memory that is refused is told as a step that isn't offered.
-fn planned(alloc: Global, agent: &mut Agent) -> Result<TakenStep, Refused> {
+fn planned(alloc: Global, agent: &mut Agent) -> Result<AppliedStep, Refused> {
     match agent.prepare(alloc, agent.vector().task()) {
         Ok(table) => agent.plan(table),
         Err(_) => Err(Refused::NoStep),

@@ -4,7 +4,7 @@ use bully_agent::Agent;
 use bully_base::{Node, Setup};
 use bully_calls::{Answer, NodeEventKind};
 use bully_steps::Want;
-use bully_world::TakenStep;
+use bully_world::AppliedStep;
 use std::alloc::Global;
 
 /// What node 1 of two is told, which asks whether node 2 is up.
@@ -29,16 +29,16 @@ fn recovered(alloc: Global, setup: &Setup, node: Node) -> Option<Agent>
     requires { node ≤ setup.now.nodes }
 {
     let mut agent = Agent::new(alloc, setup, node, 0, None).ok()?;
-    agent.take(NodeEventKind::Recover).ok()?; // log it
+    agent.apply(NodeEventKind::Recover).ok()?; // log it
     Some(agent)
 }
 
 /// The next event that the node takes by itself, for the log; none if it waits for a reply or wants nothing, and if
 /// the agent refuses it.
-pub fn next_event(alloc: Global, agent: &mut Agent) -> Option<TakenStep> {
+pub fn next_event(alloc: Global, agent: &mut Agent) -> Option<AppliedStep> {
     match agent.wants() {
-        Want::Start(_) => agent.take(NodeEventKind::Start).ok(),
-        Want::Move => agent.take(NodeEventKind::Move).ok(),
+        Want::Start(_) => agent.apply(NodeEventKind::Start).ok(),
+        Want::Move => agent.apply(NodeEventKind::Move).ok(),
         Want::Plan => {
             let table = agent.prepare(alloc, agent.vector().task()).ok()?;
             agent.plan(table).ok()

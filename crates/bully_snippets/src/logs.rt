@@ -11,7 +11,7 @@ pub fn next_row(alloc: Global, log: &str, node: Node) -> Option<String> {
     };
     let header = rows.header().ok()?;
     let mut learned = RowReplica::new(alloc, header).ok()?;
-    match learned.take_all(alloc, &mut rows) {
+    match learned.learn_all(alloc, &mut rows) {
         Ok(()) => row_of(alloc, learned.replica(), node),
         Err(_) => None, // the first row that isn't learned: it, and all behind it, every replica refuses
     }

@@ -7,7 +7,7 @@ use Rattle.bully_rows.specs.declared.header.Header.{Header}
 use Rattle.bully_rows.specs.declared.header.Version.{Version}
 use Rattle.bully_rows.specs.declared.trace.Row.{Row}
 use Rattle.bully_trace.specs.declared.verdict.Verdict.{Verdict}
-use Rattle.bully_rows.specs.Taking.{IsWhollyTaken}
+use Rattle.bully_rows.specs.Feeding.{IsWhollyTaken}
 use Rattle.bully_trace.specs.Verdict.{IsJudged}
 
 -- the version of the trace, the world that its rows were taken to, and the first verdict that isn't lawful

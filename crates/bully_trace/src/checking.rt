@@ -17,7 +17,7 @@ use crate::judging::Judge;
 use crate::verdict_text::{push_node_line, push_verdict_head};
 use bully_base::{Node, OutOfMemory};
 use bully_rows::{
-    Header, NodeEvent, Row, RowReader, TraceCause, TraceFault, TraceTaker, not_written, take_trace,
+    Header, NodeEvent, Row, RowReader, TraceCause, TraceFault, TraceSink, feed_trace, not_written,
 };
 use bully_world::World;
 use std::alloc::Global;
@@ -60,11 +60,11 @@ pub fn judge_text<R: Read + Drop>(alloc: Global, reader: R) -> Result<Judge, Tra
     ensures fault { IfErr result (EndsReading (R.remaining reader)) }
 {
     let mut rows = RowReader::open(alloc, reader);
-    take_trace(alloc, &mut rows, ())
+    feed_trace(alloc, &mut rows, ())
 }
 
 // (an event that names a node and no more is judged in the loop over the rows, and is never a `Row`)
-impl<R: Read + Drop> TraceTaker<R, ()> for Judge {
+impl<R: Read + Drop> TraceSink<R, ()> for Judge {
     ghost use Rattle.bully_trace.specs.Judging.{HasJudgedBehind};
 
     ghost has_taken = { λ _. HasJudgedBehind };
@@ -74,23 +74,23 @@ impl<R: Read + Drop> TraceTaker<R, ()> for Judge {
     }
 
     #[inline(always)]
-    fn take_read_event(
+    fn feed_read_event(
         &mut self,
         _alloc: Global,
         rows: &RowReader<R>,
         event: NodeEvent,
     ) -> Result<(), OutOfMemory> {
-        self.take_node_event(rows.number(), event);
+        self.feed_node_event(rows.number(), event);
         Ok(())
     }
 
-    fn take_read_row(
+    fn feed_read_row(
         &mut self,
         _alloc: Global,
         rows: &RowReader<R>,
         row: Row,
     ) -> Result<(), OutOfMemory> {
-        self.take_row(rows.number(), &row);
+        self.feed_row(rows.number(), &row);
         Ok(())
     }
 }

@@ -59,7 +59,7 @@ impl Judge {
 
     /// Takes the row of this number. The first event that the world refuses, or the first claim or detail that is false of it,
     /// decides, and no later row changes anything.
-    pub fn take_row(&mut self, number: u32, row: &Row)
+    pub fn feed_row(&mut self, number: u32, row: &Row)
         ensures version { self.new.version ≡ self.old.version }
         ensures taken { IsTakenBy number row.now self.old self.new }
         ensures judged { (setup : SetupState) (rows : List RowState) → length rows + 2 ≡ number → HasJudged setup rows self.old → HasJudged setup (rows ++ row.now ∷ []) self.new }
@@ -72,11 +72,11 @@ impl Judge {
         }
     }
 
-    /// Takes the row of this number, which tells this event, as `take_row` does.
+    /// Takes the row of this number, which tells this event, as `feed_row` does.
     // (the arms are alike, and those of the kinds that come most are kept apart for speed: each has a copy of the step of its
     // own, in which the kind is known, so what reads a word goes on right to what its event needs, and none of it chooses by
     // the kind once more)
-    pub fn take_node_event(&mut self, number: u32, event: NodeEvent)
+    pub fn feed_node_event(&mut self, number: u32, event: NodeEvent)
         ensures version { self.new.version ≡ self.old.version }
         ensures taken { IsTakenBy number (Row.Event (event_at event.kind event.node)) self.old self.new }
         ensures judged { (setup : SetupState) (rows : List RowState) → length rows + 2 ≡ number → HasJudged setup rows self.old
@@ -96,7 +96,7 @@ impl Judge {
     }
 
     // Judges the event of this row, where no row before it decided.
-    // (inlined, as `take_node_event` says)
+    // (inlined, as `feed_node_event` says)
     #[inline(always)]
     fn judge_event(&mut self, number: u32, event: &Event)
         ensures version { self.new.version ≡ self.old.version }
@@ -166,7 +166,7 @@ impl Judge {
         ensures unchanged { IfSome result (λ _. self.new ≡ self.old) }
         ensures going { (self.new.stopped ≡ None) × (self.new.version ≡ self.old.version) }
     {
-        self.take_row(0, row);
+        self.feed_row(0, row);
         self.pass_over()
     }
 
@@ -178,7 +178,7 @@ impl Judge {
         ensures unchanged { IfSome result (λ _. self.new ≡ self.old) }
         ensures going { (self.new.stopped ≡ None) × (self.new.version ≡ self.old.version) }
     {
-        self.take_node_event(0, event);
+        self.feed_node_event(0, event);
         self.pass_over()
     }
 
@@ -220,7 +220,7 @@ impl Judge {
 }
 
 // Takes the event of the row of this number to the world: the verdict, where that isn't lawful.
-// (inlined, as `take_node_event` says)
+// (inlined, as `feed_node_event` says)
 #[inline(always)]
 fn refusal(walk: &mut Walk, number: u32, event: &Event) -> Option<Verdict>
     ensures decides { result ≡ option_map (verdict_at number) (violation_of walk.old (Row.Event event.now)) }

@@ -17,7 +17,7 @@ mod world;
 pub use bully_calls::{Event, Refused};
 pub use causes::{is_full_for, own_cause};
 pub use node_state::NodeState;
-pub use take::TakenStep;
+pub use take::AppliedStep;
 pub use turn::{Next, StepKind};
 pub use world::World;
 

@@ -5,6 +5,7 @@ ghost use Rattle.bully_steps.specs.Procedure.{state_of};
 ghost use Rattle.bully_world.specs.State.{StepsTo, KeepsGenerations, IsFull};
 ghost use Rattle.bully_world.specs.Turn.{turn, has_table, step_event, is_in_step, procedure_after, procedure_left, outcome_brought, outcome_left};
 ghost use Rattle.bully_world.specs.declared.turn.Next.{Next};
+ghost use Rattle.bully_world.specs.declared.turn.StepKind.{StepKind};
 
 use crate::World;
 use crate::turn::StepKind;
@@ -13,7 +14,7 @@ use bully_steps::Procedure;
 
 /// A step that a node took by its procedure.
 #[derive(Drop, Debug)]
-pub struct TakenStep {
+pub struct AppliedStep {
     /// What was applied. A plan has the procedure's table.
     pub event: Event,
     /// What it was answered.
@@ -25,11 +26,11 @@ impl World {
     /// the procedure goes on by the outcome, where it lies. After a loss, and after an orphan's return or drop, it is
     /// the same. Takes no memory: a plan's event has the procedure's table. Refused as Full where as many events as the
     /// setup bounds were applied; then world and procedure are unchanged.
-    pub fn take_step(
+    pub fn apply_step(
         &mut self,
         kind: StepKind,
         procedure: &mut Procedure,
-    ) -> Result<TakenStep, Refused>
+    ) -> Result<AppliedStep, Refused>
         requires setup { (state_of procedure.old).setup ≡ self.old.setup }
         requires offered { turn self.old (state_of procedure.old) ≡ Next.Take kind }
         ensures step { IfOk result (λ taken. StepsTo self.old taken.event self.new taken.answer) }
@@ -47,26 +48,28 @@ impl World {
         if self.is_full() {
             return Err(Refused::Full);
         }
-        let event = take_event(kind, procedure);
+        let event = kind.take_event(procedure);
         let answer = self.apply_allowed(&event);
         advance_after(procedure, kind, answer);
-        Ok(TakenStep { event, answer })
+        Ok(AppliedStep { event, answer })
     }
 }
 
-// The event of the procedure's step. A plan takes the table from the procedure, which goes on then.
-fn take_event(kind: StepKind, procedure: &mut Procedure) -> Event
-    requires { kind ≡ StepKind.Plan → has_table (state_of procedure.old) ≡ true }
-    ensures event { result ≡ step_event kind (state_of procedure.old) }
-    ensures left { state_of procedure.new ≡ procedure_left kind (state_of procedure.old) }
-    ensures state { IsProcedureState (state_of procedure.old) }
-{
-    let node = procedure.node();
-    let table = match kind {
-        StepKind::Plan => Some(procedure.take_plan()),
-        _ => None,
-    };
-    kind.event(node, table)
+impl StepKind {
+    /// The event of the procedure's step. A plan takes the table from the procedure, which goes on then.
+    pub fn take_event(self, procedure: &mut Procedure) -> Event
+        requires { self ≡ StepKind.Plan → has_table (state_of procedure.old) ≡ true }
+        ensures event { result ≡ step_event self (state_of procedure.old) }
+        ensures left { state_of procedure.new ≡ procedure_left self (state_of procedure.old) }
+        ensures state { IsProcedureState (state_of procedure.old) }
+    {
+        let node = procedure.node();
+        let table = match self {
+            StepKind::Plan => Some(procedure.take_plan()),
+            _ => None,
+        };
+        self.event(node, table)
+    }
 }
 
 // By what a procedure goes on after its step with this answer, if by anything. A plan's went on with its event.

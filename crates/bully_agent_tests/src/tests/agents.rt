@@ -283,8 +283,8 @@ fn refused_reply(agent: &mut Agent, reply: Reply) -> Option<Refused> {
 
 // Whether the node, which recovers and begins a call, refuses a reply to another one, and takes one to this call, once.
 fn takes_its_reply(agent: &mut Agent) -> Option<bool> {
-    let recovered = agent.take(NodeEventKind::Recover).err();
-    let started = agent.take(NodeEventKind::Start).err();
+    let recovered = agent.apply(NodeEventKind::Recover).err();
+    let started = agent.apply(NodeEventKind::Start).err();
     if recovered.is_some() || started.is_some() {
         return None;
     }
@@ -350,7 +350,7 @@ fn kept(agent: &Agent) -> (u32, u32, Status) {
 
 // Why the node, which may recover before, refuses the request; none where it doesn't, or where that changes it.
 fn refusal(agent: &mut Agent, recovers: bool, asked: Asked) -> Option<Refused> {
-    if recovers && agent.take(NodeEventKind::Recover).is_err() {
+    if recovers && agent.apply(NodeEventKind::Recover).is_err() {
         return None;
     }
     let before = kept(agent);

@@ -52,7 +52,7 @@ impl<L: Naming> Locked<L> {
         if actor_of(&self.world, event) != Some(seat.actor) {
             return Err(StepFault::NotYours);
         }
-        self.take_allowed(seat, event, pass)
+        self.apply_allowed(seat, event, pass)
     }
 
     /// Runs the call that waits for the seat's node, that of the lowest caller; a step as `step` takes it. False, and
@@ -93,14 +93,14 @@ impl<L: Naming> Locked<L> {
         let Some(caller) = self.world.caller_to_serve(node) else {
             return Ok(false);
         };
-        self.take_allowed(seat, &Event::Run(caller), pass)?;
+        self.apply_allowed(seat, &Event::Run(caller), pass)?;
         Ok(true)
     }
 
     // Takes the event of the seat's actor, where the world doesn't refuse it. Everything is reserved before anything
     // changes.
     #[inline(always)]
-    fn take_allowed(
+    fn apply_allowed(
         &mut self,
         seat: &mut Seat,
         event: &Event,

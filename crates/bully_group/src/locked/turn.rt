@@ -14,7 +14,7 @@ use crate::seat::Seat;
 use bully_base::OutOfMemory;
 use bully_steps::Procedure;
 use bully_watch::Entry;
-use bully_world::{Event, Next, Refused, StepKind, TakenStep};
+use bully_world::{AppliedStep, Event, Next, Refused, StepKind};
 
 /// What became of a node's whole turn, in which the procedure that it holds goes on in its place.
 #[derive(Clone, Copy, PartialEq, Eq, Debug)]
@@ -89,7 +89,7 @@ impl<L: Naming> Locked<L> {
             }
             Next::Rest => Ok(NodeTurn::Waiting),
             Next::Take(kind) => {
-                self.take_offered(kind, seat, procedure, pass)?;
+                self.apply_offered(kind, seat, procedure, pass)?;
                 Ok(NodeTurn::Went)
             }
         }
@@ -98,7 +98,7 @@ impl<L: Naming> Locked<L> {
     // Takes the step that the turn rule offers the procedure of the seat's node. Everything is reserved before anything
     // changes.
     #[inline(always)]
-    fn take_offered(
+    fn apply_offered(
         &mut self,
         kind: StepKind,
         seat: &mut Seat,
@@ -121,7 +121,7 @@ impl<L: Naming> Locked<L> {
         let Ok(logged) = event_with_room(kind, procedure, &mut self.history, &mut seat.log) else {
             return Err(StepFault::OutOfMemory);
         };
-        let Ok(TakenStep { event, answer }) = self.world.take_step(kind, procedure) else {
+        let Ok(AppliedStep { event, answer }) = self.world.apply_step(kind, procedure) else {
             unreachable!()
         };
         pass.count(&mut self.book);

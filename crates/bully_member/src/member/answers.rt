@@ -14,26 +14,26 @@ impl Member {
     {
         if let Some(Asked { request, at }) = self.asked {
             self.asked = None;
-            self.take_answer(now, answer, request, at);
+            self.note_answer(now, answer, request, at);
         }
     }
 
     // What became of a request that was asked for then.
-    fn take_answer(&mut self, now: u64, answer: StoreAnswer, request: Request, at: u64)
+    fn note_answer(&mut self, now: u64, answer: StoreAnswer, request: Request, at: u64)
         ensures { self.new ≡ when_answered self.old now answer request at }
     {
         match request {
-            Request::Take(life, place) => self.take_taken(now, answer, life, place, at),
-            Request::Renew(life) => self.take_renewed(now, answer, life, at),
-            Request::Release(_) => self.take_released(now, answer),
-            Request::Promise(_, place) => self.take_promised(now, answer, place),
-            Request::Append(_) => self.take_appended(now, answer),
-            Request::Finish(_) => self.take_finished(now, answer),
+            Request::Take(life, place) => self.note_taken(now, answer, life, place, at),
+            Request::Renew(life) => self.note_renewed(now, answer, life, at),
+            Request::Release(_) => self.note_released(now, answer),
+            Request::Promise(_, place) => self.note_promised(now, answer, place),
+            Request::Append(_) => self.note_appended(now, answer),
+            Request::Finish(_) => self.note_finished(now, answer),
             Request::Look | Request::Follow => self.pause(now),
         }
     }
 
-    fn take_taken(&mut self, now: u64, answer: StoreAnswer, life: LifeId, place: u32, at: u64)
+    fn note_taken(&mut self, now: u64, answer: StoreAnswer, life: LifeId, place: u32, at: u64)
         ensures { self.new ≡ taken_by self.old.life self.old (when_taken self.old now answer life place at) }
     {
         if self.life != LifeState::Absent {
@@ -57,7 +57,7 @@ impl Member {
     }
 
     // The presence counts from when its renewal was asked for.
-    fn take_renewed(&mut self, now: u64, answer: StoreAnswer, life: LifeId, at: u64)
+    fn note_renewed(&mut self, now: u64, answer: StoreAnswer, life: LifeId, at: u64)
         ensures { self.new ≡ renewed_by self.old.life self.old (when_renewed self.old now answer life at) }
     {
         if let LifeState::Present(..) = self.life {
@@ -69,7 +69,7 @@ impl Member {
         }
     }
 
-    fn take_released(&mut self, now: u64, answer: StoreAnswer)
+    fn note_released(&mut self, now: u64, answer: StoreAnswer)
         ensures { self.new ≡ when_released self.old now answer }
     {
         self.end_life();
@@ -78,7 +78,7 @@ impl Member {
         }
     }
 
-    fn take_promised(&mut self, now: u64, answer: StoreAnswer, place: u32)
+    fn note_promised(&mut self, now: u64, answer: StoreAnswer, place: u32)
         ensures { self.new ≡ when_promised self.old now answer place }
     {
         if answer == StoreAnswer::Done {
@@ -87,11 +87,11 @@ impl Member {
                 place,
             };
         } else {
-            self.take_appended(now, answer);
+            self.note_appended(now, answer);
         }
     }
 
-    fn take_appended(&mut self, now: u64, answer: StoreAnswer)
+    fn note_appended(&mut self, now: u64, answer: StoreAnswer)
         ensures { self.new ≡ when_appended self.old now answer }
     {
         self.must_look = true;
@@ -100,13 +100,13 @@ impl Member {
         }
     }
 
-    fn take_finished(&mut self, now: u64, answer: StoreAnswer)
+    fn note_finished(&mut self, now: u64, answer: StoreAnswer)
         ensures { self.new ≡ when_finished self.old now answer }
     {
         if answer == StoreAnswer::Done {
             self.is_past = true;
         } else {
-            self.take_appended(now, answer);
+            self.note_appended(now, answer);
         }
     }
 

@@ -18,7 +18,7 @@ use std::alloc::Global;
 use std::io::Read;
 
 impl Member {
-    /// Learns the rows that a look found behind all that it has learned, as [`RowReplica::take_all`] does. If one isn't learned, but
+    /// Learns the rows that a look found behind all that it has learned, as [`RowReplica::learn_all`] does. If one isn't learned, but
     /// for want of memory or since it can't be read, or if one tells no event, the member ends as `Broken`.
     pub fn learn<R: Read + Drop>(
         &mut self,
@@ -32,7 +32,7 @@ impl Member {
         ensures counted { self.old.learned.rows ≤ self.new.learned.rows }
         ensures within { self.new.learned.rows ≤ ROWS_MAX }
     {
-        let taken = self.learned.take_all(alloc, reader);
+        let taken = self.learned.learn_all(alloc, reader);
         self.ending = ending_behind(self.ending, is_broken(&self.learned, &taken));
         taken
     }

@@ -32,11 +32,11 @@ impl Member {
             self.is_past = true;
             return;
         }
-        self.take_seen(now, presences, has_strangers, is_wished);
+        self.note_seen(now, presences, has_strangers, is_wished);
     }
 
     // What was found in its epoch.
-    fn take_seen(
+    fn note_seen(
         &mut self,
         now: u64,
         presences: Vec<Presence>,
@@ -46,12 +46,12 @@ impl Member {
         requires { AreNodes self.old.learned presences.items }
         ensures { self.new ≡ seen_here self.old now presences.items has_strangers is_wished }
     {
-        self.take_arrivals(now, &presences);
-        self.take_found(now, presences, has_strangers, is_wished);
-        self.take_own();
+        self.note_arrivals(now, &presences);
+        self.note_found(now, presences, has_strangers, is_wished);
+        self.note_own();
     }
 
-    fn take_found(
+    fn note_found(
         &mut self,
         now: u64,
         presences: Vec<Presence>,
@@ -70,7 +70,7 @@ impl Member {
     }
 
     // Notes whose life was seen first.
-    fn take_arrivals(&mut self, now: u64, presences: &[Presence])
+    fn note_arrivals(&mut self, now: u64, presences: &[Presence])
         ensures { self.new ≡ with_arrivals self.old now presences.now }
     {
         note_arrivals(&mut self.arrivals, presences, self.ttl, now);
@@ -92,7 +92,7 @@ impl Member {
     }
 
     // Its life is over if somebody else is present for its node, or nobody.
-    fn take_own(&mut self)
+    fn note_own(&mut self)
         ensures { self.new ≡ with_own self.old }
     {
         let LifeState::Present(life, _) = self.life else {

@@ -92,7 +92,7 @@ fn followed(alloc: Global, text: &str) -> Option<(u32, u32, Option<LearnFault>)>
     let header = header_of(&mut rows)?;
     match RowReplica::new(alloc, header) {
         Ok(mut learned) => {
-            let fault = learned.take_all(alloc, &mut rows).err();
+            let fault = learned.learn_all(alloc, &mut rows).err();
             Some((learned.rows(), learned.replica().token(), fault))
         }
         Err(_) => None,

@@ -5,7 +5,7 @@ use bully_base::{Node, Setup, Status};
 use bully_calls::{Answer, NodeEventKind, Reply, Request};
 use bully_lines::{push_reply, push_request, read_reply, read_request};
 use bully_steps::Want;
-use bully_world::{Event, TakenStep, World};
+use bully_world::{AppliedStep, Event, World};
 use std::alloc::Global;
 
 /// The most rounds of turns until nobody has anything to do.
@@ -45,9 +45,9 @@ impl Cluster {
     pub fn happen(&mut self, place: usize, input: Input) -> Option<()> {
         let agent = self.agents.get_mut(place)?;
         let taken = match input {
-            Input::Recover => agent.take(NodeEventKind::Recover),
-            Input::Crash => agent.take(NodeEventKind::Crash),
-            Input::Timeout => agent.take(NodeEventKind::Timeout),
+            Input::Recover => agent.apply(NodeEventKind::Recover),
+            Input::Crash => agent.apply(NodeEventKind::Crash),
+            Input::Timeout => agent.apply(NodeEventKind::Timeout),
         };
         log_step(&mut self.world, agent, taken.ok())
     }
@@ -128,16 +128,16 @@ fn add_agents(alloc: Global, setup: &Setup, agents: &mut Vec<Agent>) -> Option<(
 }
 
 // What the node does, which wants to do something.
-fn step(alloc: Global, agent: &mut Agent) -> Option<TakenStep> {
+fn step(alloc: Global, agent: &mut Agent) -> Option<AppliedStep> {
     match agent.wants() {
         Want::Nothing | Want::Await => None,
-        Want::Start(_) => agent.take(NodeEventKind::Start).ok(),
-        Want::Move => agent.take(NodeEventKind::Move).ok(),
+        Want::Start(_) => agent.apply(NodeEventKind::Start).ok(),
+        Want::Move => agent.apply(NodeEventKind::Move).ok(),
         Want::Plan => plan(alloc, agent),
     }
 }
 
-fn plan(alloc: Global, agent: &mut Agent) -> Option<TakenStep> {
+fn plan(alloc: Global, agent: &mut Agent) -> Option<AppliedStep> {
     match agent.prepare(alloc, agent.vector().task()) {
         Ok(table) => agent.plan(table).ok(),
         Err(_) => None,
@@ -199,7 +199,7 @@ fn log_failed(world: &mut World, agent: &Agent, failed: &FailedCall) -> Option<(
     }
 }
 
-fn log_step(world: &mut World, agent: &Agent, taken: Option<TakenStep>) -> Option<()> {
+fn log_step(world: &mut World, agent: &Agent, taken: Option<AppliedStep>) -> Option<()> {
     match taken {
         Some(taken) => log(world, agent, &taken.event, taken.answer),
         None => None,

@@ -6,8 +6,8 @@ use Rattle.bully_annotate.proofs.annotation.verdict_of.Goals as goal
 
 pub loop-row-preserved : goal.loop-row-preserved
 loop-row-preserved c = record {
-  judged = judged-taken c.args.trace.now.setup c.args.trace.now.rows c.loop-row.row-index c.loop-row.number c.row-item.result c.loop-row.judge c.take_row.new.self
-      (slice_get_read c.args.trace.now.rows _ c.loop-row.row-index c.row-item.result refl (search rules) (search rules)) c.loop-row.invariant.number c.take_row.ensures.judged c.loop-row.invariant.judged;
+  judged = judged-taken c.args.trace.now.setup c.args.trace.now.rows c.loop-row.row-index c.loop-row.number c.row-item.result c.loop-row.judge c.feed_row.new.self
+      (slice_get_read c.args.trace.now.rows _ c.loop-row.row-index c.row-item.result refl (search rules) (search rules)) c.loop-row.invariant.number c.feed_row.ensures.judged c.loop-row.invariant.judged;
   number = omega (arith, c.loop-row.invariant.number);
 }
 

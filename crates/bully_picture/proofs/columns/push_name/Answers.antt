@@ -1,6 +1,5 @@
 use Rattle.std.proofs.Common.{subst}
 use Rattle.std.specs.Fmt.{decimal}
-use Rattle.bully_picture.specs.declared.columns.Form.{Form}
 use Rattle.bully_picture.specs.Told.{column_of, filled}
 use Rattle.bully_picture.specs.Written.{Writes}
 use Rattle.bully_picture.proofs.WrittenLemmas.{writes-nothing}

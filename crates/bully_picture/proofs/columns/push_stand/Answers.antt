@@ -1,6 +1,5 @@
 use Rattle.std.proofs.Common.{◌-◌, length, replicate, subst}
 use Rattle.std.specs.Prelude.{max}
-use Rattle.bully_picture.specs.Told.{filled}
 use Rattle.bully_picture.specs.Words.{followed_text}
 use Rattle.bully_picture.specs.Written.{Writes}
 use Rattle.bully_picture.proofs.ColumnLemmas.{column-filled}
