@@ -2,8 +2,8 @@
  *
  * The functions of crates/bully_c are proved, but for references and slices: none of these can be null, and C can pass a null
  * pointer. So each function of bully.h tests its pointers and lengths here, as that header says, and then calls the proved
- * function that has its name with `bully_c_` in the place of `bully_`, and its parameters. Nothing else is decided here. Behind
- * bully_status_name and bully_version is no proved function: they give texts that bin/library makes.
+ * function that has its name with `bully_c_` in the place of `bully_`, and its parameters, less `alloc`, which has no size. Nothing
+ * else is decided here. Behind bully_status_name and bully_version is no proved function: they give texts that bin/library makes.
  */
 #include "bully.h"
 

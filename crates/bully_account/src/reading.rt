@@ -20,12 +20,12 @@ pub fn read_each<R: Read + Drop>(
     ensures taken { (known : Option (List ℕ)) → IsUnread known rows.old → OnOk result (AreTakenToEnd known account.new) }
     ensures fault { (known : Option (List ℕ)) → IsUnread known rows.old → IfErr result (EndsReading known) }
 {
-    let mut text: TraceFeed<(), Account> = TraceFeed {
+    let mut feed: TraceFeed<(), Account> = TraceFeed {
         start: (),
         begun: None,
     };
-    let taken = feed_text(alloc, rows, &mut text);
-    if let Some(begun) = text.begun {
+    let taken = feed_text(alloc, rows, &mut feed);
+    if let Some(begun) = feed.begun {
         *account = Some(begun.sink);
     }
     taken

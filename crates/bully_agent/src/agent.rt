@@ -11,7 +11,7 @@ ghost use Rattle.bully_agent.specs.Calls.{GivesOut, IsAwaited, IsDue, IsFailed, 
 ghost use Rattle.bully_agent.specs.Part.{Always};
 
 use crate::applying::apply_alone;
-use crate::due::{can_return, is_under_way};
+use crate::due::can_return;
 use crate::requests::{request_cause, serve_request};
 use crate::returns::{return_failure, return_reply};
 use bully_base::{Node, OutOfMemory, Setup};
@@ -172,7 +172,7 @@ impl Agent {
         let Some(call) = slot.call() else {
             return Ok(None);
         };
-        if !is_under_way(slot) {
+        if !slot.is_sent() {
             return Ok(None);
         }
         Ok(Some(Request {
@@ -357,7 +357,7 @@ impl Agent {
     fn awaits(&self, number: u32) -> bool
         ensures { IsTrue result ↔ IsAwaited self.now number }
     {
-        number == self.number && is_under_way(self.node_state.slot())
+        number == self.number && self.node_state.slot().is_sent()
     }
 }
 

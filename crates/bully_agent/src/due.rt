@@ -5,21 +5,14 @@ ghost use Rattle.bully_calls.specs.Slot.{holds_call};
 ghost use Rattle.bully_world.specs.NodeInvariant.{SuitsPhase};
 ghost use Rattle.bully_agent.specs.Calls.{CanReturn};
 
-use bully_calls::{Answer, CallKind, Phase, Slot};
-
-/// Whether the slot holds a call that was sent.
-pub fn is_under_way(slot: &Slot) -> bool
-    ensures { result ≡ holds_call is_sent slot.now }
-{
-    matches!(slot.phase(), Some(Phase::Sent))
-}
+use bully_calls::{Answer, CallKind, Slot};
 
 /// Whether the slot holds a call that was sent and can be answered so.
 pub fn can_return(slot: &Slot, answer: Answer) -> bool
     ensures { IsTrue result ↔ CanReturn slot.now answer }
 {
     match slot.call() {
-        Some(call) => is_under_way(slot) && can_answer(call.kind, answer),
+        Some(call) => slot.is_sent() && can_answer(call.kind, answer),
         None => false,
     }
 }

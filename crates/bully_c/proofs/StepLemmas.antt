@@ -1,7 +1,7 @@
 -- What an agent's call answers, as what is kept behind a handle tells it, and an export.
 use Rattle.std.proofs.Common.{◌≡◌, ℕ, Option, Some, subst, sym}
 use Rattle.bully_c.specs.Exports.{AtOpen, AtOpenOf}
-use Rattle.bully_c.specs.declared.session.AgentSession.{AgentSession}
+use Rattle.bully_c.specs.declared.agent_session.AgentSession.{AgentSession}
 
 -- what holds of what an open handle has holds at it
 pub at-open-of : (H : Type 0) (Holds : H → ℕ → H → Type 0) (old new : Option H) (session lent after : H) (status : ℕ) → old ≡ Some session → lent ≡ session → new ≡ Some after

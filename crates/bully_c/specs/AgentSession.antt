@@ -17,8 +17,8 @@ use Rattle.bully_calls.specs.declared.kind.EventKind.{EventKind}
 use Rattle.bully_calls.specs.declared.kind.Saying.{Saying}
 use Rattle.bully_calls.specs.Events.{event_at, saying_of}
 use Rattle.bully_calls.specs.declared.event.Refused.{Refused}
-use Rattle.bully_c.specs.declared.session.AgentSession.{AgentSession}
-use Rattle.bully_c.specs.declared.session.StepRows.{StepRows}
+use Rattle.bully_c.specs.declared.agent_session.AgentSession.{AgentSession}
+use Rattle.bully_c.specs.declared.agent_session.StepRows.{StepRows}
 
 -- ---- what is told
 

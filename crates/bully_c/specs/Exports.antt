@@ -26,8 +26,8 @@ use Rattle.bully_c.specs.Arguments.{AreGiven, IsCopied, IsSetupRefusal, RefusesG
 use Rattle.bully_c.specs.AgentSession.{ServesRequest, call_in, Takes, TakesFailure, TakesReply, TellsOwn, TellsPlan}
 use Rattle.bully_c.specs.Numbers.{answer_number, kind_number, reply_number, request_number, status_number, step_number, want_number}
 use Rattle.bully_c.specs.declared.status.TheConstants.{BAD_NODE, CLOSED, LINE_WORD, OK, OPEN, OUT_OF_MEMORY, SHORT, TABLE_LENGTH}
-use Rattle.bully_c.specs.declared.session.AgentSession.{AgentSession}
-use Rattle.bully_c.specs.declared.session.StepRows.{StepRows}
+use Rattle.bully_c.specs.declared.agent_session.AgentSession.{AgentSession}
+use Rattle.bully_c.specs.declared.agent_session.StepRows.{StepRows}
 use Rattle.bully_c.specs.declared.shown.CState.{CState}
 
 -- of what an open handle has this holds, and it stays open; a closed one is told, and stays closed

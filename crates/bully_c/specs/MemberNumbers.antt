@@ -1,7 +1,7 @@
 -- The numbers by which C knows what bully_member names: those of include/bully.h.
 use Rattle.std.specs.Prelude.{ℕ, ◌==◌, Option, None, Some, if◌then◌else◌}
 use Rattle.bully_member.specs.declared.opening.MemberFault.{MemberFault}
-use Rattle.bully_member.specs.declared.values.Await.{Await}
+use Rattle.bully_member.specs.declared.values.Until.{Until}
 use Rattle.bully_member.specs.declared.values.Ending.{Ending}
 use Rattle.bully_member.specs.declared.values.LifeState.{LifeState}
 use Rattle.bully_member.specs.declared.values.StoreAnswer.{StoreAnswer}
@@ -19,10 +19,10 @@ abbrev pub answer_numbered : ℕ → Option StoreAnswer
 answer_numbered number =
     if number == 1 then Some StoreAnswer.Done else if number == 2 then Some StoreAnswer.Refused else if number == 3 then Some StoreAnswer.Unanswered else None
 
-abbrev pub await_number : Await → ℕ
-await_number Await.News = 1
-await_number Await.AnyIdle = 2
-await_number Await.AllIdle = 3
+abbrev pub until_number : Until → ℕ
+until_number Until.News = 1
+until_number Until.AnyIdle = 2
+until_number Until.AllIdle = 3
 
 abbrev pub ending_number : Ending → ℕ
 ending_number Ending.Left = 1

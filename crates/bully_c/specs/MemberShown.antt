@@ -5,7 +5,7 @@ use Rattle.bully_member.specs.Times.{sure_left}
 use Rattle.bully_member.specs.declared.values.LifeId.{LifeId}
 use Rattle.bully_member.specs.declared.values.Request.{Request}
 use Rattle.bully_member.specs.declared.values.Step.{Step}
-use Rattle.bully_c.specs.MemberNumbers.{await_number, ending_number, ending_or_none, life_count, life_number, life_process, life_since, work_number, work_token}
+use Rattle.bully_c.specs.MemberNumbers.{until_number, ending_number, ending_or_none, life_count, life_number, life_process, life_since, work_number, work_token}
 use Rattle.bully_c.specs.declared.member_shown.CMember.{CMember}
 use Rattle.bully_c.specs.declared.member_shown.CStep.{CStep}
 
@@ -31,7 +31,7 @@ abbrev pub step_shown : Step → CStep
 step_shown (Step.Ask request) = request_shown request
 step_shown (Step.Begin token) = record no_step { kind = 2; token = token }
 step_shown Step.Stop = record no_step { kind = 3 }
-step_shown (Step.Wait at_most until) = record no_step { at_most = at_most; kind = 4; until = await_number until }
+step_shown (Step.Wait at_most until) = record no_step { at_most = at_most; kind = 4; until = until_number until }
 step_shown (Step.Rest at_most) = record no_step { at_most = at_most; kind = 5 }
 step_shown (Step.End ending) = record no_step { kind = 6; ending = ending_number ending }
 

@@ -12,10 +12,10 @@ ghost use Rattle.bully_c.specs.Exports.{AtOpen, CanOpen, IsClosing, IsOpening, I
 ghost use Rattle.bully_c.specs.AgentSession.{rows_told};
 ghost use Rattle.bully_c.specs.Numbers.{step_number};
 ghost use Rattle.bully_c.specs.declared.status.TheConstants.{OK as OkNumber};
-ghost use Rattle.bully_c.specs.declared.session.StepRows.{StepRows as StepRowsState};
+ghost use Rattle.bully_c.specs.declared.agent_session.StepRows.{StepRows as StepRowsState};
 
-use crate::handle::AgentHandle;
-use crate::session::AgentSession;
+use crate::agent_handle::AgentHandle;
+use crate::agent_session::AgentSession;
 use crate::shown::{CState, copy_owners, copy_text, copy_up, state_of};
 use crate::status::{CLOSED, OK, OPEN, OUT_OF_MEMORY, TABLE_LENGTH, status_of_refusal};
 use crate::tables::{CSetup, node_of, put_owners, read_table, setup_of, table_of};

@@ -5,9 +5,10 @@
 //! does, answers and in which order, and `bindings/c/bully.c` stands between it and C.
 #![tactic(auto)]
 
+mod agent_handle;
+mod agent_session;
 mod agents;
 mod configurations;
-mod handle;
 mod logs;
 mod member_handle;
 mod member_shown;
@@ -20,7 +21,6 @@ mod raw_box;
 mod replica_handle;
 mod replicas;
 mod requests;
-mod session;
 mod settlements;
 mod shown;
 mod status;

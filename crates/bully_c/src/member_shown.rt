@@ -1,9 +1,9 @@
 //! What a member does next, and what it shows, as C has it.
 ghost use Rattle.std.specs.Prelude.{◌≡◌};
-ghost use Rattle.bully_c.specs.MemberNumbers.{await_number, ending_number, ending_or_none, life_count, life_number, life_process, life_since, work_number, work_token};
+ghost use Rattle.bully_c.specs.MemberNumbers.{until_number, ending_number, ending_or_none, life_count, life_number, life_process, life_since, work_number, work_token};
 ghost use Rattle.bully_c.specs.MemberShown.{member_shown, no_step, of_life, request_shown, step_shown};
 
-use bully_member::{Await, Ending, LifeId, LifeState, Member, Request, Step, Work};
+use bully_member::{Ending, LifeId, LifeState, Member, Request, Step, Until, Work};
 
 /// What a member does next. What a kind of step or request doesn't have is 0.
 #[repr(C)]
@@ -54,7 +54,7 @@ pub fn step_of(step: Step) -> CStep
         Step::Wait(at_most, until) => {
             shown.kind = 4;
             shown.at_most = at_most;
-            shown.until = of_await(until);
+            shown.until = of_until(until);
         }
         Step::Rest(at_most) => {
             shown.kind = 5;
@@ -115,13 +115,13 @@ fn no_step() -> CStep
     }
 }
 
-fn of_await(until: Await) -> u32
-    ensures { result ≡ await_number until }
+fn of_until(until: Until) -> u32
+    ensures { result ≡ until_number until }
 {
     match until {
-        Await::News => 1,
-        Await::AnyIdle => 2,
-        Await::AllIdle => 3,
+        Until::News => 1,
+        Until::AnyIdle => 2,
+        Until::AllIdle => 3,
     }
 }
 

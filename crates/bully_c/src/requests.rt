@@ -5,8 +5,8 @@ ghost use Rattle.bully_c.specs.Arguments.{IsMadeAndCopied};
 ghost use Rattle.bully_c.specs.Exports.{AtOpen, IsFailure, IsReply, IsRequestLine, IsServe, RefusesReplyLine, RefusesRequestLine, Shows, request_line, told_answer};
 ghost use Rattle.bully_c.specs.Numbers.{step_number};
 
-use crate::handle::AgentHandle;
-use crate::session::AgentSession;
+use crate::agent_handle::AgentHandle;
+use crate::agent_session::AgentSession;
 use crate::shown::copy_text;
 use crate::status::{
     CLOSED, LINE_WORD, OK, OUT_OF_MEMORY, SHORT, number_of_answer, status_of_refusal,

@@ -104,6 +104,13 @@ impl Slot {
         self.content = None;
     }
 
+    /// Whether the slot holds a call that was sent, and neither ran nor failed.
+    pub fn is_sent(&self) -> bool
+        ensures { result ≡ holds_call is_sent self.now }
+    {
+        matches!(self.phase(), Some(Phase::Sent))
+    }
+
     /// Whether the slot holds a call of another generation of its caller than this one.
     pub fn is_orphan(&self, generation: u32) -> bool
         ensures { result ≡ orphan_in generation self.now }

@@ -1,4 +1,4 @@
--- A text whose rows are watched one by one, up to where that ends.
+-- A text whose rows are followed one by one, up to where that ends.
 use Rattle.std.proofs.Common.{◌≡◌, ◌∙◌, inl, inr, ℕ, true, List, Option, Some, None, Result, Ok, Err, refl, subst, sym}
 use Rattle.std.specs.Prelude.{IfErr, OnOk, option_map}
 use Rattle.bully_base.specs.Setup.{Setup}
@@ -7,7 +7,7 @@ use Rattle.bully_rows.specs.declared.trace.Row.{Row}
 use Rattle.bully_rows.specs.declared.trace_feeding.BehindHeader.{BehindHeader}
 use Rattle.bully_rows.specs.RecordsLeft.{IsUnread, ReadSoFar, rows_left}
 use Rattle.bully_rows.specs.Feeding.{AllTaken, AreTakenBy, IsNext, IsTakenSoFar, StopsBehind, StopsNext}
-use Rattle.bully_rows.proofs.TakingLemmas.{kept-by-all, refused-ends, taken-next, taken-to-end, unreadable-ends}
+use Rattle.bully_rows.proofs.FeedingLemmas.{kept-by-all, refused-ends, taken-next, taken-to-end, unreadable-ends}
 use Rattle.bully_account.specs.Accounts.{AccountState}
 use Rattle.bully_follow.specs.declared.following.Stop.{Stop}
 use Rattle.bully_follow.specs.declared.followed.Followed.{Followed}
@@ -23,7 +23,7 @@ takes-some : (reader : ReadSoFar) (before : Option (BehindHeader Followed)) → 
 takes-some reader None takes = takes
 takes-some reader (Some b) takes = takes
 
--- what watches the rows of a text, where that was begun
+-- what follows the rows of a text, where that was begun
 abbrev pub followed_in : Option (BehindHeader Followed) → Option Followed
 followed_in = option_map (λ b. b.sink)
 

@@ -21,7 +21,7 @@ use Rattle.bully_follow.specs.declared.followed.Followed.{Followed}
 abbrev pub HasFollowed : Header → List Row → Followed → Type 0
 HasFollowed header rows w = HasTakenBehind header rows w.account
 
--- the header begins what watches, and each row behind it is taken
+-- the header begins what follows, and each row behind it is taken
 abbrev pub TakesFollowed : ReadSoFar → Option (BehindHeader Followed) → Option (BehindHeader Followed) → Type 0
 TakesFollowed = TakesNext HasFollowed
 
@@ -46,7 +46,7 @@ IsFollowedAs known verdict =
 abbrev pub IsFollowFault : Option (List ℕ) → TraceFault → Type 0
 IsFollowFault known fault = EndsReading known fault ⊎ IsOfWriting fault
 
--- how the taking of a text ended, with what watches it then: at its end; behind the row that decided; or by a fault
+-- how the taking of a text ended, with what followed it: at its end; behind the row that decided; or by a fault
 abbrev pub IsEnded : Option (List ℕ) → Result (Unit {0}) Stop → Option Followed → Type 0
 IsEnded known (Ok u) followed = IsTakenToEnd HasFollowed known followed
 IsEnded known (Err (Stop.Decided verdict)) followed =

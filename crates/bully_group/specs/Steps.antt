@@ -47,11 +47,11 @@ IsStepFault s seat e (Refused why) = IsKnown s.history seat × IsYours s seat e 
 IsStepFault s seat e OutOfMemory = IsAllowed s seat e
 
 -- what each fault that is left to the world tells of it
-abbrev pub IsTakeFault : LockedState → Event → StepFault → Type 0
-IsTakeFault s e (Foreign index) = ⊥
-IsTakeFault s e NotYours = ⊥
-IsTakeFault s e (Refused why) = cause_in s.world e ≡ Some why
-IsTakeFault s e OutOfMemory = cause_in s.world e ≡ None
+abbrev pub IsApplyFault : LockedState → Event → StepFault → Type 0
+IsApplyFault s e (Foreign index) = ⊥
+IsApplyFault s e NotYours = ⊥
+IsApplyFault s e (Refused why) = cause_in s.world e ≡ Some why
+IsApplyFault s e OutOfMemory = cause_in s.world e ≡ None
 
 -- a fault that comes after those of the seat
 abbrev pub IsLateFault : StepFault → Type 0

@@ -3,7 +3,7 @@ use Rattle.std.specs.Prelude.{◌+◌, ◌-◌, ◌^◌, ◌==◌, ◌&&◌, ◌
 use Rattle.std.specs.Option.{option_map}
 use Rattle.bully_member.specs.Member.{MemberState, above, all_idle, counts, has_room, here, is_alone, is_closing, is_down, are_none, place_of, presence_of, replica_of, same_promise, stay_left}
 use Rattle.bully_member.specs.Times.{left, pause_left, paused_rest, renewal_left, stopping_rest, sure, turn_left}
-use Rattle.bully_member.specs.declared.values.Await.{Await}
+use Rattle.bully_member.specs.declared.values.Until.{Until}
 use Rattle.bully_member.specs.declared.values.Ending.{Ending}
 use Rattle.bully_member.specs.declared.values.LifeId.{LifeId}
 use Rattle.bully_member.specs.declared.values.LifeState.{LifeState}
@@ -39,7 +39,7 @@ has_to_stop m now rests work = false
 -- all are idle, or not yet; and it is its turn to end the epoch or to settle the group
 abbrev pub idle_step : MemberState → (now : ℕ) → Step
 idle_step m now =
-    if not (all_idle m) then Step.Wait (renewal_left m.life m.ttl now) Await.AllIdle else
+    if not (all_idle m) then Step.Wait (renewal_left m.life m.ttl now) Until.AllIdle else
     if is_closing m then Step.Ask (Request.Finish (place_of m)) else
     Step.Ask (Request.Append (place_of m))
 
@@ -48,7 +48,7 @@ abbrev pub restless_step : MemberState → (now : ℕ) → LifeId → Step
 restless_step m now life =
     let turn = turn_left (above m) m.ttl now m.unrest.at in
     if not (same_promise m.own (here m)) then Step.Ask (Request.Promise life (place_of m)) else
-    if nat_lt 0 turn then Step.Wait (min (renewal_left m.life m.ttl now) turn) Await.News else
+    if nat_lt 0 turn then Step.Wait (min (renewal_left m.life m.ttl now) turn) Until.News else
     idle_step m now
 
 -- how long it waits at rest: up to the next renewal, and to when one more presence counts
@@ -58,7 +58,7 @@ resting_wait m now = fold (λ least p. min least (stay_left m.arrivals now p.nod
 -- the group is at rest: it works on what its node owns
 abbrev pub resting_step : MemberState → (now : ℕ) → Work → Option ℕ → Step
 resting_step m now Work.Idle (Some token) = Step.Begin token
-resting_step m now work token = Step.Wait (resting_wait m now) Await.AnyIdle
+resting_step m now work token = Step.Wait (resting_wait m now) Until.AnyIdle
 
 -- it was told to leave: if it is the last one, it brings all Down before it goes
 abbrev pub leaving_step : MemberState → (are_down : Bool) → LifeId → Step
@@ -92,9 +92,9 @@ settling_left m now = if is_down m m.terms.node || are_none m.presences then 0 e
 
 -- by who is present for its node: an earlier life of its own, which was taken late; another process; or nobody
 abbrev pub taking_step : MemberState → (now : ℕ) → Option Presence → Step
-taking_step m now (Some p) = if p.life.process == m.process then Step.Ask (Request.Release p.life) else Step.Wait m.ttl Await.News
+taking_step m now (Some p) = if p.life.process == m.process then Step.Ask (Request.Release p.life) else Step.Wait m.ttl Until.News
 taking_step m now None =
-    if nat_lt 0 (settling_left m now) then Step.Wait (settling_left m now) Await.News else
+    if nat_lt 0 (settling_left m now) then Step.Wait (settling_left m now) Until.News else
     Step.Ask (Request.Take (record { process = m.process; number = min (m.tries + 1) (2 ^ 64 - 1) }) (place_of m))
 
 -- it hasn't its presence, and goes on

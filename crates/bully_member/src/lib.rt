@@ -24,8 +24,8 @@ mod values;
 pub use member::Member;
 pub use opening::{MemberFault, SETTLING_MAX, TTL_MAX, TTL_MIN, Terms};
 pub use values::{
-    Arrival, Asked, Await, Ending, LifeId, LifeState, Presence, Promise, Request, Step,
-    StoreAnswer, Unrest, Work,
+    Arrival, Asked, Ending, LifeId, LifeState, Presence, Promise, Request, Step, StoreAnswer,
+    Unrest, Until, Work,
 };
 
 /// The law of what a member asks of a store, which `Member::next` keeps to (`Keeps`). Where it begins, its life may, by the law `workers_apart` of

@@ -76,7 +76,7 @@ pub enum Request {
 
 /// What ends a wait before its time: other rows, lives or wishes than were seen; or one of these.
 #[derive(Clone, Copy, PartialEq, Eq, Debug)]
-pub enum Await {
+pub enum Until {
     /// No more.
     News,
     /// One that is present is idle up to the end of the log, and wasn't when the member looked last.
@@ -95,7 +95,7 @@ pub enum Step {
     /// To see to it that all work ends, and to tell when it has.
     Stop,
     /// To wait, for so many nanoseconds at most, and to tell that it woke.
-    Wait(u64, Await),
+    Wait(u64, Until),
     /// To do nothing for so many nanoseconds, or until it is told something.
     Rest(u64),
     /// Nothing more.

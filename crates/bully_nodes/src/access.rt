@@ -65,7 +65,7 @@ impl<'a, L: Naming, R: Wait> Backend for GroupAccess<'a, L, R> {
     // The lock is held once, for the serve and for what comes where no call waits.
     fn carry_out(&mut self, choice: Choice, procedure: &mut Procedure) -> Result<(), OutOfMemory> {
         let mut guard = self.group.locked.lock(self.rt);
-        let answer = take_at(
+        let answer = carry_out_at(
             &mut guard,
             &mut self.seat,
             choice,
@@ -92,7 +92,7 @@ fn apply_at<L: Naming>(
 }
 
 // The turn of the seat's node: it serves, or else does what it chose.
-fn take_at<L: Naming>(
+fn carry_out_at<L: Naming>(
     locked: &mut Locked<L>,
     seat: &mut Seat,
     choice: Choice,

@@ -128,13 +128,13 @@ fn record_node_turn(
     recording: &mut Recording,
     period: u32,
     turn: u32,
-    place: &mut Procedure,
+    procedure: &mut Procedure,
 ) -> Result<(), OutOfMemory>
-    requires setup { (state_of place.old).setup ≡ recording.old.world.setup }
+    requires setup { (state_of procedure.old).setup ≡ recording.old.world.setup }
     requires period { 0 < period }
-    ensures turn { OnOk result (IsTurn period turn recording.old (state_of place.old) recording.new (state_of place.new)) }
+    ensures turn { OnOk result (IsTurn period turn recording.old (state_of procedure.old) recording.new (state_of procedure.new)) }
     ensures recorded { OnOk result (Continues recording.old recording.new) }
-    ensures same_node { OnOk result (HasSameNode (state_of place.old) (state_of place.new)) }
+    ensures same_node { OnOk result (HasSameNode (state_of procedure.old) (state_of procedure.new)) }
 {
-    take_node_turn(recording, period, turn, place)
+    take_node_turn(recording, period, turn, procedure)
 }

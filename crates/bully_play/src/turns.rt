@@ -41,22 +41,22 @@ fn fault_event(fault: Fault) -> Event
     }
 }
 
-/// The turn of this number of the node that holds the procedure, which goes on. It is prepared first, where it
-/// is Planning. Then, in one piece, the node serves the call that waits for it, if any; else it goes on as it chooses, with
+/// The turn of this number of the node that holds the procedure, which goes on. Where the procedure is
+/// Planning, it is prepared first. Then, in one piece, the node serves the call that waits for it, if any; else it goes on as it chooses, with
 /// a check once in a period of at least 1.
 pub fn take_node_turn<S: Backend>(
     backend: &mut S,
     period: u32,
     turn: u32,
-    place: &mut Procedure,
+    procedure: &mut Procedure,
 ) -> Result<(), OutOfMemory>
-    requires setup { (state_of place.old).setup ≡ S.setup backend.old }
+    requires setup { (state_of procedure.old).setup ≡ S.setup backend.old }
     requires period { 0 < period }
-    ensures turn { OnOk result (IsTurnOn S.prepares S.takes period turn backend.old (state_of place.old) backend.new (state_of place.new)) }
-    ensures same_node { HasSameNode (state_of place.old) (state_of place.new) }
+    ensures turn { OnOk result (IsTurnOn S.prepares S.takes period turn backend.old (state_of procedure.old) backend.new (state_of procedure.new)) }
+    ensures same_node { HasSameNode (state_of procedure.old) (state_of procedure.new) }
     ensures setup { OnOk result (S.setup backend.new ≡ S.setup backend.old) }
 {
-    backend.prepare(place)?;
-    let choice = Driver::choose_every(period, turn, place);
-    backend.carry_out(choice, place)
+    backend.prepare(procedure)?;
+    let choice = Driver::choose_every(period, turn, procedure);
+    backend.carry_out(choice, procedure)
 }

@@ -14,7 +14,7 @@ use Rattle.bully_rows.specs.declared.header.Version.{Version}
 use Rattle.bully_rows.specs.declared.trace.TraceCause.{TraceCause}
 use Rattle.bully_rows.specs.declared.trace.TraceFault.{TraceFault}
 use Rattle.bully_rows.specs.Feeding.{AllTaken, AreTakenBy, IsLast, IsNext, IsUnreadable, StopsBehind, StopsNext}
-use Rattle.bully_rows.proofs.TakingLemmas.{kept-by-all}
+use Rattle.bully_rows.proofs.FeedingLemmas.{kept-by-all}
 
 -- before any of the records
 pub follows_none : (records : List Record) (f : RowReplicaState) → FollowsUpTo records f f records

@@ -135,11 +135,11 @@ impl<R: Read + Drop> RowSink<R> for RowReplica {
 
     ghost refuses = { λ reader f after fault. FailsBehind reader.fields f fault × (after ≡ f) };
 
-    fn feed(&mut self, alloc: Global, rows: &RowReader<R>) -> Result<(), LearnFault> {
+    fn feed(&mut self, alloc: Global, reader: &RowReader<R>) -> Result<(), LearnFault> {
         if self.rows == ROWS_MAX {
             return Err(LearnFault::Form(TraceCause::TooManyRows));
         }
-        learn_read_row(alloc, &mut self.replica, rows)?;
+        learn_read_row(alloc, &mut self.replica, reader)?;
         self.rows += 1;
         Ok(())
     }

@@ -6,7 +6,7 @@ use crate::trace::TraceFault;
 use std::alloc::Global;
 use std::io::Read;
 
-/// What takes rows one by one, as a reader gives them.
+/// A sink of rows, one by one, as a reader gives them.
 pub trait RowSink<R: Read + Drop> {
     ghost use Rattle.std.specs.Prelude.{IfErr, OnOk};
     ghost use Rattle.bully_rows.specs.RecordsLeft.{ReadSoFar};

@@ -11,7 +11,7 @@ use bully_base::OutOfMemory;
 use std::alloc::Global;
 use std::io::Read;
 
-/// What takes the rows of a trace. Its header begins it, with a value of `S`.
+/// A sink of the rows of a trace. The header begins it, with a value of `S`.
 pub trait TraceSink<R: Read + Drop, S>: Drop {
     ghost use Rattle.std.specs.Prelude.{[], List, IfOk, OnOk};
     ghost use Rattle.bully_rows.specs.Headers.{IsVersionFor};
@@ -51,14 +51,14 @@ pub trait TraceSink<R: Read + Drop, S>: Drop {
         ensures { (start : S) → OnOk result (GoesOn (has_taken start) rows.now row self.old self.new) };
 }
 
-/// What takes the rows of a trace behind this header.
+/// The header of a trace, and the sink that it began.
 #[derive(Drop)]
 pub struct BehindHeader<T> {
     pub header: Header,
     pub sink: T,
 }
 
-/// What takes the rows of a trace once its header is read, and what it begins with.
+/// Feeds the rows of a text to a sink, which the header begins with this value.
 #[derive(Drop)]
 pub struct TraceFeed<S, T> {
     pub start: S,
@@ -146,13 +146,13 @@ fn begin<R: Read + Drop, S: Copy, T: TraceSink<R, S>>(
 pub fn feed_text<R: Read + Drop, S: Copy, T: TraceSink<R, S>>(
     alloc: Global,
     rows: &mut RowReader<R>,
-    text: &mut TraceFeed<S, T>,
+    feed: &mut TraceFeed<S, T>,
 ) -> Result<(), TraceFault>
-    requires { text.old.begun ≡ None }
-    ensures taken { (known : Option (List ℕ)) → IsUnread known rows.old → OnOk result (IsTakenToEnd (T.has_taken text.old.start) known (option_map (λ b. b.sink) text.new.begun)) }
+    requires { feed.old.begun ≡ None }
+    ensures taken { (known : Option (List ℕ)) → IsUnread known rows.old → OnOk result (IsTakenToEnd (T.has_taken feed.old.start) known (option_map (λ b. b.sink) feed.new.begun)) }
     ensures fault { (known : Option (List ℕ)) → IsUnread known rows.old → IfErr result (EndsReading known) }
 {
-    feed_each(alloc, rows, text)
+    feed_each(alloc, rows, feed)
 }
 
 /// What has taken all rows of a text, of which none was read. Refused as [`crate::read_trace`] refuses it.
@@ -164,9 +164,9 @@ pub fn feed_trace<R: Read + Drop, S: Copy, T: TraceSink<R, S>>(
     ensures taken { (known : Option (List ℕ)) → IsUnread known rows.old → IfOk result (IsWhollyTaken (T.has_taken start) known) }
     ensures fault { (known : Option (List ℕ)) → IsUnread known rows.old → IfErr result (EndsReading known) }
 {
-    let mut text = TraceFeed { start, begun: None };
-    match feed_text(alloc, rows, &mut text) {
-        Ok(()) => match text.begun {
+    let mut feed = TraceFeed { start, begun: None };
+    match feed_text(alloc, rows, &mut feed) {
+        Ok(()) => match feed.begun {
             Some(begun) => Ok(begun.sink),
             None => Err(no_header()),
         },

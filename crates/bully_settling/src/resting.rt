@@ -30,8 +30,8 @@ fn is_served(replica: &Replica, present: &NodeSet, place: u32) -> bool
 fn are_present(table: &Table, present: &NodeSet) -> bool
     ensures { IsTrue result ↔ OwnersArePresent table.now present.now }
 {
-    for place in 0..table.len() {
-        if !present.has(table.owner(place)) {
+    for partition in 0..table.len() {
+        if !present.has(table.owner(partition)) {
             return false;
         }
     }

@@ -73,8 +73,8 @@ fn table_behind(replica: &Replica, node: Node, place: u32) -> Option<&Table>
 fn owns_any(table: &Table, node: Node) -> bool
     ensures { IsTrue result ↔ (partitions_of table.now node ≢ []) }
 {
-    for place in 0..table.len() {
-        if table.owner(place) == node {
+    for partition in 0..table.len() {
+        if table.owner(partition) == node {
             return true;
         }
     }

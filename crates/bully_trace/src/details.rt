@@ -30,7 +30,7 @@ pub fn holds(world: &World, claim: &Claim) -> bool
 }
 
 /// Whether all that the claim tells of a vector is true of the world.
-pub fn is_whole(world: &World, whole: &WholeClaim) -> bool
+pub fn holds_whole(world: &World, whole: &WholeClaim) -> bool
     ensures whole { result ≡ is_whole world.now.setup (world_of world.now) whole.now }
 {
     let claim = whole.claim();

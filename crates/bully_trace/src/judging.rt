@@ -9,7 +9,7 @@ ghost use Rattle.bully_trace.specs.Verdict.{IsJudged};
 ghost use Rattle.bully_world.specs.State.{IsApplied, cause_in, first_state, world_of};
 ghost use Rattle.bully_world.specs.World.{first_world};
 
-use crate::details::{holds, is_so, is_whole};
+use crate::details::{holds, holds_whole, is_so};
 use crate::{Verdict, Violation};
 use bully_agree::Walk;
 use bully_base::OutOfMemory;
@@ -135,7 +135,7 @@ impl Judge {
         ensures version { self.new.version ≡ self.old.version }
         ensures taken { IsTakenBy number (Row.Whole whole.now) self.old self.new }
     {
-        if self.stopped.is_none() && !is_whole(self.walk.world(), whole) {
+        if self.stopped.is_none() && !holds_whole(self.walk.world(), whole) {
             self.stopped = Some(Verdict::Differs(number));
         }
     }

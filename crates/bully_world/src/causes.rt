@@ -90,8 +90,8 @@ pub fn own_cause(setup: &Setup, named: &NodeState, event: &Event) -> Option<Refu
 {
     match event {
         Event::Recover(_) | Event::Crash(_) => None,
-        Event::Check(_) => refused_if(!is_at_rest(named.stored_point()), Refused::Busy),
-        Event::Timeout(_) => refused_if(!is_at_rest(named.stored_point()), Refused::Busy),
+        Event::Check(_) => refused_if(!is_idle(named.stored_point()), Refused::Busy),
+        Event::Timeout(_) => refused_if(!is_idle(named.stored_point()), Refused::Busy),
         Event::Start(node) => step_cause(named, offers_call(named.offer(setup, *node))),
         Event::Move(node) => step_cause(named, offers_move(named.offer(setup, *node))),
         Event::Plan(node, table) => plan_cause(setup, named, *node, table),
@@ -102,7 +102,7 @@ pub fn own_cause(setup: &Setup, named: &NodeState, event: &Event) -> Option<Refu
     }
 }
 
-fn is_at_rest(stored_point: &StoredPoint) -> bool
+fn is_idle(stored_point: &StoredPoint) -> bool
     ensures { result ≡ is_idle stored_point.now }
 {
     matches!(stored_point.kind(), PointKind::Idle)
@@ -127,7 +127,7 @@ fn offers_plan(want: Want) -> bool
 }
 
 // The state's call was sent and didn't run yet.
-fn is_under_way(node_state: &NodeState) -> bool
+fn is_sent(node_state: &NodeState) -> bool
     ensures { result ≡ in_phase is_sent (node_state_of node_state.now).pending }
 {
     matches!(node_state.slot().phase(), Some(Phase::Sent))
@@ -217,7 +217,7 @@ fn run_cause(states: &[NodeState], node_state: &NodeState) -> Option<Refused>
     ensures { result ≡ (if not (in_phase is_sent (node_state_of node_state.now).pending) then Some Refused.NoCall
         else if callee_is_down (world_in states.now) (node_state_of node_state.now).pending then Some Refused.CalleeDown else None) }
 {
-    if !is_under_way(node_state) {
+    if !is_sent(node_state) {
         return Some(Refused::NoCall);
     }
     refused_if(callee_down(states, node_state), Refused::CalleeDown)

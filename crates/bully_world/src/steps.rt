@@ -32,14 +32,14 @@ pub fn apply_event(
     let before = states[place].sent_to();
     let answer = apply_to_states(setup, states, place, event);
     let after = states[place].sent_to();
-    keep_waiting(waiting, node, before, after);
+    update_waiting(waiting, node, before, after);
     answer
 }
 
 // The caller's sent call went to `before`, and goes to `after` now.
 // (inlined, as `apply_event` is)
 #[inline(always)]
-fn keep_waiting(waiting: &mut Waiting, caller: Node, before: Option<Node>, after: Option<Node>)
+fn update_waiting(waiting: &mut Waiting, caller: Node, before: Option<Node>, after: Option<Node>)
     requires before { IfSome before (λ j. j ≤ length waiting.old) }
     requires after { IfSome after (λ j. j ≤ length waiting.old) }
     ensures { waiting.new ≡ with_sent caller after (without_sent caller before waiting.old) }

@@ -1,7 +1,7 @@
 ghost use Rattle.std.specs.Prelude.{◌≡◌, ◌+◌, ◌++◌, ◌<◌, [], ◌∷◌, ◌↔◌, IsTrue, IfOk, OnOk, IfErr, MatchOption, Some, None, is_ok, slice_get, vec_len, vec_capacity, if◌then◌else◌};
 ghost use Rattle.std.specs.Option.{option_map};
 ghost use Rattle.bully_group.specs.Seat.{IsKnown, IsForeign};
-ghost use Rattle.bully_group.specs.Steps.{Records, IsAllowed, IsYours, IsStepFault, IsTakeFault, IsServe, IsServeFault, IsLateFault, is_served};
+ghost use Rattle.bully_group.specs.Steps.{Records, IsAllowed, IsYours, IsStepFault, IsApplyFault, IsServe, IsServeFault, IsLateFault, is_served};
 ghost use Rattle.bully_watch.specs.History.{whose, callee_of};
 ghost use Rattle.bully_world.specs.State.{world_of, cause_in};
 ghost use Rattle.bully_world.specs.World.{pending};
@@ -110,7 +110,7 @@ impl<L: Naming> Locked<L> {
         requires yours { IsYours self.old seat.old event.now }
         ensures entry { OnOk result (Records self.old seat.old event.now self.new seat.new) }
         ensures no_cause { OnOk result (cause_in self.old.world event.now ≡ None) }
-        ensures fault { IfErr result (IsTakeFault self.old event.now) }
+        ensures fault { IfErr result (IsApplyFault self.old event.now) }
         ensures unchanged { IfErr result (λ _. (self.new ≡ self.old) × (seat.new ≡ seat.old)) }
         ensures pass { pass.new ≡ (if is_ok result then pass.old + 1 else pass.old) }
     {

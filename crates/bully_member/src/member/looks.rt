@@ -1,4 +1,4 @@
-//! What a member finds when it looks, and where it goes on in another epoch.
+//! What a member finds when it looks.
 ghost use Rattle.bully_member.specs.declared.opening.TheConstants.{TTL_MAX};
 ghost use Rattle.std.specs.Prelude.{◌≤◌, ◌≡◌, None, Some, true, false, IfErr, IfOk};
 ghost use Rattle.std.specs.Option.{option_copied};

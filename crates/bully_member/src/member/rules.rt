@@ -10,7 +10,7 @@ use super::Member;
 use crate::opening::SETTLING_MAX;
 use crate::times::{left, pause_left, paused_rest, renewal_left, stopping_rest, sure, turn_left};
 use crate::values::{
-    Arrival, Asked, Await, Ending, LifeId, LifeState, Presence, Promise, Request, Step, Work,
+    Arrival, Asked, Ending, LifeId, LifeState, Presence, Promise, Request, Step, Until, Work,
 };
 use bully_base::{NODES_MAX, Node, NodeSet, Status};
 use bully_settling::{is_at_rest, may_work};
@@ -187,7 +187,7 @@ impl Member {
             Some(presence) if presence.life.process == self.process => {
                 Step::Ask(Request::Release(presence.life))
             }
-            Some(_) => Step::Wait(self.ttl, Await::News),
+            Some(_) => Step::Wait(self.ttl, Until::News),
             None => self.free_step(now),
         }
     }
@@ -198,7 +198,7 @@ impl Member {
     {
         let wait = self.settling_left(now);
         if 0 < wait {
-            return Step::Wait(wait, Await::News);
+            return Step::Wait(wait, Until::News);
         }
         let life = LifeId {
             process: self.process,
@@ -268,7 +268,7 @@ impl Member {
     {
         match (self.work, self.token_now()) {
             (Work::Idle, Some(token)) => Step::Begin(token),
-            _ => Step::Wait(self.resting_wait(now), Await::AnyIdle),
+            _ => Step::Wait(self.resting_wait(now), Until::AnyIdle),
         }
     }
 
@@ -283,7 +283,7 @@ impl Member {
         if 0 < turn {
             return Step::Wait(
                 renewal_left(self.life, self.ttl, now).min(turn),
-                Await::News,
+                Until::News,
             );
         }
         self.idle_step(now)
@@ -294,7 +294,7 @@ impl Member {
         ensures { result ≡ idle_step self.now now }
     {
         if !self.all_idle() {
-            return Step::Wait(renewal_left(self.life, self.ttl, now), Await::AllIdle);
+            return Step::Wait(renewal_left(self.life, self.ttl, now), Until::AllIdle);
         }
         if self.is_closing() {
             Step::Ask(Request::Finish(self.place()))

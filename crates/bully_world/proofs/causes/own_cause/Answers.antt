@@ -57,9 +57,9 @@ returns-in-Drop c = λ w count here.
 pub returns-in-Check : goal.returns-in-Check
 returns-in-Check c = λ w count here.
     let there = named_is w (node_state_of c.args.named.now) c.args.event.now (Event.Check c.in-Check.field-0) c.in-Check.is here in
-    at_event c.args.setup.now w count c.args.event.now (Event.Check c.in-Check.field-0) _ c.in-Check.is (grind (arith, check-cause c.args.setup.now w count c.in-Check.field-0 (node_state_of c.args.named.now) there, c.refused_if.ensures, c.is_at_rest.ensures, c.stored_point.ensures))
+    at_event c.args.setup.now w count c.args.event.now (Event.Check c.in-Check.field-0) _ c.in-Check.is (grind (arith, check-cause c.args.setup.now w count c.in-Check.field-0 (node_state_of c.args.named.now) there, c.refused_if.ensures, c.is_idle.ensures, c.stored_point.ensures))
 
 pub returns-in-Timeout : goal.returns-in-Timeout
 returns-in-Timeout c = λ w count here.
     let there = named_is w (node_state_of c.args.named.now) c.args.event.now (Event.Timeout c.in-Timeout.field-0) c.in-Timeout.is here in
-    at_event c.args.setup.now w count c.args.event.now (Event.Timeout c.in-Timeout.field-0) _ c.in-Timeout.is (grind (arith, timeout-cause c.args.setup.now w count c.in-Timeout.field-0 (node_state_of c.args.named.now) there, c.refused_if-in-Timeout.ensures, c.is_at_rest-in-Timeout.ensures, c.stored_point-in-Timeout.ensures))
+    at_event c.args.setup.now w count c.args.event.now (Event.Timeout c.in-Timeout.field-0) _ c.in-Timeout.is (grind (arith, timeout-cause c.args.setup.now w count c.in-Timeout.field-0 (node_state_of c.args.named.now) there, c.refused_if-in-Timeout.ensures, c.is_idle-in-Timeout.ensures, c.stored_point-in-Timeout.ensures))

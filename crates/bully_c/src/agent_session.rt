@@ -7,7 +7,7 @@ ghost use Rattle.bully_calls.specs.declared.event.Event.{Event as EventState};
 ghost use Rattle.bully_calls.specs.declared.kind.EventKind.{EventKind};
 ghost use Rattle.bully_calls.specs.Events.{event_at};
 ghost use Rattle.bully_c.specs.AgentSession.{ServesRequest, Takes, TakesFailure, TakesReply, TellsOwn, TellsPlan, detail_told, failure_told, own_told, rows_told};
-ghost use Rattle.bully_c.specs.declared.session.StepRows.{StepRows as StepRowsState};
+ghost use Rattle.bully_c.specs.declared.agent_session.StepRows.{StepRows as StepRowsState};
 
 use bully_agent::Agent;
 use bully_base::{Node, OutOfMemory};

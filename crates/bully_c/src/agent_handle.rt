@@ -1,9 +1,9 @@
 //! What C holds of an agent.
 ghost use Rattle.std.specs.Prelude.{◌≡◌, Option, None, Some, MatchOption};
-ghost use Rattle.bully_c.specs.declared.session.AgentSession.{AgentSession};
+ghost use Rattle.bully_c.specs.declared.agent_session.AgentSession.{AgentSession};
 
+use crate::agent_session::AgentSession;
 use crate::raw_box::RawBox;
-use crate::session::AgentSession;
 use std::alloc::Global;
 use std::marker::Model;
 
@@ -17,7 +17,7 @@ pub struct AgentHandle {
 impl Model for AgentHandle {
     ghost use Rattle.std.specs.Prelude.{Option};
     ghost use Rattle.bully_c.specs.Ownership.{raw_box_owns};
-    ghost use Rattle.bully_c.specs.contracts.session.AgentSession.{the_row};
+    ghost use Rattle.bully_c.specs.contracts.agent_session.AgentSession.{the_row};
 
     ghost also_owns = { λ h. raw_box_owns the_row h.at h.value };
 }

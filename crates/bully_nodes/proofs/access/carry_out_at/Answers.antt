@@ -1,7 +1,7 @@
 use Rattle.bully_group.specs.Locked.{IsLocked}
 use Rattle.bully_nodes.proofs.RunLemmas.{in_hold, check_in_hold, timeout_in_hold}
 use Rattle.bully_steps.specs.Procedure.{state_of}
-use Rattle.bully_nodes.proofs.access.take_at.Goals as goal
+use Rattle.bully_nodes.proofs.access.carry_out_at.Goals as goal
 
 pub returns-in-Check-clause-takes : goal.returns-in-Check-clause-takes
 returns-in-Check-clause-takes g c =
