@@ -460,7 +460,7 @@ class SlowPromises(SlowTakes):
     def __init__(self, choice: random.Random) -> None:
         super().__init__(choice)
         self.nodes, self.slowest, self.deaths, self.leaves, self.joins, self.short = (
-            3, Request.BE_IDLE, 0.3, 0.3, 2.0, 0.3,
+            3, Request.PROMISE, 0.3, 0.3, 2.0, 0.3,
         )  # fmt: skip
 
 

@@ -285,7 +285,7 @@ class Member:
             return lambda: store.look(epoch, behind)
         if ask.request is Request.FOLLOW:
             return lambda: (store.epoch.opening(name),)
-        if ask.request is Request.BE_IDLE:
+        if ask.request is Request.PROMISE:
             return lambda: store.promise(name, life, epoch, place)
         if ask.request is Request.APPEND:
             rows = tuple(self.rules.settlement())

@@ -229,7 +229,7 @@ class Anything:
         work, may_begin = plain.work, self.may_begin()
         step = self.both.next(self.now)
         waited = step.at_most if isinstance(step, (Wait, Rest)) else 1
-        is_of_group = isinstance(step, Ask) and step.request in (Request.APPEND, Request.FINISH, Request.BE_IDLE)
+        is_of_group = isinstance(step, Ask) and step.request in (Request.APPEND, Request.FINISH, Request.PROMISE)
         if isinstance(step, Begin) and not may_begin or waited <= 0 or is_of_group and work:
             raise Wrong(f'{step}, while it does {work}: {plain.state()}')
         if isinstance(step, Ask) and step.request is Request.APPEND:

@@ -13,7 +13,7 @@ from functools import partial
 from bully import logs
 from bully.clocks import SECOND
 from bully.epochs import FIRST, Opening
-from bully.etcd import AGAIN, FEW, place_of
+from bully.etcd import FEW, WATCH_AGAIN, place_of
 from bully.gateway import Json, Silent, behind
 from bully.logs import LogError, NoEpoch, Unanswered
 from bully.member import Ask, Promise, Request as Asked, Until, Wait
@@ -308,7 +308,7 @@ class Watched(EtcdMember):
         now, log = self.simulation.now, self.kept
         is_wide = wait.until is not Until.NEWS or len(log._news.lives) <= FEW
         if self.watch is None or self.watch.is_wide != is_wide:
-            if now < self.broken + int(AGAIN * SECOND):
+            if now < self.broken + int(WATCH_AGAIN * SECOND):
                 return False
             self.begin_watch(log, is_wide)
         assert self.watch is not None
@@ -372,7 +372,7 @@ class Watching(OverEtcd):
         if member.hear(wait):
             member.soon(0, partial(self.wake, member, member.turn))
         elif member.watch is None:
-            self.after(member.broken + int(AGAIN * SECOND) - self.now, partial(self.tell, member))
+            self.after(member.broken + int(WATCH_AGAIN * SECOND) - self.now, partial(self.tell, member))
         elif member.watch.events:
             self.after(member.watch.events[0][0] - self.now, partial(self.tell, member))
 

@@ -15,7 +15,7 @@ from bully import Status, logs, ordering
 from bully.asks import Asker
 from bully.epochs import FIRST, Opening
 from bully.looks import awaited, seen_of
-from bully.member import Ask, Core, Ending, Life, Opening as Terms, Promise, Request, Seen, Until, Wait
+from bully.member import Ask, Core, Ending, Life, Opening as CoreOpening, Promise, Request, Seen, Until, Wait
 from bully.memory import MemoryLog
 from bully.orders import Orders
 from bully.settings import Settings
@@ -52,11 +52,12 @@ def epoch_of(opening: Opening, rows: list[str]) -> Epoch:
     return Epoch(opening.epoch, opening.settings, opening.limit, opening.table or None, rows)
 
 
-def terms_of(opening: Opening, name: str) -> Terms | None:
+def core_opening_of(opening: Opening, name: str) -> CoreOpening | None:
     """What the epoch begins with for the member of this name; none, if it isn't in the group."""
     if name not in opening.names:
         return None
-    return Terms(opening.header, opening.epoch, opening.names.index(name) + 1, opening.limit, opening.table or None)
+    number = opening.names.index(name) + 1
+    return CoreOpening(opening.header, opening.epoch, number, opening.limit, opening.table or None)
 
 
 class Watchable(logs.Log, Protocol):
@@ -168,12 +169,12 @@ class LogMember(Member):
     is_frozen = is_drained = has_lost = False
     look_at = 0  # when it asked for the last look
 
-    def __init__(self, simulation: Simulation, name: str, number: int, terms: Terms) -> None:
-        super().__init__(simulation, name, number, terms)
+    def __init__(self, simulation: Simulation, name: str, number: int, core_opening: CoreOpening) -> None:
+        super().__init__(simulation, name, number, core_opening)
         self.log = self.opened()
         self.opening = Opening(
-            terms.epoch, simulation.store.epoch.header, simulation.store.epoch.settings.names, terms.rows_max,
-            terms.old or (),
+            core_opening.epoch, simulation.store.epoch.header, simulation.store.epoch.settings.names,
+            core_opening.rows_max, core_opening.old or (),
         )  # fmt: skip
 
     def opened(self) -> logs.Log:
@@ -206,7 +207,7 @@ class LogMember(Member):
     def note(self, ask: Ask) -> None:
         """What it asks for, by which it is judged what may be in a pause."""
         here = Promise(self.epoch, ask.place)
-        if ask.request in (Request.TAKE, Request.BE_IDLE):
+        if ask.request in (Request.TAKE, Request.PROMISE):
             self.simulation.promised.add((ask.life, here))
         if ask.request in CHANGES and not self.simulation.halted_at <= self.look_at:
             self.simulation.asked.add(here)
@@ -268,10 +269,10 @@ class LogMember(Member):
 
     def follow(self, opening: object | None) -> None:
         assert isinstance(opening, Opening)
-        terms = terms_of(opening, self.name)
-        if terms is not None and opening.epoch != self.epoch:
+        core_opening = core_opening_of(opening, self.name)
+        if core_opening is not None and opening.epoch != self.epoch:
             self.opening = opening
-        super().follow(terms)
+        super().follow(core_opening)
 
 
 class OverMemory(Simulation):

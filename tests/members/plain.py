@@ -275,7 +275,7 @@ class Plain:
             self.asked = (step, now)
             if step.request is Request.TAKE:
                 self.tries, self.promised = self.tries + 1, self.place
-            elif step.request is Request.BE_IDLE:
+            elif step.request is Request.PROMISE:
                 self.promised = step.place
             elif step.request is Request.APPEND and self.ending is Ending.LEFT:
                 self.has_closed = True
@@ -341,7 +341,7 @@ class Plain:
         if self._is_alone() and self.world.up and self._has_room() and not self.has_closed:
             is_idle = self.own == self.here
             return (
-                Ask(Request.APPEND, place=self.place) if is_idle else Ask(Request.BE_IDLE, self.life.life, self.place)
+                Ask(Request.APPEND, place=self.place) if is_idle else Ask(Request.PROMISE, self.life.life, self.place)
             )
         return release
 
@@ -357,7 +357,7 @@ class Plain:
                 else Wait(self._rest_left(now, renewal), Until.ANY_IDLE)
             )
         if self.own != self.here:
-            return Ask(Request.BE_IDLE, self.life.life, self.place)
+            return Ask(Request.PROMISE, self.life.life, self.place)
         turns = self.turn * sum(node > self.node for node in self._present())
         if now - self.unrest_at < turns:
             return Wait(min(renewal, left(turns, self.unrest_at, now)), Until.NEWS)
@@ -389,7 +389,7 @@ class Plain:
             self._renewed(ask.life, at, answer)
         elif request is Request.RELEASE:
             self.life, self.must_look = None, True
-        elif request is Request.BE_IDLE:
+        elif request is Request.PROMISE:
             self.own = Promise(self.opening.epoch, ask.place) if is_done else self.own
             self.must_look |= not is_done
         elif request is Request.APPEND:

@@ -85,7 +85,7 @@ class PromisesFirst(Plain):
             and isinstance(self.life, Present)
         ):
             if not self._rests(now) and self.own != self.here:
-                return Ask(Request.BE_IDLE, self.life.life, self.place)
+                return Ask(Request.PROMISE, self.life.life, self.place)
         return super()._step_of_work(now)
 
 

@@ -39,7 +39,7 @@ class Trouble:
         self.patience = choice.choice([0.2, 0.2, 1.0, 3.0])  # how long a member waits for an answer
         self.nodes_least, self.nodes = 1, choice.choice([6, 6, 2])  # at most
         self.withdrawn = choice.choice([0.0, 0.7])  # the share of wishes that are taken back soon
-        kinds = [None, None, Request.TAKE, Request.RENEW, Request.BE_IDLE, Request.APPEND]
+        kinds = [None, None, Request.TAKE, Request.RENEW, Request.PROMISE, Request.APPEND]
         self.slowest: Request | None = choice.choice(kinds)  # half the requests of this kind are slow
         self.renewal_pauses = some(0.1)  # how many renewals a pause comes with
         if choice.random() < 0.25:  # many come and go at once
@@ -51,7 +51,7 @@ class Trouble:
             self.lost, self.unanswered, self.slow, self.wishes, self.withdrawn = (
                 0.0, 0.0, 0.1, choice.choice([0.0, 1.5]), 0.9,
             )  # fmt: skip
-            self.nodes, self.slowest = choice.choice([1, 2, 3]), choice.choice([Request.TAKE, Request.BE_IDLE])
+            self.nodes, self.slowest = choice.choice([1, 2, 3]), choice.choice([Request.TAKE, Request.PROMISE])
             self.patience = choice.choice([0.2, 3.0])
 
 

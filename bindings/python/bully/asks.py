@@ -36,7 +36,7 @@ class Asker:
             return lambda: log.take(name, life, here, self.ttl())
         if ask.request is Request.RENEW:
             return lambda: log.renew(name, life, self.ttl())
-        if ask.request is Request.BE_IDLE:
+        if ask.request is Request.PROMISE:
             return lambda: log.promise(name, life, here)
         if ask.request is Request.APPEND:
             rows = self.settlement()

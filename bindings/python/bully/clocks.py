@@ -22,7 +22,7 @@ def wall_clock() -> int:
     return time.time_ns() // 1_000_000
 
 
-def slept(seconds: float, *descriptors: int | None) -> list[int]:
+def sleep_until_ready(seconds: float, *descriptors: int | None) -> list[int]:
     """Sleeps so long, or until one of these descriptors, as far as there are any, has something to read. Which have."""
     poll = select.poll()
     for descriptor in descriptors:

@@ -42,7 +42,7 @@ from .member import Ending
 from .messages import FORMATS, LAST_SECONDS, JsonLines, Messages
 from .ordering import drain, has_left, pause, resume, undrain
 from .repairing import damage_of, repair, takes_back
-from .resizing import NotEnded, Pruning, lead, resize
+from .resizing import ASK_AGAIN, NotEnded, Pruning, lead, resize
 from .running import Member, NotInGroup, OtherGroup
 from .service import Service
 from .settings import ConfigFault, Settings, read_settings, shown_name
@@ -53,7 +53,6 @@ from .worker import GuardLost, WorkerEnded, WorkerStuck, Workers
 OK, FAILED, BAD_WORDS, BAD_INPUT, NO_STORE, NO_NODE = range(6)
 TTL = 5.0  # seconds, if none is told
 LOOK = 1.0  # seconds for which it is looked who isn't idle, if somebody isn't
-AGAIN = 0.1  # seconds before a log that didn't answer is asked again
 
 _Answer = TypeVar('_Answer')
 _logger = logging.getLogger('bully')
@@ -146,7 +145,7 @@ def settings_of(path: str) -> Settings:
 # ---- The commands
 
 
-def init(options: argparse.Namespace) -> int:
+def init_command(options: argparse.Namespace) -> int:
     """Makes the log."""
     settings = settings_of(options.config)
     if options.epoch > LATEST:
@@ -156,13 +155,13 @@ def init(options: argparse.Namespace) -> int:
     return OK
 
 
-def history(options: argparse.Namespace) -> int:
+def history_command(options: argparse.Namespace) -> int:
     """Writes the log of an epoch as a trace, or its rows with times."""
     sys.stdout.writelines(f'{row}\n' for row in store_of(options).history(options.epoch, options.times))
     return OK
 
 
-def change(options: argparse.Namespace) -> int:
+def resize_command(options: argparse.Namespace) -> int:
     """Gives the group other settings."""
     settings = None if options.cancel else settings_of(options.config)
     with contextlib.closing(store_of(options).open()) as log:
@@ -185,7 +184,7 @@ def cancel(log: Log) -> int:
     return OK
 
 
-def switch_over(options: argparse.Namespace) -> int:
+def switchover_command(options: argparse.Namespace) -> int:
     """Has another node lead."""
     with contextlib.closing(store_of(options).open()) as log:
         opening = lead(log, options.node, options.seconds)
@@ -193,7 +192,7 @@ def switch_over(options: argparse.Namespace) -> int:
     return OK
 
 
-def take_out(options: argparse.Namespace) -> int:
+def drain_command(options: argparse.Namespace) -> int:
     """Drains a node, and waits until it has left."""
     with contextlib.closing(store_of(options).open()) as log:
         orders, name = drain(log, options.node, options.all), shown_name(options.node)
@@ -207,7 +206,7 @@ def take_out(options: argparse.Namespace) -> int:
     return OK
 
 
-def give_order(options: argparse.Namespace) -> int:
+def order_command(options: argparse.Namespace) -> int:
     """Has a drained node take part again, or the group pause or go on."""
     with contextlib.closing(store_of(options).open()) as log:
         if options.command == 'undrain':
@@ -219,7 +218,7 @@ def give_order(options: argparse.Namespace) -> int:
     return OK
 
 
-def prune(options: argparse.Namespace) -> int:
+def prune_command(options: argparse.Namespace) -> int:
     """Takes old epochs away."""
     with contextlib.closing(store_of(options).open()) as log:
         log.prune(log.epochs()[-1] + 1 - options.keep)
@@ -228,7 +227,7 @@ def prune(options: argparse.Namespace) -> int:
     return OK
 
 
-def mend(options: argparse.Namespace) -> int:
+def repair_command(options: argparse.Namespace) -> int:
     """Tells what of a log is damaged, with the rows that are to be cut; and cuts it, if it is told to."""
     with contextlib.closing(store_of(options).open()) as log:
         damage, epoch = damage_of(log), log.epochs()[-1]
@@ -246,7 +245,7 @@ def mend(options: argparse.Namespace) -> int:
     return OK
 
 
-def status(options: argparse.Namespace) -> int:
+def status_command(options: argparse.Namespace) -> int:
     """Tells how the group stands, and by its status whether it is well."""
     with contextlib.closing(LogView(store_of(options).open(reads=True))) as view:
         end, shown = seconds_of_boot() + LOOK, view.show()
@@ -278,23 +277,23 @@ def address_of(words: str) -> tuple[str, int]:
     return host.strip('[]') or '127.0.0.1', int(port)
 
 
-def answered(ask: Callable[[], _Answer]) -> _Answer:
+def ask_until_answered(ask: Callable[[], _Answer]) -> _Answer:
     """What a log answers that may be busy: it is asked again until it does."""
     while True:
         try:
             return ask()
         except Unanswered as unanswered:
             _logger.warning('%s', unanswered)
-            time.sleep(AGAIN)
+            time.sleep(ASK_AGAIN)
 
 
-def ttl_of(store: FileStore | EtcdStore, told: float | None) -> float:
+def ttl_of(store: FileStore | EtcdStore, word: float | None) -> float:
     """The ttl of all members: that of the log, if it has one. Else each is told its own."""
     with contextlib.closing(store.open(reads=True)) as log:
         kept = log.opening().ttl
-    if kept and told and kept != told:
-        raise BadWords(f'--ttl is {told:g}, and the log has {kept:g} for all members')
-    return kept or told or TTL
+    if kept and word and kept != word:
+        raise BadWords(f'--ttl is {word:g}, and the log has {kept:g} for all members')
+    return kept or word or TTL
 
 
 def at_signals(call: Callable[[], object]) -> None:
@@ -303,7 +302,7 @@ def at_signals(call: Callable[[], object]) -> None:
         signal.signal(number, lambda *_: call())
 
 
-def run(options: argparse.Namespace) -> int:
+def run_command(options: argparse.Namespace) -> int:
     """Takes part with a worker, until a signal tells it to leave."""
     at_signals(lambda: sys.exit(OK))  # it doesn't take part yet
     settings, store = settings_of(options.config) if options.config else None, store_of(options)
@@ -313,25 +312,25 @@ def run(options: argparse.Namespace) -> int:
     with contextlib.ExitStack() as closing:
         messages = closing.enter_context(contextlib.closing(Messages(FORMATS[options.log_format]())))
         logging.basicConfig(level=logging.WARNING if options.quiet else logging.INFO, handlers=[messages])
-        ttl = answered(lambda: ttl_of(store, options.ttl))
-        log = answered(lambda: store.open(patience=min(1.0, ttl / 5)))
+        ttl = ask_until_answered(lambda: ttl_of(store, options.ttl))
+        log = ask_until_answered(lambda: store.open(patience=min(1.0, ttl / 5)))
         closing.callback(log.close)
         workers = Workers(options.worker, options.node, options.stop_seconds, options.talk)
         works = workers.start, workers.stop
-        member = answered(lambda: Member(log, options.node, *works, ttl, settings, sure=workers.hear_until))
+        member = ask_until_answered(lambda: Member(log, options.node, *works, ttl, settings, sure=workers.hear_until))
         service = Service(member, workers)  # before anything begins that would take its environment
         workers.begin(member, store.path if isinstance(store, FileStore) else '')
         closing.callback(workers.close)
         if address is not None:
             from .page import Page  # which takes much memory
 
-            view = answered(lambda: LogView(store.open(reads=True), member.behind))
+            view = ask_until_answered(lambda: LogView(store.open(reads=True), member.behind))
             closing.callback(view.close)
             page = Page(address, view, member, workers)
             closing.callback(page.close)
             page.start()
         if options.keep:
-            pruning = Pruning(answered(store.open), member, options.keep)
+            pruning = Pruning(ask_until_answered(store.open), member, options.keep)
             closing.callback(pruning.close)
             pruning.start()
         closing.callback(service.close)
@@ -345,18 +344,18 @@ def run(options: argparse.Namespace) -> int:
 
 
 COMMANDS: dict[str, tuple[Callable[[argparse.Namespace], int], str]] = {
-    'init': (init, 'make the log of a group'),
-    'run': (run, 'take part for a node, and run a worker'),
-    'status': (status, 'tell how the group stands'),
-    'history': (history, 'write the log of an epoch as a trace'),
-    'resize': (change, 'give the group other settings, in a new epoch'),
-    'switchover': (switch_over, 'have another node lead, in a new epoch'),
-    'drain': (take_out, 'have a node take no part, up to undrain, also if its process begins again'),
-    'undrain': (give_order, 'have it take part again'),
-    'pause': (give_order, 'have nobody settle the group: who works goes on, up to resume'),
-    'resume': (give_order, 'end a pause'),
-    'prune': (prune, 'take old epochs away'),
-    'repair': (mend, 'tell what of a log is damaged, and cut it'),
+    'init': (init_command, 'make the log of a group'),
+    'run': (run_command, 'take part for a node, and run a worker'),
+    'status': (status_command, 'tell how the group stands'),
+    'history': (history_command, 'write the log of an epoch as a trace'),
+    'resize': (resize_command, 'give the group other settings, in a new epoch'),
+    'switchover': (switchover_command, 'have another node lead, in a new epoch'),
+    'drain': (drain_command, 'have a node take no part, up to undrain, also if its process begins again'),
+    'undrain': (order_command, 'have it take part again'),
+    'pause': (order_command, 'have nobody settle the group: who works goes on, up to resume'),
+    'resume': (order_command, 'end a pause'),
+    'prune': (prune_command, 'take old epochs away'),
+    'repair': (repair_command, 'tell what of a log is damaged, and cut it'),
 }
 
 # What ends a command, and its status.

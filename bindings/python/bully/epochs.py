@@ -15,8 +15,8 @@ from .settings import Settings
 from .values import EVENTS_MAX
 
 FIRST, LATEST = 1, 4_000_000_000  # of the epochs with which a log may begin
-LEAST = 22  # rows for each node: fewer than so many an epoch never may have
 SETTLEMENT = 11  # rows for each node: what settles a group has no more
+LEAST = 2 * SETTLEMENT  # rows for each node that an epoch has room for at least: two settlements
 
 
 class Token(int):

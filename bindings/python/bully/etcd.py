@@ -25,7 +25,7 @@ from collections.abc import Callable, Iterator, Sequence, Set as AbstractSet
 from contextlib import closing
 from typing import NamedTuple
 
-from .clocks import SECOND, seconds_of_boot, slept, wall_clock
+from .clocks import SECOND, seconds_of_boot, sleep_until_ready, wall_clock
 from .epochs import FIRST, Opening
 from .gateway import (
     KV_RANGE, LEASE_GRANT, LEASE_KEEPALIVE, Answer, Client, Compacted, Json, Pair, Silent, Subscription, behind, coded,
@@ -50,7 +50,7 @@ NAMED = f'{FORM} '.encode()  # with which a name begins
 OLDER = b'{"epoch": '  # of an opening of an older form
 PAGE = 500  # appends that are read in one request
 READS = 3  # how often a read is begun, if etcd compacts its revision meanwhile
-AGAIN = 0.2  # seconds from the end of a watch that broke to the next
+WATCH_AGAIN = 0.2  # seconds from the end of a watch that broke to the next
 FEW = 64  # presences: while there are no more, a watch tells of promises also who doesn't wait for them
 
 
@@ -501,7 +501,7 @@ class EtcdLog:
         is_wide = until is not Until.NEWS or len(lives) <= FEW
         self._woken = wake
         while not self._hear(is_news, is_wide, max(0.0, end - seconds_of_boot())):
-            if seconds_of_boot() >= end or slept(0.0, wake):
+            if seconds_of_boot() >= end or sleep_until_ready(0.0, wake):
                 return
 
     def _hear(self, is_news: Callable[[], bool], is_wide: bool, seconds: float) -> bool:
@@ -518,9 +518,9 @@ class EtcdLog:
 
     def _begin_watch(self, is_news: Callable[[], bool], is_wide: bool, seconds: float) -> bool:
         """Begins a watch behind what was found, if that isn't what `wait` waits for. Whether it is. Raises Silent."""
-        pause = self._broken + AGAIN - seconds_of_boot()
+        pause = self._broken + WATCH_AGAIN - seconds_of_boot()
         if pause > 0:
-            slept(min(pause, seconds), self._woken)
+            sleep_until_ready(min(pause, seconds), self._woken)
             return False
         self._end_watch()
         if not self._news.is_fresh:

@@ -12,7 +12,7 @@ from base64 import b64decode, b64encode
 from collections.abc import Sequence
 from typing import Any, NamedTuple, NoReturn
 
-from .clocks import seconds_of_boot, slept
+from .clocks import seconds_of_boot, sleep_until_ready
 from .logs import DamagedLog, ForeignLog, LogError, Unanswered
 
 PORT = 2379
@@ -237,7 +237,7 @@ def alert_of(connection: http.client.HTTPConnection) -> ssl.SSLError | None:
 
 def is_over(connection: http.client.HTTPConnection) -> bool:
     """Whether the other side has ended a connection on which nothing is awaited."""
-    return connection.sock is None or bool(slept(0.0, connection.sock.fileno()))
+    return connection.sock is None or bool(sleep_until_ready(0.0, connection.sock.fileno()))
 
 
 class Answer(NamedTuple):
@@ -474,7 +474,7 @@ class Subscription:
         try:
             there = self._connection.sock
             is_left = isinstance(there, ssl.SSLSocket) and there.pending() > 0
-            if not is_left and there.fileno() not in slept(seconds, there.fileno(), wake):
+            if not is_left and there.fileno() not in sleep_until_ready(seconds, there.fileno(), wake):
                 return []
             there.settimeout(LEAST_LIMIT)
             received = there.recv(RECEIVED)

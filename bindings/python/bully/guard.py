@@ -82,20 +82,20 @@ def end_children(spared: AbstractSet[int], seconds: float, tell: Callable[[list[
     """Kills the children of this process but these, with all that they leave, and waits for that. Which are still there
     in so many seconds is told, those that may work on first, and once more if others come. Their statuses."""
     statuses: dict[int, int] = {}
-    told: set[int] = set()
+    reported: set[int] = set()
     end, sleep = now() + int(seconds * NANOSECONDS), LONGEST_SLEEP / 16
     while left := children() - spared:
         for child in left:
-            statuses.update(killed(child))
-        if now() >= end and not left <= told:
+            statuses.update(kill_and_reap(child))
+        if now() >= end and not left <= reported:
             tell(sorted(left, key=may_kill))
-            told = left
+            reported = left
         time.sleep(sleep)
         sleep = min(2 * sleep, LONGEST_SLEEP)
     return statuses
 
 
-def killed(child: int) -> dict[int, int]:
+def kill_and_reap(child: int) -> dict[int, int]:
     """Kills a child, if it may. Its status, if it has ended."""
     with contextlib.suppress(PermissionError):  # nobody else waits for children meanwhile, so the number is the child's
         os.kill(child, signal.SIGKILL)
@@ -217,7 +217,7 @@ class Worker:
         """The lines that it has answered. One read takes all that a pipe holds: more may come without end."""
         with contextlib.suppress(BlockingIOError):
             part = os.read(self.answers, MESSAGE_MAX)
-            self.unread, self.answers = self.unread + part, self.answers if part else closed(self.answers)
+            self.unread, self.answers = self.unread + part, self.answers if part else close(self.answers)
         *lines, last = self.unread.split(b'\n')
         self.unread = last[: len(STOPPED) + 1]  # of a line that is longer no more is needed
         return lines
@@ -234,8 +234,8 @@ class Worker:
 
     def end_all(self, seconds: float, tell: Callable[[list[int]], object]) -> int:
         """Kills what is left of it, and waits for that. Its status. What is there still in so many seconds is told."""
-        closed(self.end)
-        closed(self.answers)
+        close(self.end)
+        close(self.answers)
         if self.lines is not None:
             self.lines.close()
         return end_children(frozenset(), seconds, tell).get(self.process, 0)
@@ -254,7 +254,7 @@ def terminate(process: int) -> None:
         (os.killpg if os.getpgid(process) == process else os.kill)(process, signal.SIGTERM)
 
 
-def closed(descriptor: int) -> int:
+def close(descriptor: int) -> int:
     """Closes it, if there is one. There is none any more."""
     if descriptor >= 0:
         os.close(descriptor)
@@ -311,8 +311,8 @@ class Guard:
 
     def awaited(self) -> set[int]:
         """Which descriptors are ready, once some are, or the member is to be looked at."""
-        told = struct.pack('qqqq', 0, 0, *divmod(self.last_moment() or 0, NANOSECONDS))  # of 0: never
-        checked(_libc.timerfd_settime(self.timer, TIMER_ABSOLUTE, told, None))
+        setting = struct.pack('qqqq', 0, 0, *divmod(self.last_moment() or 0, NANOSECONDS))  # of 0: never
+        checked(_libc.timerfd_settime(self.timer, TIMER_ABSOLUTE, setting, None))
         there = [self.timer, *([] if self.is_alone else [self.channel.fileno()])]
         there += [] if self.worker is None else [self.worker.end, self.worker.answers]
         poll = select.poll()

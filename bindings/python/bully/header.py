@@ -74,15 +74,15 @@ def structures() -> Iterator[tuple[str, list[tuple[str, Any]]]]:
 def functions() -> Iterator[Function]:
     """The functions, in their order."""
     for declared in _TEXT.split(';'):
-        head, bracket, told = declared.partition('(')
+        head, bracket, parameters = declared.partition('(')
         if bracket:
             gives, name = _parted(head)
-            yield Function(name, gives, _taken(told.rstrip(')')))
+            yield Function(name, gives, _taken(parameters.rstrip(')')))
 
 
-def _taken(told: str) -> tuple[str, ...]:
+def _taken(parameters: str) -> tuple[str, ...]:
     """The types of a function's parameters."""
-    return () if told == 'void' else tuple(_parted(one)[0] for one in told.split(','))
+    return () if parameters == 'void' else tuple(_parted(one)[0] for one in parameters.split(','))
 
 
 def _parted(declared: str) -> tuple[str, str]:

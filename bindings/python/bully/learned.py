@@ -15,9 +15,9 @@ class Learned(Opened):
 
     _showing = ''  # the name of the function that shows a node
 
-    def _begin(self, name: str, *told: Any) -> None:
+    def _begin(self, name: str, *arguments: Any) -> None:
         """A log begins, as this function is told. A fault of its header is one of row 1."""
-        expect_ok(self._function(name)(*told), row=1)
+        expect_ok(self._function(name)(*arguments), row=1)
         self._partitions = self.partitions
 
     def _learn(self, rows: Iterable[Line]) -> int:

@@ -216,9 +216,9 @@ class Opened:
         """The library's function of this name for this handle."""
         return functools.partial(getattr(self._library, f'{self._kind}_{name}'), self._held)
 
-    def _call(self, name: str, *told: Any) -> None:
+    def _call(self, name: str, *arguments: Any) -> None:
         """Calls the same, which has to answer OK."""
-        expect_ok(self._function(name)(*told))
+        expect_ok(self._function(name)(*arguments))
 
     def _filled(self, filled: Filled, name: str, *arguments: Any) -> Filled:
         """What the same writes, called with these arguments and with room for that."""

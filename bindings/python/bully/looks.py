@@ -24,9 +24,9 @@ def frozen(found: Found, name: str, up: Iterable[str]) -> dict[str, Holder]:
     """Who is present as the node of this name is told in a pause: those that are up in the log, who work. Its own
     presence is told as it is: if that was lost, or came in the pause, its work waits for the end of it."""
     lives = found.orders.lives or {}
-    told = {each: Holder(lives.get(each, Life(0, 0)), Promise()) for each in up}
-    told.pop(name, None)
-    return {**told, **{each: holder for each, holder in found.presences.items() if each == name}}
+    shown = {each: Holder(lives.get(each, Life(0, 0)), Promise()) for each in up}
+    shown.pop(name, None)
+    return {**shown, **{each: holder for each, holder in found.presences.items() if each == name}}
 
 
 def awaited(until: Until, seen: Seen) -> Until:

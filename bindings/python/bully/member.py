@@ -3,7 +3,8 @@
 A `Core` has no clock, store, thread or chance of its own: `next` says what is to be done now, whoever drives it does
 that, and tells what became of it by the call that the step names. `docs/ALGORITHM.md` has the rules,
 `docs/DECISIONS.md` why they are so. All times are whole nanoseconds of one clock that never goes back. A *place* in an
-epoch's log is how many rows stand behind its header, and each of them is an event.
+epoch's log is how many rows stand behind its header, and each of them is an event. (`bully.Member`, which runs one, is
+in `running.py`.)
 """
 from __future__ import annotations
 
@@ -104,7 +105,7 @@ class Request(enum.Enum):
     RENEW = 2  # the presence once more, if this life has it, without a gap
     RELEASE = 3  # the end of the presence, if this life has it
     LOOK = 4  # the rows behind all that was learned, for `learn`, and what `looked` is told
-    BE_IDLE = 5  # this life's promise of the place, if it has the presence; a higher one stays
+    PROMISE = 5  # this life's promise of the place, if it has the presence; a higher one stays
     # To append the rows of `settlement`: if the log ends at the place, somebody is present, and all that are, strangers
     # too, have promised this place of this epoch.
     APPEND = 6

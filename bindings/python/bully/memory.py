@@ -5,14 +5,14 @@ import threading
 from collections.abc import Callable, Sequence, Set as AbstractSet
 from typing import NamedTuple
 
-from .clocks import SECOND, nanoseconds_of_boot, slept, wall_clock
+from .clocks import SECOND, nanoseconds_of_boot, sleep_until_ready, wall_clock
 from .epochs import Opening
 from .logs import Found, Holder, Lives, Wanted, are_idle
 from .member import Life, Promise, Until
 from .orders import Orders
 from .stored import no_epoch, rows_text, see_end
 
-PART = 0.02  # seconds that a wait in memory takes at most, if something else may wake it
+WAKEABLE_WAIT = 0.02  # seconds that a wait in memory takes at most, if something else may wake it
 
 
 class Lease(NamedTuple):
@@ -162,7 +162,7 @@ class MemoryLog:
 
     def wait(self, epoch: int, place: int, lives: Lives, until: Until, seconds: float, wake: int | None = None) -> None:
         if wake is not None:  # it is looked at now and then
-            seconds = 0.0 if slept(0.0, wake) else min(seconds, PART)
+            seconds = 0.0 if sleep_until_ready(0.0, wake) else min(seconds, WAKEABLE_WAIT)
         end, wanted = self.clock() + int(seconds * SECOND), getattr(self._seen, 'wanted', (None, Orders()))
         known: tuple[Promise, frozenset[str]] = getattr(self._seen, 'idle', (Promise(), frozenset()))
         before = known[1] if known[0] == Promise(epoch, place) else frozenset()

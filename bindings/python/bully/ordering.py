@@ -9,11 +9,11 @@ from .clocks import seconds_of_boot
 from .epochs import Opening
 from .logs import Found, Log, Unanswered, found_in
 from .orders import Orders
-from .running import number_of
+from .running import node_number
 from .stores import BadWords
 
 TRIES = 100  # of orders that others change meanwhile
-PART = 0.1  # seconds from one look to the next
+LOOK_EVERY = 0.1  # seconds from one look to the next
 
 Change = Callable[[Opening, Found], Orders]
 
@@ -32,7 +32,7 @@ def drain(log: Log, name: str, takes_last: bool) -> Orders:
     """The node of this name is drained. Raises NotInGroup; BadWords, if nobody would work, unless that is meant."""
 
     def change(opening: Opening, found: Found) -> Orders:
-        number_of(opening, name)
+        node_number(opening, name)
         drained, names = found.orders.drained | {name}, set(opening.names)
         others = (names & set(found.presences) or names) - drained
         if not others and name not in found.orders.drained and not takes_last:
@@ -47,7 +47,7 @@ def undrain(log: Log, name: str) -> Orders:
     """The node isn't drained any more. Raises NotInGroup."""
 
     def change(opening: Opening, found: Found) -> Orders:
-        number_of(opening, name)
+        node_number(opening, name)
         return replace(found.orders, drained=found.orders.drained - {name})
 
     return order(log, change)
@@ -73,5 +73,5 @@ def has_left(log: Log, name: str, seconds: float) -> bool:
     while name in found_in(log).presences:
         if seconds_of_boot() >= end:
             return False
-        time.sleep(PART)
+        time.sleep(LOOK_EVERY)
     return True

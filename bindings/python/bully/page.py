@@ -161,7 +161,7 @@ def metrics_of(group: GroupView, name: str, sure_seconds: float, workers: Worker
     return '\n'.join(lines) + '\n'
 
 
-def number_of(asked: dict[str, list[str]], name: str) -> int | None:
+def asked_number(asked: dict[str, list[str]], name: str) -> int | None:
     """The number that a query has by this name, if it has one of less than 10 digits."""
     word = asked.get(name, [''])[0]
     return int(word) if word.isdecimal() and len(word) < 10 else None
@@ -286,12 +286,12 @@ class Page:
             metrics = metrics_of(self._reader.known(), name, self._sure_seconds(), self._workers)
             return 200, 'text/plain; version=0.0.4', metrics
         asked = parse_qs(parts.query)
-        events, epoch = number_of(asked, 'after'), number_of(asked, 'epoch')
+        events, epoch = asked_number(asked, 'after'), asked_number(asked, 'epoch')
         if events is not None and not self._waited(events, epoch):
             return 503, 'text/plain', 'too many requests wait at one time\n'
         group = self._reader.show()
         if parts.path == '/':
-            return 200, 'text/html', page_of(name, group, self._workers.told)
+            return 200, 'text/html', page_of(name, group, self._workers.about)
         if parts.path == '/group':
             return 200, 'application/json', json.dumps(group.document()) + '\n'
         if parts.path == '/assignment':
@@ -345,9 +345,9 @@ class PageHandler(BaseHTTPRequestHandler):
     timeout = ASK_SECONDS
     server: Server
 
-    def __init__(self, page: Page, *told: Any) -> None:
+    def __init__(self, page: Page, *arguments: Any) -> None:
         self.page = page
-        super().__init__(*told)
+        super().__init__(*arguments)
 
     def do_GET(self) -> None:
         self.server.asks(self.connection)

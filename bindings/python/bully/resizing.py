@@ -10,7 +10,7 @@ import logging
 import secrets
 import threading
 
-from .clocks import SECOND, seconds_of_boot, slept
+from .clocks import SECOND, seconds_of_boot, sleep_until_ready
 from .epochs import Opening
 from .logs import Log, LogError, Unanswered, found_in
 from .member import Life, Promise, Until
@@ -20,9 +20,9 @@ from .settings import Settings
 
 _logger = logging.getLogger('bully')
 
-PART = 0.5  # seconds for which it waits at once
-AGAIN = 0.1  # seconds before a log that didn't answer is asked again
-TTL = 5 * SECOND  # of its own presence, where no member is there
+EPOCH_WAIT = 0.5  # seconds for which it waits at once for the end of an epoch
+ASK_AGAIN = 0.1  # seconds before a log that didn't answer is asked again
+OWN_TTL = 5 * SECOND  # of its own presence, where no member is there
 
 
 class NotEnded(Exception):
@@ -37,17 +37,17 @@ def resize(log: Log, settings: Settings, seconds: float) -> Opening:
     end = seconds_of_boot() + seconds
     while True:
         try:
-            opening = resized(log, settings, end)
+            opening = resize_once(log, settings, end)
         except Unanswered:
             if seconds_of_boot() >= end:
                 raise
-            slept(AGAIN)
+            sleep_until_ready(ASK_AGAIN)
         else:
             if opening is not None:
                 return opening
 
 
-def resized(log: Log, settings: Settings, end: float) -> Opening | None:
+def resize_once(log: Log, settings: Settings, end: float) -> Opening | None:
     """The opening of the epoch that has these settings; nothing, if that is to be looked for again."""
     opening, found = log.opening(), found_in(log)
     if opening.is_of(settings):
@@ -128,13 +128,14 @@ def end_epoch(log: Log, opening: Opening, end: float) -> None:
                 names = ', '.join(late or found.presences)
                 raise NotEnded(f'epoch {opening.epoch} has not ended yet, but waits for {names}')
             else:
-                log.wait(here.epoch, here.place, found.lives, Until.NEWS, max(0.0, min(PART, end - seconds_of_boot())))
+                rest = max(0.0, min(EPOCH_WAIT, end - seconds_of_boot()))
+                log.wait(here.epoch, here.place, found.lives, Until.NEWS, rest)
 
 
 def end_alone(log: Log, life: Life, here: Promise, opening: Opening) -> None:
     """Ends the epoch, if nobody comes meanwhile."""
     name = f'resize {life.process}'  # a stranger to the group
-    if log.take(name, life, here, TTL):
+    if log.take(name, life, here, OWN_TTL):
         try:
             log.finish(here.epoch, here.place, opening)
         finally:

@@ -13,13 +13,13 @@ from dataclasses import dataclass, field
 from typing import TypeVar
 
 from .asks import Asker
-from .clocks import SECOND, nanoseconds_of_boot, seconds_of_boot, slept
+from .clocks import SECOND, nanoseconds_of_boot, seconds_of_boot, sleep_until_ready
 from .epochs import Opening, Token
 from .logs import DamagedLog, Found, Log, Unanswered, found_in, openings_of
 from .looks import awaited, seen_of
 from .member import (
-    Ask, Begin, Core, End, Ending, Life, Opening as Terms, Promise, Request, Rest, Seen, Step, Stop, StoreAnswer, Until,
-    Wait,
+    Ask, Begin, Core, End, Ending, Life, Opening as CoreOpening, Promise, Request, Rest, Seen, Step, Stop, StoreAnswer,
+    Until, Wait,
 )  # fmt: skip
 from .settings import Settings, shown_name
 from .values import Status
@@ -64,7 +64,7 @@ def is_known(log: Log, settings: Settings) -> bool:
     return is_wished or any(opening.is_of(settings) for opening in openings_of(log))
 
 
-def number_of(opening: Opening, node: int | str) -> int:
+def node_number(opening: Opening, node: int | str) -> int:
     """The number of this node, by its name or its number. Raises NotInGroup, if none has that name."""
     if isinstance(node, int):
         return node
@@ -73,9 +73,9 @@ def number_of(opening: Opening, node: int | str) -> int:
     return opening.names.index(node) + 1
 
 
-def terms_of(opening: Opening, node: int) -> Terms:
+def core_opening_of(opening: Opening, node: int) -> CoreOpening:
     """What the epoch begins with for this node."""
-    return Terms(opening.header, opening.epoch, node, opening.limit, opening.table or None)
+    return CoreOpening(opening.header, opening.epoch, node, opening.limit, opening.table or None)
 
 
 class Member:
@@ -109,7 +109,7 @@ class Member:
         self._other: Life | None = None  # which life of another process was found last for its node
         self.failure: BaseException | None = None
         self.behind = Behind()
-        self._take_part(opening, number_of(opening, node))
+        self._take_part(opening, node_number(opening, node))
         self.name = opening.names[self.core.node - 1]
         self.is_drained = False  # whether its node is drained, so that it does nothing
         self._start_work, self._stop_work, self._sure = start, stop, sure
@@ -120,6 +120,7 @@ class Member:
         self._to_call: queue.SimpleQueue[Call | None] = queue.SimpleQueue()
         self._stopped: list[Assignment] = []
         self._lost: list[Assignment] = []
+        self._woken: socket.socket  # since it runs; by this it hears that it is woken
         self._wakes: socket.socket | None = None  # while it runs
         self._ended = threading.Event()
         self._ended.set()
@@ -129,7 +130,7 @@ class Member:
     def _take_part(self, opening: Opening, number: int) -> None:
         """It takes part for the node of this number, as a process that no other one was."""
         self._process = secrets.randbits(63)
-        self.core = Core(terms_of(opening, number), self._process, int(self.ttl * SECOND))
+        self.core = Core(core_opening_of(opening, number), self._process, int(self.ttl * SECOND))
         self._enter(opening)
 
     def _enter(self, opening: Opening) -> None:
@@ -245,11 +246,11 @@ class Member:
         while self.is_drained and not self._is_leaving:
             opening, before = self._answer(self._undrained), self.core
             if opening is not None:
-                self._take_part(opening, number_of(opening, self.name))
+                self._take_part(opening, node_number(opening, self.name))
                 before.close()
                 self.is_drained = False
                 return True
-            slept(self.ttl / 4, self._woken.fileno())
+            sleep_until_ready(self.ttl / 4, self._woken.fileno())
             self._hear()
             self.stepped = seconds_of_boot()
         return False
@@ -257,7 +258,7 @@ class Member:
     def _undrained(self) -> Opening | None:
         """With what the current epoch began, if its node isn't drained. Raises NotInGroup."""
         opening = self.log.opening()
-        number_of(opening, self.name)
+        node_number(opening, self.name)
         return None if self.name in found_in(self.log).orders.drained else opening
 
     def _hear(self) -> None:
@@ -276,7 +277,8 @@ class Member:
                 self.core.lost(lost.token.events)
 
     def _show(self) -> None:
-        self._shown = None if self._is_stopping else self._work, self.core.sure_until / SECOND
+        shown = None if self._is_stopping else self._work
+        self._shown = shown, self.core.sure_until / SECOND
 
     # Its steps.
 
@@ -292,7 +294,7 @@ class Member:
             assert self._work is not None
             self._call(True, self._work)
         elif isinstance(step, Rest):
-            slept(step.at_most / SECOND, self._woken.fileno())
+            sleep_until_ready(step.at_most / SECOND, self._woken.fileno())
         elif isinstance(step, Wait):
             self._wait(step)
 
@@ -358,7 +360,8 @@ class Member:
     def _followed(self, opening: Opening) -> None:
         """With what the current epoch begins."""
         is_in = self.name in opening.names
-        self.core.followed(nanoseconds_of_boot(), terms_of(opening, number_of(opening, self.name)) if is_in else None)
+        there = core_opening_of(opening, node_number(opening, self.name)) if is_in else None
+        self.core.followed(nanoseconds_of_boot(), there)
         if is_in and opening.epoch != self.opening.epoch:
             self._enter(opening)
             _logger.info('node %s: goes on in epoch %d as number %d', shown_name(self.name), opening.epoch, self.node)

@@ -41,10 +41,10 @@ class Service(threading.Thread):
     def _stands(self) -> str:
         owned = self._member.assignment()
         if owned is not None:
-            return f'works on {len(owned.partitions)} partitions by token {owned.token}{self._workers.told}'
+            return f'works on {len(owned.partitions)} partitions by token {owned.token}{self._workers.about}'
         if self._member.is_drained:
             return 'drained'
-        return ('present' if seconds_of_boot() < self._member.sure_until else 'not present') + self._workers.told
+        return ('present' if seconds_of_boot() < self._member.sure_until else 'not present') + self._workers.about
 
     def _tell(self, *words: str) -> None:
         with suppress(OSError), socket.socket(socket.AF_UNIX, socket.SOCK_DGRAM) as manager:

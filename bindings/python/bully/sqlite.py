@@ -17,7 +17,7 @@ from pathlib import Path
 from typing import NamedTuple
 from urllib.parse import quote
 
-from .clocks import SECOND, nanoseconds_of_boot, slept, wall_clock
+from .clocks import SECOND, nanoseconds_of_boot, sleep_until_ready, wall_clock
 from .epochs import Opening
 from .guard import is_stopped, writer_of
 from .logs import (
@@ -453,7 +453,7 @@ class SqliteLog:
             if now >= end:
                 return
             presence = max(SHORTEST_SLEEP, (self._earliest - now) / SECOND)
-            if slept(min(self._sleep, (end - now) / SECOND, presence), wake):
+            if sleep_until_ready(min(self._sleep, (end - now) / SECOND, presence), wake):
                 break
             self._sleep = min(2 * self._sleep, LONGEST_SLEEP)
         self._sleep = SHORTEST_SLEEP

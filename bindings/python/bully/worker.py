@@ -13,7 +13,7 @@ from collections.abc import Sequence
 from contextlib import suppress
 from pathlib import Path
 
-from .clocks import SECOND, seconds_of_boot, slept
+from .clocks import SECOND, seconds_of_boot, sleep_until_ready
 from .guard import BEATS, adopt, children, end_children, may_kill
 from .running import Assignment, Member
 
@@ -21,9 +21,11 @@ GUARD = str(Path(__file__).with_name('guard.py'))
 SILENT = 2  # looks, a twentieth of the ttl from one to the next, at a guard that is silent, behind which it is killed
 STARTS = 5.0  # seconds that a guard takes to begin, at most
 REST_MAX = 60.0  # seconds that a worker rests at most which fails again and again
-PART = 0.1  # seconds for which it waits at once for a worker to stop
-MESSAGE_MAX = 100_000  # bytes of a message to the guard: all sockets have room for so many
-LEFT = 'these processes may work on, since SIGKILL has not ended them; until they are gone nothing is begun here: %s'
+STOP_WAIT = 0.1  # seconds for which it waits at once for a worker to stop
+PART_MAX = 100_000  # bytes of a part of what the guard is told: all sockets have room for so many
+SURVIVORS_TOLD = (
+    'these processes may work on, since SIGKILL has not ended them; until they are gone nothing is begun here: %s'
+)
 
 _logger = logging.getLogger('bully')
 
@@ -51,6 +53,12 @@ class Workers:
         """The words of its command, the name of its node, how long it may take to stop, and whether it stays over
         changes and is told of them by lines."""
         self._words, self._node, self._patience, self._talks = words, node, patience, talks
+        # Since `begin`:
+        self._member: Member
+        self._others: set[int]  # the children that this process had before
+        self._guard: subprocess.Popen[bytes]
+        self._channel: socket.socket  # to the guard
+        self._listener: threading.Thread  # hears what the guard says
         self._assignment: Assignment | None = None
         self._stopped: queue.SimpleQueue[None] = queue.SimpleQueue()
         self._until = 0  # in nanoseconds of CLOCK_BOOTTIME
@@ -59,7 +67,7 @@ class Workers:
         self._may_work = False  # whether the worker was told to begin, and may be at work
         self._is_unheard = False  # whether the guard hasn't answered that yet
         self._stop_begun: float | None = None  # when the worker was told to stop, if it hasn't yet
-        self._left: list[int] = []  # what is still there of the worker, though it was killed
+        self._survivors: list[int] = []  # what is still there of the worker, though it was killed
         self._is_closed = False
         self._ending = threading.Lock()  # who has it waits for children
 
@@ -111,8 +119,8 @@ class Workers:
         """Waits for that. A member that is to leave doesn't wait for what was killed, and so does nothing any more."""
         while True:
             with suppress(queue.Empty):
-                return self._stopped.get(timeout=PART)
-            if self.is_stuck and self._member.is_leaving and all(map(may_kill, self._left)):
+                return self._stopped.get(timeout=STOP_WAIT)
+            if self.is_stuck and self._member.is_leaving and all(map(may_kill, self._survivors)):
                 seconds = f'{self.stopping_seconds:.1f} s'
                 raise WorkerStuck(
                     f'the worker has not ended for {seconds}, though it was killed; its presence ends by itself'
@@ -127,10 +135,10 @@ class Workers:
     @property
     def is_stuck(self) -> bool:
         """Whether something of it is still there, though it should have been killed a ttl ago."""
-        return bool(self._left) and self.stopping_seconds > self._patience + self._member.ttl
+        return bool(self._survivors) and self.stopping_seconds > self._patience + self._member.ttl
 
     @property
-    def told(self) -> str:
+    def about(self) -> str:
         """For people: that it stops, or rests."""
         if self._stop_begun is not None:
             return f'; its worker has not stopped for {self.stopping_seconds:.1f} s'
@@ -157,7 +165,7 @@ class Workers:
 
     def _tell_begin(self, words: bytes) -> None:
         """In parts, for each of which a message has room."""
-        *parts, last = (words[first : first + MESSAGE_MAX] for first in range(0, len(words), MESSAGE_MAX))
+        *parts, last = (words[first : first + PART_MAX] for first in range(0, len(words), PART_MAX))
         for part in parts:
             self._send(b'part ' + part)
         self._send(b'begin ' + last)
@@ -176,9 +184,9 @@ class Workers:
             if said[0] == b'begun':
                 continue
             if said[0] == b'held':
-                self._tell_left(list(map(int, said[1:])))
+                self._tell_survivors(list(map(int, said[1:])))
                 continue
-            self._left, self._may_work = [], False
+            self._survivors, self._may_work = [], False
             if said[0] == b'stopped':
                 self._stopped.put(None)
             elif said[0] == b'ended':
@@ -218,8 +226,8 @@ class Workers:
     def _hear(self) -> bytes:
         """What the guard says; nothing, if it died. One that is silent is killed."""
         silent = 0
-        while silent < SILENT or slept(0.0, self._channel.fileno()):
-            if slept(self._pause(), self._channel.fileno()):
+        while silent < SILENT or sleep_until_ready(0.0, self._channel.fileno()):
+            if sleep_until_ready(self._pause(), self._channel.fileno()):
                 with suppress(ConnectionResetError):  # comes once, before what it said, if it didn't read all
                     return self._channel.recv(1000)
             silent = silent + 1 if self._is_silent() else 0
@@ -237,15 +245,15 @@ class Workers:
         is_late = self._may_work and now > max(self._begun, self._until / SECOND) + ttl / BEATS
         is_deaf = self._is_unheard and now > self._begun + ttl + STARTS
         is_stuck = stop_begun is not None and now > stop_begun + self._patience + ttl
-        return not self._left and (is_late or is_deaf or is_stuck)
+        return not self._survivors and (is_late or is_deaf or is_stuck)
 
     def _end_all(self) -> None:
         """Returns once nothing is left of the guard, and of what it began."""
         with self._ending:
-            end_children(self._others, self._member.ttl / BEATS, self._tell_left)
+            end_children(self._others, self._member.ttl / BEATS, self._tell_survivors)
             self._guard.wait()
-            self._left = []
+            self._survivors = []
 
-    def _tell_left(self, processes: list[int]) -> None:
-        self._left = processes
-        _logger.error(LEFT, processes)
+    def _tell_survivors(self, processes: list[int]) -> None:
+        self._survivors = processes
+        _logger.error(SURVIVORS_TOLD, processes)

@@ -234,7 +234,7 @@ class Stories(unittest.TestCase):
         self.core.leave()
         self.assertEqual((self.core.ending, self.core.next(100)), (Ending.LEFT, Stop()))
         self.core.stopped()
-        self.ask(110, Request.BE_IDLE, FIRST, 6)
+        self.ask(110, Request.PROMISE, FIRST, 6)
         self.core.answered(120, StoreAnswer.DONE)
         self.ask(130, Request.APPEND, place=6)
         self.assertEqual(self.core.settlement(), ['crash,1'])
@@ -253,7 +253,7 @@ class Stories(unittest.TestCase):
         self.looked(110, 0, True)
         self.assertEqual((self.core.is_wished, self.core.next(120)), (True, Stop()))
         self.core.stopped()
-        self.ask(130, Request.BE_IDLE, FIRST, 6)
+        self.ask(130, Request.PROMISE, FIRST, 6)
         self.core.answered(140, StoreAnswer.DONE)
         self.ask(150, Request.FINISH, place=6)
         self.core.answered(160, StoreAnswer.DONE)
@@ -365,10 +365,10 @@ class Store:
             if is_free:
                 self.presences[core.node] = Presence(core.node, ask.life, Promise(1, ask.place))
             return is_free
-        if ask.request in (Request.BE_IDLE, Request.RENEW, Request.RELEASE):
+        if ask.request in (Request.PROMISE, Request.RENEW, Request.RELEASE):
             if held is None or held.life != ask.life:
                 return False
-            if ask.request is Request.BE_IDLE:
+            if ask.request is Request.PROMISE:
                 self.presences[core.node] = replace(held, promise=max(held.promise, Promise(1, ask.place)))
             if ask.request is Request.RELEASE:
                 del self.presences[core.node]

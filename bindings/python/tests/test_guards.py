@@ -245,7 +245,7 @@ class Guards(Below):
             except WorkerStuck as stuck:
                 raised.append(stuck)
 
-        self.assertEqual((workers.stopping_seconds, workers.is_stuck, workers.told), (0.0, False, ''))
+        self.assertEqual((workers.stopping_seconds, workers.is_stuck, workers.about), (0.0, False, ''))
         thread = threading.Thread(target=stop, daemon=True)
         with self.assertLogs('bully', 'ERROR') as said:
             thread.start()
@@ -253,7 +253,7 @@ class Guards(Below):
         self.assertTrue(said.output[0].endswith(f'nothing is begun here: [{self.worker}]'), said.output)
         wait_until(lambda: workers.is_stuck)
         self.assertTrue(thread.is_alive())
-        self.assertRegex(workers.told, '^; its worker has not stopped for [0-9.]+ s$')
+        self.assertRegex(workers.about, '^; its worker has not stopped for [0-9.]+ s$')
         self.member.is_leaving = True
         thread.join(PATIENCE)
         self.assertEqual((len(raised), self.failures), (1, []))

@@ -224,12 +224,12 @@ class Pages(unittest.TestCase):
         self.workers.begin(self.member)
         self.addCleanup(self.workers.close)
         self.assertEqual(self.get('/healthz')[0], 200)
-        self.workers._left, self.workers._stop_begun = [os.getpid()], seconds_of_boot() - 10.0
+        self.workers._survivors, self.workers._stop_begun = [os.getpid()], seconds_of_boot() - 10.0
         self.assertEqual(self.get('/healthz')[::2], (503, 'its worker does not end\n'))
         self.assertRegex(self.get('/')[2], 'nodes present; its worker has not stopped for 1[0-9][.][0-9] s<')
         told = dict(line.rsplit(' ', 1) for line in self.get('/metrics')[2].splitlines() if not line.startswith('#'))
         self.assertGreaterEqual(float(told[f'bully_stopping_seconds{page.labels(self.NAMES[1])}']), 10.0)
-        self.workers._left, self.workers._stop_begun = [], None
+        self.workers._survivors, self.workers._stop_begun = [], None
 
     def test_an_epoch_that_is_not_told(self) -> None:
         """Where the log doesn't answer with what the next epoch began with, the page goes on once it does."""

@@ -86,7 +86,7 @@ class ResizesUnanswered(unittest.TestCase):
     def test_goes_on(self) -> None:
         """It goes on up to the end of its time."""
         log = Seldom(OPENING, 3)
-        with mock.patch.object(resizing, 'AGAIN', 0.001):
+        with mock.patch.object(resizing, 'ASK_AGAIN', 0.001):
             opening = resizing.resize(log, self.wanted, PATIENCE)
         self.assertEqual((opening.epoch, opening.names, log.epoch), (2, ('x', 'y'), 2))
         self.assertLess(log.silent, 0)

@@ -204,7 +204,7 @@ class Talks(Below):
             wait_until(child.exists)
             channel.send(b'stop')
             self.assertEqual(
-                clocks.slept(PATIENCE, channel.fileno()), [channel.fileno()]
+                clocks.sleep_until_ready(PATIENCE, channel.fileno()), [channel.fileno()]
             )  # it has said that nothing is worked on
         self.assertEqual((guard.wait(PATIENCE), (self.folder / 'said').read_text()), (0, ''))
         self.assertFalse(is_running(int(child.read_text())))
