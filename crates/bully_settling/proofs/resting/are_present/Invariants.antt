@@ -3,8 +3,8 @@ use Rattle.bully_settling.proofs.resting.are_present.Given as goal
 use Rattle.bully_work.specs.Working.{GivesTo}
 
 -- the first partitions' owners are present
-abbrev pub invariant-loop-place : goal.invariant-loop-place
-invariant-loop-place l = record {
-  first : (k owner : ℕ) → k < l.place → GivesTo l.table k owner → Contains l.present owner;
-  end : l.place-end ≡ length l.table;
+abbrev pub invariant-loop-partition : goal.invariant-loop-partition
+invariant-loop-partition l = record {
+  first : (k owner : ℕ) → k < l.partition → GivesTo l.table k owner → Contains l.present owner;
+  end : l.partition-end ≡ length l.table;
 }

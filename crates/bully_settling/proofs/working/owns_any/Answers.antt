@@ -5,9 +5,9 @@ use Rattle.bully_settling.proofs.working.owns_any.Goals as goal
 pub returns-then-eq : goal.returns-then-eq
 returns-then-eq c =
     let same : c.owner.result ≡ c.args.node = search (rules, c.eq.ensures, c.if-eq.ensures, c.if-eq.true) in
-    any_found c.args.table.now c.loop-place.place c.owner.result c.args.node c.owner.ensures same
+    any_found c.args.table.now c.loop-partition.partition c.owner.result c.args.node c.owner.ensures same
 
 pub returns : goal.returns
 returns c =
-    let all : length c.args.table.now ≤ c.loop-place.place = let end = c.loop-place.invariant.end in let past = c.loop-place-test.false in omega (arith, end, past) in
-    none_found c.args.table.now c.loop-place.place c.args.node all c.loop-place.invariant.first
+    let all : length c.args.table.now ≤ c.loop-partition.partition = let end = c.loop-partition.invariant.end in let past = c.loop-partition-test.false in omega (arith, end, past) in
+    none_found c.args.table.now c.loop-partition.partition c.args.node all c.loop-partition.invariant.first
