@@ -9,4 +9,4 @@ returns-in-Operator-clause-turn g c =
 
 pub returns-in-Node-clause-turn : goal.returns-in-Node-clause-turn
 returns-in-Node-clause-turn g c =
-    node_turned c.take_node_turn.result (IsLocked g.L.Naming.setup g.L.Naming.publisher g.L.Ledger.parts) c.args.config.now c.period.result c.args.turn c.args.role.now _ (state_of c.take_node_turn.new.place) c.args.access.now c.take_node_turn.new.backend (λ p. record { seat = p.seat; counted = p.pass }) c.in-Node.is c.period.ensures.period c.take_node_turn.ensures.turn
+    node_turned c.take_node_turn.result (IsLocked g.L.Naming.setup g.L.Naming.publisher g.L.Ledger.parts) c.args.config.now c.period.result c.args.turn c.args.role.now _ (state_of c.take_node_turn.new.procedure) c.args.access.now c.take_node_turn.new.backend (λ p. record { seat = p.seat; counted = p.pass }) c.in-Node.is c.period.ensures.period c.take_node_turn.ensures.turn
