@@ -1,7 +1,6 @@
-//! Whether a node's call is under way, and can be answered so.
+//! Whether a call that was sent can be answered so.
 ghost use Rattle.std.specs.Prelude.{◌≡◌, ◌↔◌, IsTrue};
-ghost use Rattle.bully_calls.specs.Pending.{is_sent};
-ghost use Rattle.bully_calls.specs.Slot.{holds_call};
+ghost use Rattle.bully_calls.specs.declared.call.Phase.{Phase};
 ghost use Rattle.bully_world.specs.NodeInvariant.{SuitsPhase};
 ghost use Rattle.bully_agent.specs.Calls.{CanReturn};
 
