@@ -80,8 +80,7 @@ def build_all(building: Building) -> None:
     needs = {name: [lower for lower in crates[name].below if lower in due] for name in due}
     judging = crates['bully_trace'].all if crate.name == 'bully' else ()
     length, new = chains(crates, crate), sum(not (crates[name].folder / 'out' / 'incremental').exists() for name in due)
-    # (35 s for each from nothing, 10 s over what an earlier build kept, and two minutes for what is compiled and linked; on a slow
-    # machine 8/5 of that)
+    # (35 s for each from nothing, 10 s over what an earlier build kept, two minutes to compile and link; 8/5 of it on a slow machine)
     minutes = -(-(120 + 10 * len(due) + 25 * new) // 60)
     told = f'{len(due)} of {len(crate.all)} crates, {new} of them from nothing; on four cores {minutes} to {minutes * 8 // 5} min'
     say(f'proves and builds {crate.name}: {told}')
