@@ -41,9 +41,9 @@ fn fault_event(fault: Fault) -> Event
     }
 }
 
-/// The turn of this number of the node that holds the procedure, which goes on. Where the procedure is
-/// Planning, it is prepared first. Then, in one piece, the node serves the call that waits for it, if any; else it goes on as it chooses, with
-/// a check once in a period of at least 1.
+/// The turn of this number of the node that holds the procedure, which goes on. If the procedure is
+/// Planning, it is prepared first. Then, in one piece, the node serves the call that waits for it, if any; else it goes on
+/// as it chooses, with a check once in a period of at least 1.
 pub fn take_node_turn<S: Backend>(
     backend: &mut S,
     period: u32,
