@@ -5,18 +5,15 @@ import hashlib
 import os
 import shutil
 from pathlib import Path
-from typing import Callable, Dict, Iterable, Iterator, List, Sequence, Tuple
+from typing import Callable, Dict, Iterable, Iterator, Sequence, Tuple
 
 from .crates import Crate, Crates, version_of
 
 
-def sources_of(crate: Crate) -> List[Path]:
-    return [path for part in ('src', 'specs', 'proofs') for path in (crate.folder / part).rglob('*') if path.is_file()]
-
-
 def sum_of(crate: Crate) -> str:
     """The SHA-256 of its line in crates.txt, and of the names and the contents of its files, as sha256sum tells them."""
-    told = {str(path.relative_to(crate.folder)): hashlib.sha256(path.read_bytes()).hexdigest() for path in sources_of(crate)}
+    files = [path for part in ('src', 'specs', 'proofs') for path in (crate.folder / part).rglob('*') if path.is_file()]
+    told = {str(path.relative_to(crate.folder)): hashlib.sha256(path.read_bytes()).hexdigest() for path in files}
     lines = [crate.line, *(f'{told[name]}  {name}' for name in sorted(told))]
     return hashlib.sha256(''.join(f'{line}\n' for line in lines).encode()).hexdigest()
 

@@ -7,7 +7,7 @@ from pathlib import Path
 from typing import Callable, Dict, List, NamedTuple, NoReturn, Optional
 
 from .crates import Crate, Crates, Stopped, find_kit, read_crates, version_of_all, words_over_libraries, words_over_sources
-from .kept import drop, is_made_of, keep, locked, made_of, sources_of
+from .kept import drop, is_made_of, keep, locked, made_of
 from .running import Children, all_jobs, become, run_beside
 
 Say = Callable[[str], None]
@@ -64,30 +64,28 @@ class Building(NamedTuple):
 
 
 def chains(crates: Crates, crate: Crate) -> Dict[str, int]:
-    """Of each crate the lines of the longest chain of crates from it on up, and 1,000 for what each reads: a guess of how long it takes."""
+    """Of each crate the lines of code in the longest chain of crates from it on up, and 300 for what each reads: a guess of how long it takes."""
     found: Dict[str, int] = {}
     for name in reversed(crate.all):
         above = max((lines for upper, lines in found.items() if name in crates[upper].below), default=0)
-        found[name] = above + 1000 + sum(path.read_bytes().count(b'\n') for path in sources_of(crates[name]))
+        found[name] = above + 300 + sum(path.read_bytes().count(b'\n') for path in (crates[name].folder / 'src').rglob('*.rt'))
     return found
 
 
 def build_all(building: Building) -> None:
-    """Proves and builds each crate that isn't built of what it is made of now, as soon as those below it are: first those that judge a
-    trace for `bully check`, and then that below the longest chain."""
+    """Proves and builds each crate that isn't built of what it is made of now, as soon as those below it are."""
     crates, crate, say = building.crates, building.crate, building.say
     due = [name for name in crate.all if not is_made_of(crates[name].product, building.made_of[name])]
     needs = {name: [lower for lower in crates[name].below if lower in due] for name in due}
-    judging = crates['bully_trace'].all if crate.name == 'bully' else ()
     length, new = chains(crates, crate), sum(not (crates[name].folder / 'out' / 'incremental').exists() for name in due)
     # (35 s for each from nothing, 10 s over what an earlier build kept, two minutes to compile and link; 8/5 of it on a slow machine)
     minutes = -(-(120 + 10 * len(due) + 25 * new) // 60)
     told = f'{len(due)} of {len(crate.all)} crates, {new} of them from nothing; on four cores {minutes} to {minutes * 8 // 5} min'
     say(f'proves and builds {crate.name}: {told}')
-    proved = run_beside(needs, lambda name: (name in judging, length[name]), building.build, building.children)
+    proved = run_beside(needs, {name: length[name] for name in due}, building.build, building.children)
     for number, name in enumerate(proved, 1):
         say(f'{number} of {len(due)} crates proved after {building.minutes()}: {name}')
-        if name == 'bully_trace' and name in judging:
+        if name == 'bully_trace' and crate.name == 'bully':
             say('what judges a trace for the command check is proved; the other commands stand on what comes now')
 
 

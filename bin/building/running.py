@@ -17,11 +17,11 @@ from .crates import Stopped
 MEMORY_OF_ONE = 3_000_000
 
 
-def all_jobs() -> int:
-    """As many processes of the prover as there are cores, but one for each 3 GB of free memory, and one at least."""
-    cores, told = len(os.sched_getaffinity(0)), Path('/proc/meminfo').read_text()
+def all_jobs(more: int = 0) -> int:
+    """As many processes of the prover as there are cores, or some more; but one for each 3 GB of free memory, and one at least."""
+    most, told = len(os.sched_getaffinity(0)) + more, Path('/proc/meminfo').read_text()
     free = re.search(r'^MemAvailable: *(\d+) kB$', told, re.MULTILINE)
-    return max(1, min(cores, int(free[1]) // MEMORY_OF_ONE if free else cores))
+    return max(1, min(most, int(free[1]) // MEMORY_OF_ONE if free else most))
 
 
 class Children:
@@ -67,25 +67,26 @@ def become(words: Sequence[str]) -> NoReturn:
 
 
 def run_beside(
-    needs: Mapping[str, Sequence[str]], rank: Callable[[str], Tuple[bool, int]], run: Callable[[str, int], bool], children: Children
+    needs: Mapping[str, Sequence[str]], length: Mapping[str, int], run: Callable[[str, int], bool], children: Children
 ) -> Iterator[str]:
-    """Does each task once those that it needs are done, those of higher rank first, and tells its name when it is done. `run` is given
-    how many processes a task may use: each of those that are ready one, and the first what is left of the free cores."""
-    tasks, free = TopologicalSorter(needs), all_jobs()
+    """Does each task once those that it needs are done, those of long chains first, and tells its name when it is done. `length` has, as a
+    guess, how long the chain of tasks is that begins with it. `run` is given how many processes a task may use: two if its chain is within a
+    quarter of the longest, else one; and the first what the others that are ready leave of the cores. One more than cores is under way."""
+    tasks, cores, most = TopologicalSorter(needs), all_jobs(), all_jobs(1)
     tasks.prepare()
-    ready: List[str] = []
+    ready, left = list(tasks.get_ready()), dict(length)
     under_way: 'Dict[Future[bool], Tuple[str, int]]' = {}
-    with ThreadPoolExecutor(free) as pool, children:
+    with ThreadPoolExecutor(most) as pool, children:
         while tasks.is_active():
-            ready = sorted([*ready, *tasks.get_ready()], key=rank)
-            while ready and free:
-                name, processes = ready[-1], max(1, free + 1 - len(ready))
-                under_way[pool.submit(run, ready.pop(), processes)] = name, processes
-                free -= processes
+            ready = sorted([*ready, *tasks.get_ready()], key=lambda name: length[name])
+            while ready and (used := sum(processes for _, processes in under_way.values())) < most:
+                name, is_long = ready[-1], 4 * length[ready.pop()] >= 3 * max(left.values())
+                processes = min(max(cores - used - len(ready), 2 if is_long else 1), cores, most - used)
+                under_way[pool.submit(run, name, processes)] = name, processes
             for ended in wait(under_way, return_when=FIRST_COMPLETED).done:
-                name, processes = under_way.pop(ended)
-                free += processes
+                name, _ = under_way.pop(ended)
                 if not ended.result():
                     raise Stopped(f'{name} was not built')
                 tasks.done(name)
+                del left[name]
                 yield name

@@ -2,7 +2,8 @@
 import signal
 import subprocess
 import unittest
-from typing import Dict, List
+from concurrent.futures import Future, wait
+from typing import Any, Dict, List, Tuple
 from unittest import mock
 
 from building.crates import Stopped, read_crates
@@ -40,17 +41,42 @@ class Graph(unittest.TestCase):
         with self.assertRaisesRegex(Stopped, 'left|right'):
             read_crates(self.tree.top)
 
-    def test_the_first_of_those_ready_has_the_cores_that_the_others_leave(self) -> None:
-        given: Dict[str, int] = {}
+    def given(self, needs: Dict[str, List[str]], length: Dict[str, int], room: int = 8) -> Dict[str, int]:
+        """How many processes each task may use, on four cores and in the room of so many processes."""
+        found: Dict[str, int] = {}
 
         def run(name: str, processes: int) -> bool:
-            given[name] = processes
+            found[name] = processes
             return True
 
-        needs: Dict[str, List[str]] = {'low': [], 'beside': [], 'high': ['low', 'beside']}
-        with mock.patch('building.running.all_jobs', return_value=4):
-            done = list(run_beside(needs, lambda name: (name == 'low', 0), run, Children(())))
-        self.assertEqual((given, done[-1]), ({'low': 3, 'beside': 1, 'high': 4}, 'high'))
+        with mock.patch('building.running.all_jobs', side_effect=lambda more=0: min(4 + more, room)):
+            self.assertEqual(set(run_beside(needs, length, run, Children(()))), set(needs))
+        return found
+
+    def test_the_longest_chain_has_the_cores_that_the_others_leave(self) -> None:
+        found = self.given({'low': [], 'beside': [], 'high': ['low', 'beside']}, {'low': 40, 'beside': 20, 'high': 10})
+        self.assertEqual(found, {'low': 3, 'beside': 1, 'high': 4})
+
+    def test_long_chains_have_two_processes(self) -> None:
+        length = {'longest': 40, 'long': 30, 'short': 29}
+        self.assertEqual(self.given({name: [] for name in length}, length), {'longest': 2, 'long': 2, 'short': 1})
+
+    def test_a_chain_is_as_long_as_what_is_left(self) -> None:
+        needs: Dict[str, List[str]] = {'low': [], 'high': ['low'], 'long': ['low'], 'short': ['low']}
+        self.assertEqual(self.given(needs, {'low': 90, 'high': 40, 'long': 39, 'short': 9}), {'low': 4, 'high': 2, 'long': 2, 'short': 1})
+
+    def test_one_more_than_cores_is_under_way_if_memory_holds_it(self) -> None:
+        seen: List[int] = []
+
+        def watched(under_way: 'Dict[Future[bool], Tuple[str, int]]', return_when: str) -> Any:
+            seen.append(sum(processes for _, processes in under_way.values()))
+            return wait(under_way, return_when=return_when)
+
+        for room, most in ((8, 5), (3, 3)):
+            seen.clear()
+            with mock.patch('building.running.wait', watched):
+                self.given({f'task {number}': [] for number in range(9)}, {f'task {number}': number + 1 for number in range(9)}, room)
+            self.assertEqual((seen[0], max(seen)), (most, most))
 
     def test_a_sum_is_that_of_sha256sum(self) -> None:
         self.tree.write('left', 'proofs/half/Answers.antt', 'an answer\n')
