@@ -30,6 +30,8 @@ from .places import ROOT, environment
 from .processes import children, end, freeze, full_pipe, has_stopped, is_running, parent_of, thaw
 from .waiting import PATIENCE, wait_until
 
+UNTIL = 'select max(until) from presence'
+
 
 class Processes(InFolder):
     """`bully-member run`."""
@@ -140,31 +142,38 @@ class Processes(InFolder):
     def test_a_stopped_writer(self) -> None:
         """While one is stopped in the middle of a write no other renews. It is killed before the work of the others is
         over."""
-        member = self.begin(BEGINS, None, '--ttl', '8')
-        worker = member.worker()
+        ttl, was_to_renew = 8.0, False
+        member = self.begin(BEGINS, None, '--ttl', str(ttl))
+        worker, log = member.worker(), self.opened()
         words = f'''
 import os, signal, sqlite3
 from types import SimpleNamespace
 from bully.worker import Workers
 file = sqlite3.connect({str(self.path)!r}, isolation_level=None, timeout=60)
 workers = Workers(['true'], 'x', 1.0)
-workers.begin(SimpleNamespace(ttl=8.0), {str(self.path)!r})
+workers.begin(SimpleNamespace(ttl={ttl}), {str(self.path)!r})
 workers._tell('stop')
 workers._stopped.get()  # so its guard is there
 file.execute('begin immediate')
+print(*file.execute('{UNTIL}').fetchone(), flush=True)
 os.kill(os.getpid(), signal.SIGSTOP)
 '''
-        while 'database is locked' not in member.said:  # it was to renew just then
-            writer = subprocess.Popen([sys.executable, '-c', words], env=environment(), stderr=subprocess.DEVNULL)
-            self.assertEqual(writer.wait(PATIENCE), -signal.SIGKILL)
-            log, begun = self.opened(), clocks.seconds_of_boot()
-            wait_until(lambda: self.until(log) > begun + 8.0)  # it was renewed since
+        while not was_to_renew:
+            writer = subprocess.run(
+                [sys.executable, '-c', words], env=environment(), stdout=subprocess.PIPE, stderr=subprocess.DEVNULL,
+                timeout=PATIENCE,
+            )  # fmt: skip
+            ended = clocks.seconds_of_boot()
+            self.assertEqual(writer.returncode, -signal.SIGKILL)
+            until = int(writer.stdout) / SECOND
+            was_to_renew = ended > until - ttl + ttl / 4  # while that was stopped
+            wait_until(lambda: self.until(log) > until)  # it was renewed since
             self.assertTrue(is_running(worker))
         self.assertEqual(member.end(), 0)
 
     def until(self, log: SqliteLog) -> float:
         """Up to when the presence is held."""
-        return log._one('select max(until) from presence') / SECOND
+        return log._one(UNTIL) / SECOND
 
     def full(self) -> BinaryIO:
         """A pipe that has no room, and that nobody reads."""
