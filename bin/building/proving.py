@@ -78,9 +78,9 @@ def build_all(building: Building) -> None:
     due = [name for name in crate.all if not is_made_of(crates[name].product, building.made_of[name])]
     needs = {name: [lower for lower in crates[name].below if lower in due] for name in due}
     length, new = chains(crates, crate), sum(not (crates[name].folder / 'out' / 'incremental').exists() for name in due)
-    # (35 s for each from nothing, 10 s over what an earlier build kept, two minutes to compile and link; 8/5 of it on a slow machine)
-    minutes = -(-(120 + 10 * len(due) + 25 * new) // 60)
-    told = f'{len(due)} of {len(crate.all)} crates, {new} of them from nothing; on four cores {minutes} to {minutes * 8 // 5} min'
+    # (25 s for each from nothing, 10 s over what an earlier build kept, two minutes to compile and link; twice as much on a slow machine)
+    minutes = -(-(120 + 10 * len(due) + 15 * new) // 60)
+    told = f'{len(due)} of {len(crate.all)} crates, {new} of them from nothing; on four cores {minutes} to {2 * minutes} min'
     say(f'proves and builds {crate.name}: {told}')
     proved = run_beside(needs, {name: length[name] for name in due}, building.build, building.children)
     for number, name in enumerate(proved, 1):
