@@ -80,7 +80,8 @@ def run_beside(
         while tasks.is_active():
             ready = sorted([*ready, *tasks.get_ready()], key=lambda name: length[name])
             while ready and (used := sum(processes for _, processes in under_way.values())) < most:
-                name, is_long = ready[-1], 4 * length[ready.pop()] >= 3 * max(left.values())
+                name = ready.pop()
+                is_long = 4 * length[name] >= 3 * max(left.values())
                 processes = min(max(cores - used - len(ready), 2 if is_long else 1), cores, most - used)
                 under_way[pool.submit(run, name, processes)] = name, processes
             for ended in wait(under_way, return_when=FIRST_COMPLETED).done:
