@@ -58,8 +58,11 @@ class Graph(unittest.TestCase):
         self.assertEqual(found, {'low': 3, 'beside': 1, 'high': 4})
 
     def test_long_chains_have_two_processes(self) -> None:
-        length = {'longest': 40, 'long': 30, 'short': 29}
-        self.assertEqual(self.given({name: [] for name in length}, length), {'longest': 2, 'long': 2, 'short': 1})
+        for length, wanted in (
+            ({'longest': 40, 'long': 30, 'short': 10}, {'longest': 2, 'long': 2, 'short': 1}),
+            ({'longest': 40, 'short': 29, 'another': 10, 'more': 10}, {'longest': 2, 'short': 1, 'another': 1, 'more': 1}),
+        ):
+            self.assertEqual(self.given({name: [] for name in length}, length), wanted)
 
     def test_a_chain_is_as_long_as_what_is_left(self) -> None:
         needs: Dict[str, List[str]] = {'low': [], 'high': ['low'], 'long': ['low'], 'short': ['low']}
