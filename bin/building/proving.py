@@ -82,7 +82,7 @@ def build_all(building: Building) -> None:
     minutes = -(-(120 + 10 * len(due) + 15 * new) // 60)
     told = f'{len(due)} of {len(crate.all)} crates, {new} of them from nothing; on four cores {minutes} to {2 * minutes} min'
     say(f'proves and builds {crate.name}: {told}')
-    proved = run_beside(needs, {name: length[name] for name in due}, building.build, building.children)
+    proved = run_beside(needs, length, building.build, building.children)
     for number, name in enumerate(proved, 1):
         say(f'{number} of {len(due)} crates proved after {building.minutes()}: {name}')
         if name == 'bully_trace' and crate.name == 'bully':

@@ -70,24 +70,25 @@ def run_beside(
     needs: Mapping[str, Sequence[str]], length: Mapping[str, int], run: Callable[[str, int], bool], children: Children
 ) -> Iterator[str]:
     """Does each task once those that it needs are done, those of long chains first, and tells its name when it is done. `length` has, as a
-    guess, how long the chain of tasks is that begins with it. `run` is given how many processes a task may use: two if its chain is within a
-    quarter of the longest, else one; and the first what the others that are ready leave of the cores. One more than cores is under way."""
+    guess, how long the chain of tasks is that begins with it. `run` is given how many processes a task may use: up to two if its chain is within
+    a quarter of the longest, else one; and the first what the others that are ready leave of the cores. At most one process more than
+    cores is under way, if memory holds it: each reads alone at first."""
     tasks, cores, most = TopologicalSorter(needs), all_jobs(), all_jobs(1)
     tasks.prepare()
-    ready, left = list(tasks.get_ready()), dict(length)
+    ready: List[str] = []
     under_way: 'Dict[Future[bool], Tuple[str, int]]' = {}
     with ThreadPoolExecutor(most) as pool, children:
         while tasks.is_active():
             ready = sorted([*ready, *tasks.get_ready()], key=lambda name: length[name])
             while ready and (used := sum(processes for _, processes in under_way.values())) < most:
                 name = ready.pop()
-                is_long = 4 * length[name] >= 3 * max(left.values())
-                processes = min(max(cores - used - len(ready), 2 if is_long else 1), cores, most - used)
+                longest = max(length[each] for each in (name, *(other for other, _ in under_way.values())))
+                least = 2 if 4 * length[name] >= 3 * longest else 1
+                processes = min(max(cores - used - len(ready), least), cores, most - used)
                 under_way[pool.submit(run, name, processes)] = name, processes
             for ended in wait(under_way, return_when=FIRST_COMPLETED).done:
                 name, _ = under_way.pop(ended)
                 if not ended.result():
                     raise Stopped(f'{name} was not built')
                 tasks.done(name)
-                del left[name]
                 yield name

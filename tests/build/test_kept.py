@@ -3,12 +3,15 @@ import signal
 import subprocess
 import unittest
 from concurrent.futures import Future, wait
+from pathlib import Path
+from threading import Barrier
 from typing import Any, Dict, List, Tuple
 from unittest import mock
 
 from building.crates import Stopped, read_crates
 from building.kept import sum_of
-from building.running import Children, run_beside
+from building.proving import chains
+from building.running import Children, all_jobs, run_beside
 from stand_in import Tree, waited
 
 
@@ -41,16 +44,17 @@ class Graph(unittest.TestCase):
         with self.assertRaisesRegex(Stopped, 'left|right'):
             read_crates(self.tree.top)
 
-    def given(self, needs: Dict[str, List[str]], length: Dict[str, int], room: int = 8) -> Dict[str, int]:
-        """How many processes each task may use, on four cores and in the room of so many processes."""
+    def given(self, needs: Dict[str, List[str]], length: Dict[str, int], cores: int = 4, room: int = 8) -> Dict[str, int]:
+        """How many processes each task may use, in the order in which they begin, in the room of so many processes."""
         found: Dict[str, int] = {}
 
         def run(name: str, processes: int) -> bool:
             found[name] = processes
             return True
 
-        with mock.patch('building.running.all_jobs', side_effect=lambda more=0: min(4 + more, room)):
+        with mock.patch('building.running.all_jobs', side_effect=lambda more=0: min(cores + more, room)):
             self.assertEqual(set(run_beside(needs, length, run, Children(()))), set(needs))
+        self.assertGreaterEqual(min(found.values()), 1)
         return found
 
     def test_the_longest_chain_has_the_cores_that_the_others_leave(self) -> None:
@@ -66,7 +70,23 @@ class Graph(unittest.TestCase):
 
     def test_a_chain_is_as_long_as_what_is_left(self) -> None:
         needs: Dict[str, List[str]] = {'low': [], 'high': ['low'], 'long': ['low'], 'short': ['low']}
-        self.assertEqual(self.given(needs, {'low': 90, 'high': 40, 'long': 39, 'short': 9}), {'low': 4, 'high': 2, 'long': 2, 'short': 1})
+        length = {'built before': 99, 'low': 90, 'high': 40, 'long': 39, 'short': 9}
+        self.assertEqual(self.given(needs, length), {'low': 4, 'high': 2, 'long': 2, 'short': 1})
+
+    def test_long_chains_are_first(self) -> None:
+        needs: Dict[str, List[str]] = {'first': [], 'late': ['first'], 'middle': [], 'short': []}
+        found = self.given(needs, {'first': 50, 'late': 20, 'middle': 30, 'short': 10}, room=1)
+        self.assertEqual(list(found), ['first', 'middle', 'late', 'short'])
+
+    def test_one_core_has_two_tasks_of_one_process(self) -> None:
+        meeting = Barrier(2, timeout=60)  # that both are under way at once
+
+        def run(name: str, processes: int) -> bool:
+            meeting.wait()
+            return processes == 1
+
+        with mock.patch('building.running.all_jobs', side_effect=lambda more=0: 1 + more):
+            self.assertEqual(set(run_beside({'one': [], 'other': []}, {'one': 2, 'other': 2}, run, Children(()))), {'one', 'other'})
 
     def test_one_more_than_cores_is_under_way_if_memory_holds_it(self) -> None:
         seen: List[int] = []
@@ -78,8 +98,20 @@ class Graph(unittest.TestCase):
         for room, most in ((8, 5), (3, 3)):
             seen.clear()
             with mock.patch('building.running.wait', watched):
-                self.given({f'task {number}': [] for number in range(9)}, {f'task {number}': number + 1 for number in range(9)}, room)
+                self.given({f'task {number}': [] for number in range(9)}, {f'task {number}': number + 1 for number in range(9)}, room=room)
             self.assertEqual((seen[0], max(seen)), (most, most))
+
+    def test_a_process_for_each_core_or_one_more_as_far_as_memory_goes(self) -> None:
+        for free, wanted in ((99_000_000, (4, 5)), (12_500_000, (4, 4)), (9_100_000, (3, 3)), (1_000, (1, 1))):
+            told = f'MemTotal:  99000000 kB\nMemAvailable:  {free} kB\n'
+            with mock.patch('os.sched_getaffinity', return_value={0, 1, 2, 3}), mock.patch.object(Path, 'read_text', return_value=told):
+                self.assertEqual((all_jobs(), all_jobs(1)), wanted)
+
+    def test_a_chain_has_the_lines_of_code_from_a_crate_on_up(self) -> None:
+        self.tree.write('left', 'src/lib.rt', 50 * '// a line\n')
+        self.tree.write('left', 'proofs/half/Answers.antt', 500 * 'an answer\n')
+        crates = read_crates(self.tree.top)
+        self.assertEqual(chains(crates, crates['bully']), {'bully': 301, 'left': 651, 'right': 602, 'base': 952})
 
     def test_a_sum_is_that_of_sha256sum(self) -> None:
         self.tree.write('left', 'proofs/half/Answers.antt', 'an answer\n')

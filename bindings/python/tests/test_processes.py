@@ -142,11 +142,11 @@ class Processes(InFolder):
     def test_a_stopped_writer(self) -> None:
         """While one is stopped in the middle of a write no other renews. It is killed before the work of the others is
         over."""
-        ttl, was_to_renew = 8.0, False
+        ttl = 8.0
         member = self.begin(BEGINS, None, '--ttl', str(ttl))
         worker, log = member.worker(), self.opened()
         words = f'''
-import os, signal, sqlite3
+import os, signal, sqlite3, time
 from types import SimpleNamespace
 from bully.worker import Workers
 file = sqlite3.connect({str(self.path)!r}, isolation_level=None, timeout=60)
@@ -154,11 +154,14 @@ workers = Workers(['true'], 'x', 1.0)
 workers.begin(SimpleNamespace(ttl={ttl}), {str(self.path)!r})
 workers._tell('stop')
 workers._stopped.get()  # so its guard is there
+until, = file.execute('{UNTIL}').fetchone()
+soon = until / {SECOND} - {ttl} * 7 / 8  # a second before it is to be renewed; a stop of 1.6 s is let be
+time.sleep(max(0.0, soon - time.clock_gettime(time.CLOCK_BOOTTIME)))
 file.execute('begin immediate')
 print(*file.execute('{UNTIL}').fetchone(), flush=True)
 os.kill(os.getpid(), signal.SIGSTOP)
 '''
-        while not was_to_renew:
+        for _ in range(5):
             writer = subprocess.run(
                 [sys.executable, '-c', words], env=environment(), stdout=subprocess.PIPE, stderr=subprocess.DEVNULL,
                 timeout=PATIENCE,
@@ -166,9 +169,12 @@ os.kill(os.getpid(), signal.SIGSTOP)
             ended = clocks.seconds_of_boot()
             self.assertEqual(writer.returncode, -signal.SIGKILL)
             until = int(writer.stdout) / SECOND
-            was_to_renew = ended > until - ttl + ttl / 4  # while that was stopped
             wait_until(lambda: self.until(log) > until)  # it was renewed since
             self.assertTrue(is_running(worker))
+            if ended > until - ttl + ttl / 4:  # that was to be renewed while the writer was stopped
+                break
+        else:
+            self.fail('nothing was to be renewed while a writer was stopped')
         self.assertEqual(member.end(), 0)
 
     def until(self, log: SqliteLog) -> float:
