@@ -11,10 +11,10 @@ use Rattle.bully_rows.specs.Rows.{OfTrace, is_of_form}
 use Rattle.bully_config.specs.Configuration.{Configuration}
 use Rattle.bully_config.specs.declared.fault.ConfigFault.{ConfigFault}
 use Rattle.bully_account.specs.declared.showing.NodeSheet.{NodeSheet}
-use Rattle.bully_explain.specs.ConfigTold.{IsConfigText}
+use Rattle.bully_draft.specs.ConfigTold.{IsConfigText}
 use Rattle.bully_explain.specs.SheetText.{IsFormText, IsSheet}
-use Rattle.bully_explain.specs.Shown.{AllPlain, shown}
-use Rattle.bully_explain.proofs.ShownLemmas.{shown-plain}
+use Rattle.bully_draft.specs.Shown.{AllPlain, shown}
+use Rattle.bully_draft.proofs.ShownLemmas.{shown-plain}
 use Rattle.bully.specs.Answer.{KnownBytes, Tells, row_line, stop_line, verdict_status}
 use Rattle.bully.specs.ConfigAnswer.{IsStopped}
 use Rattle.bully.specs.ExplainAnswer.{IsConfigExplainAnswer, IsExplainAnswer, sheet_told}

@@ -3,7 +3,7 @@ use Rattle.std.specs.Prelude.{◌≡◌, ◌⊎◌, ◌++◌, ℕ, List, Option,
 use Rattle.std.specs.Str.{bytes_eq}
 use Rattle.std.specs.Io.KnownBytes.{Keeps}
 use Rattle.bully_cli.specs.Words.{Asked, annotating, checking, completing, drawing, explaining, following, planning, playing, running, upgrading}
-use Rattle.bully_explain.specs.Shown.{shown}
+use Rattle.bully_draft.specs.Shown.{shown}
 use Rattle.bully.specs.Answer.{IsCheckAnswer, IsUpgradeAnswer, KnownBytes, Tells, is_given, stop_line}
 use Rattle.bully.specs.AnnotateAnswer.{IsAnnotateAnswer}
 use Rattle.bully.specs.ConfigAnswer.{IsPlayAnswer, IsRunAnswer, IsTableAnswer}

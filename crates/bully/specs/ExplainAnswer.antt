@@ -10,7 +10,7 @@ use Rattle.bully_world.specs.World.{World}
 use Rattle.bully_json.specs.Objects.{sheet_line}
 use Rattle.bully_config.specs.Configuration.{Configuration}
 use Rattle.bully_config.specs.declared.fault.ConfigFault.{ConfigFault}
-use Rattle.bully_explain.specs.ConfigTold.{IsConfigText}
+use Rattle.bully_draft.specs.ConfigTold.{IsConfigText}
 use Rattle.bully_explain.specs.SheetText.{IsFormText, IsSheetText}
 use Rattle.bully.specs.Answer.{IsBadWord, IsShort, IsStopAnswer, KnownBytes, Tells, row_line, verdict_status}
 use Rattle.bully.specs.ConfigAnswer.{IsStopped}

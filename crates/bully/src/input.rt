@@ -4,7 +4,7 @@ ghost use Rattle.bully.specs.AskedAnswer.{IsUnopened, unopened_line};
 
 use crate::telling::{Stop, answer_stop, tell};
 use bully_base::OutOfMemory;
-use bully_explain::push_shown;
+use bully_draft::push_shown;
 use std::alloc::Global;
 use std::io;
 use std::io::{ErrorKind, Read, Write};

@@ -14,7 +14,7 @@ use Rattle.bully_world.specs.State.{WorldState, state_at, world_of}
 use Rattle.bully_world.specs.World.{NodeState, vector}
 use Rattle.bully_world.proofs.WorldIn.{node_state-world_in}
 use Rattle.bully_explain.specs.Differing.{answer_in, answers_text, callee_in, claimed_text, detailed_text, heads, kind_text, sides, whole_text, words_beside}
-use Rattle.bully_explain.specs.Drafted.{Appends, Drafted}
+use Rattle.bully_draft.specs.Drafted.{Appends, Drafted}
 
 -- the same piece
 pub appends_as : {a b : Drafted} {p q : List ℕ} → p ≡ q → Appends a b p → Appends a b q

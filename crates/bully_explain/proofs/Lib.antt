@@ -1,5 +1,3 @@
-pub mod ConfigLemmas
 pub mod DifferingLemmas
-pub mod DraftLemmas
 pub mod SheetLemmas
-pub mod ShownLemmas
+pub mod SidesLemmas

@@ -20,7 +20,7 @@ use Rattle.bully_account.specs.TraceReport.{Explains, IsToldOf}
 use Rattle.bully_account.specs.declared.account.Stop.{Stop}
 use Rattle.bully_account.specs.declared.showing.NodeSheet.{NodeSheet}
 use Rattle.bully_explain.specs.Differing.{decided_text}
-use Rattle.bully_explain.specs.Drafted.{Appends, AppendsPrinted, Drafted, blank}
+use Rattle.bully_draft.specs.Drafted.{Appends, AppendsPrinted, Drafted, blank}
 use Rattle.bully_explain.specs.SheetText.{AppendsForm, Begins, BeginsSheet, IsDecided, IsFormText, IsSheet, IsSheetOf, IsSheetText, form_head, head_text, place_text}
 
 -- ---- more text behind a head

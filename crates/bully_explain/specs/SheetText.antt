@@ -20,8 +20,8 @@ use Rattle.bully_account.specs.TraceReport.{Explains}
 use Rattle.bully_account.specs.declared.account.Stop.{Stop}
 use Rattle.bully_account.specs.declared.showing.NodeSheet.{NodeSheet}
 use Rattle.bully_explain.specs.Differing.{decided_text}
-use Rattle.bully_explain.specs.Drafted.{Drafted}
-use Rattle.bully_explain.specs.Shown.{AllPrinted}
+use Rattle.bully_draft.specs.Drafted.{Drafted}
+use Rattle.bully_draft.specs.Shown.{AllPrinted}
 
 -- the text begins with this part
 abbrev pub Begins : List ℕ → List ℕ → Type 0

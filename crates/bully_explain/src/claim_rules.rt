@@ -2,7 +2,7 @@
 
 use crate::context::{DecisionContext, Run, last_halt, last_row, push_down};
 use crate::differing::task_of;
-use crate::draft::Draft;
+use bully_draft::Draft;
 use crate::point_words::push_where;
 use crate::rules::{RULE, push_needs_crash, push_needs_recover};
 use crate::words::push_members;

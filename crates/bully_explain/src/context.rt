@@ -1,6 +1,6 @@
 //! What a row that decided met, and what is remembered of the rows before it.
 
-use crate::draft::Draft;
+use bully_draft::Draft;
 use crate::words::push_call;
 use bully_account::{Account, EventKind, NodeSheet, NodeSummary, Note, What};
 use bully_base::{NODES_MAX, Node, Setup};

@@ -2,7 +2,7 @@
 //! one for each part that differs.
 
 use crate::context::{DecisionContext, last_halt, last_row, push_start};
-use crate::draft::Draft;
+use bully_draft::Draft;
 use crate::point_words::push_point_told;
 use crate::rules::RULE;
 use crate::words::push_call;

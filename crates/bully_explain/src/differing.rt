@@ -4,9 +4,9 @@ ghost use Rattle.bully_calls.specs.Events.{node_saying};
 ghost use Rattle.bully_trace.specs.Details.{said_of};
 ghost use Rattle.bully_world.specs.State.{world_of};
 ghost use Rattle.bully_explain.specs.Differing.{answer_in, answer_text, answers_text, callee_in, claimed_text, detailed_text, differing_text, kind_text, whole_text};
-ghost use Rattle.bully_explain.specs.Drafted.{Appends};
+ghost use Rattle.bully_draft.specs.Drafted.{Appends};
 
-use crate::draft::Draft;
+use bully_draft::Draft;
 use crate::sides::{push_heads, push_nodes, push_sets, push_tasks, push_words};
 use bully_base::{Node, Setup};
 use bully_calls::{Answer, Saying};
@@ -19,7 +19,7 @@ use bully_trace::said_of;
 use bully_world::World;
 
 /// Appends what the row says and what the group shows before it, side by side; nothing of a node that the group doesn't have.
-#[tactic(auto, using(crate::proofs::DraftLemmas::appends_nothing))]
+#[tactic(auto, using(bully_draft::proofs::DraftLemmas::appends_nothing))]
 pub fn push_differing(text: &mut Draft, world: &World, row: &Row)
     ensures { Appends text.old text.new (differing_text world.now.setup (world_of world.now) row.now) }
 {
@@ -32,7 +32,7 @@ pub fn push_differing(text: &mut Draft, world: &World, row: &Row)
 }
 
 // Appends the status and the coordinator that are claimed, and what the group shows.
-#[tactic(auto, using(crate::proofs::DraftLemmas::appends_nothing))]
+#[tactic(auto, using(bully_draft::proofs::DraftLemmas::appends_nothing))]
 fn push_claim(text: &mut Draft, world: &World, claim: Claim)
     ensures { Appends text.old text.new (differing_text world.now.setup (world_of world.now) (Row.Claim claim)) }
 {
@@ -42,7 +42,7 @@ fn push_claim(text: &mut Draft, world: &World, claim: Claim)
 }
 
 // Appends the same of a claim that tells all of a vector, and then the rest of that.
-#[tactic(auto, using(crate::proofs::DraftLemmas::appends_nothing))]
+#[tactic(auto, using(bully_draft::proofs::DraftLemmas::appends_nothing))]
 fn push_whole(text: &mut Draft, world: &World, whole: &WholeClaim)
     ensures { Appends text.old text.new (differing_text world.now.setup (world_of world.now) (Row.Whole whole.now)) }
 {
@@ -96,7 +96,7 @@ pub fn task_of<'a>(world: &'a World, whole: &WholeClaim) -> Option<&'a Table> {
 
 // Appends the call that is told beside the event and the one that the group has; of a run what is answered, too, and of a return what it
 // brings.
-#[tactic(auto, using(crate::proofs::DraftLemmas::appends_nothing))]
+#[tactic(auto, using(bully_draft::proofs::DraftLemmas::appends_nothing))]
 fn push_detailed(text: &mut Draft, world: &World, event: &DetailedEvent)
     ensures { Appends text.old text.new (differing_text world.now.setup (world_of world.now) (Row.Detailed event.now)) }
 {
@@ -152,7 +152,7 @@ fn answer_in(shown: &Option<DetailedEvent>) -> Option<Answer>
 }
 
 // Appends the answer or the outcome that is told and the one that there is, where the event has one.
-#[tactic(auto, using(crate::proofs::DraftLemmas::appends_nothing))]
+#[tactic(auto, using(bully_draft::proofs::DraftLemmas::appends_nothing))]
 fn push_answers(text: &mut Draft, told: &Detail, shown: Option<Answer>)
     ensures { Appends text.old text.new (answers_text (node_saying told.now.kind) told.now.answer shown) }
 {

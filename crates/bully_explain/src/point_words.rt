@@ -1,7 +1,7 @@
 //! Points in words, and the steps of an election.
 
 use crate::context::{DecisionContext, last_halt, last_move};
-use crate::draft::Draft;
+use bully_draft::Draft;
 use crate::words::push_point;
 use bully_base::Setup;
 use bully_steps::Point;

@@ -1,7 +1,7 @@
 //! The rule that a refused row breaks, in a sentence with what would be right: one for each of the causes.
 
 use crate::context::{DecisionContext, push_down, push_start, push_up};
-use crate::draft::Draft;
+use bully_draft::Draft;
 use crate::point_words::{push_point_told, push_where};
 use crate::words::{push_call, push_members, push_offer};
 use bully_account::{EventKind, Note, What};

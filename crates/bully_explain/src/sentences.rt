@@ -2,7 +2,7 @@
 ghost use Rattle.std.specs.Prelude.{◌<◌, length, IfSome};
 
 use crate::context::DecisionContext;
-use crate::draft::Draft;
+use bully_draft::Draft;
 use crate::rules::{
     RULE, push_callee_down, push_callee_up, push_is_down, push_life, push_members_rule,
     push_needs_crash, push_nodes, push_one_call, push_one_procedure, push_orphans, push_room,

@@ -3,14 +3,14 @@ ghost use Rattle.std.specs.Option.{option_copied};
 ghost use Rattle.bully_rows.specs.TraceText.{line_of, row_fields};
 ghost use Rattle.bully_world.specs.State.{world_of};
 ghost use Rattle.bully_explain.specs.Differing.{decided_text};
-ghost use Rattle.bully_explain.specs.Drafted.{Appends};
+ghost use Rattle.bully_draft.specs.Drafted.{Appends};
 ghost use Rattle.bully_explain.specs.SheetText.{Begins, BeginsSheet, head_text, stop_text};
 
 use crate::claim_rules::{push_claim_rules, push_whole_rules};
 use crate::context::{DecisionContext, last_move, node_at};
 use crate::detail_rules::push_detail_rules;
 use crate::differing::push_differing;
-use crate::draft::Draft;
+use bully_draft::Draft;
 use crate::point_words::push_step_line;
 use crate::rules::push_nodes_rule;
 use crate::sentences::{push_cause_rule, push_no_node, push_sentence};
@@ -68,7 +68,7 @@ fn push_head(text: &mut Draft, world: &World, verdict: Verdict, stop: Option<&St
 }
 
 // Appends the row that decided with its place, and how it did by this verdict, in the world before it.
-#[tactic(auto, using(crate::proofs::DraftLemmas::appends_nothing, crate::proofs::DraftLemmas::appends_then))]
+#[tactic(auto, using(bully_draft::proofs::DraftLemmas::appends_nothing, bully_draft::proofs::DraftLemmas::appends_then))]
 fn push_stop(text: &mut Draft, world: &World, verdict: Verdict, stop: Option<&Stop>)
     ensures { Appends text.old text.new (stop_text world.now.setup (world_of world.now) verdict (option_copied stop.entry)) }
 {
@@ -79,7 +79,7 @@ fn push_stop(text: &mut Draft, world: &World, verdict: Verdict, stop: Option<&St
 }
 
 // Appends the row, and how it decided by this verdict, in the world before it.
-#[tactic(auto, using(crate::proofs::DraftLemmas::appends_nothing, crate::proofs::DraftLemmas::appends_then))]
+#[tactic(auto, using(bully_draft::proofs::DraftLemmas::appends_nothing, bully_draft::proofs::DraftLemmas::appends_then))]
 fn push_decided(text: &mut Draft, world: &World, verdict: Verdict, row: &Row)
     ensures { Appends text.old text.new (line_of (row_fields row.now) ++ decided_text world.now.setup (world_of world.now) verdict row.now) }
 {

@@ -3,9 +3,9 @@ ghost use Rattle.std.specs.Prelude.{◌≡◌, ◌-◌, length};
 ghost use Rattle.std.specs.Option.{option_copied};
 ghost use Rattle.bully_rows.specs.TraceText.{node_text, set_text, task_text};
 ghost use Rattle.bully_explain.specs.Differing.{gap, heads, padded, part_name, sides, words_beside};
-ghost use Rattle.bully_explain.specs.Drafted.{Appends};
+ghost use Rattle.bully_draft.specs.Drafted.{Appends};
 
-use crate::draft::Draft;
+use bully_draft::Draft;
 use bully_base::{Node, NodeSet};
 use bully_table::Table;
 

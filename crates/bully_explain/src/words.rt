@@ -1,8 +1,8 @@
 //! The pieces of a sheet: nodes, points, calls and slots, as text.
-ghost use Rattle.bully_explain.specs.Drafted.{Appends};
+ghost use Rattle.bully_draft.specs.Drafted.{Appends};
 ghost use Rattle.bully_explain.specs.SheetText.{place_text};
 
-use crate::draft::Draft;
+use bully_draft::Draft;
 use bully_account::{EventKind, Memory, NodeSummary, What};
 use bully_base::{NODES_MAX, Node, NodeSet};
 use bully_calls::{Answer, Call, CallKind, PendingCall, Phase};

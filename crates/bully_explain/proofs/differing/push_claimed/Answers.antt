@@ -1,7 +1,7 @@
 use Rattle.std.proofs.Common.{◌∙◌, ap}
 use Rattle.bully_rows.specs.Words.{status_word}
 use Rattle.bully_explain.proofs.DifferingLemmas.{claimed-as}
-use Rattle.bully_explain.proofs.DraftLemmas.{appends_then}
+use Rattle.bully_draft.proofs.DraftLemmas.{appends_then}
 use Rattle.bully_explain.proofs.differing.push_claimed.Goals as goal
 
 pub returns : goal.returns

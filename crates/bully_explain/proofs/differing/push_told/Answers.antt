@@ -1,5 +1,5 @@
 use Rattle.bully_explain.proofs.DifferingLemmas.{detailed-as}
-use Rattle.bully_explain.proofs.DraftLemmas.{appends_then}
+use Rattle.bully_draft.proofs.DraftLemmas.{appends_then}
 use Rattle.bully_explain.proofs.differing.push_told.Goals as goal
 
 pub returns : goal.returns

@@ -1,4 +1,4 @@
-use Rattle.bully_explain.proofs.DraftLemmas.{beside}
+use Rattle.bully_explain.proofs.SidesLemmas.{beside}
 use Rattle.bully_explain.proofs.sides.push_sets.Goals as goal
 
 pub returns : goal.returns

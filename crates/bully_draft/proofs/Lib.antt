@@ -1,0 +1,3 @@
+pub mod ConfigLemmas
+pub mod DraftLemmas
+pub mod ShownLemmas

@@ -1,0 +1,3 @@
+pub mod ConfigTold
+pub mod Drafted
+pub mod Shown

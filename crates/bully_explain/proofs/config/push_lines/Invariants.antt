@@ -1,5 +1,0 @@
-use Rattle.bully_explain.specs.Drafted.{AppendsLines}
-use Rattle.bully_explain.proofs.config.push_lines.Given as goal
-
-abbrev pub invariant-loop-line : goal.invariant-loop-line
-invariant-loop-line l = AppendsLines l.initial.draft l.draft

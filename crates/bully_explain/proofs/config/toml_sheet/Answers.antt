@@ -1,6 +1,0 @@
-use Rattle.std.proofs.Common.{refl, rules}
-use Rattle.bully_explain.proofs.DraftLemmas.{toml-text}
-use Rattle.bully_explain.proofs.config.toml_sheet.Goals as goal
-
-pub returns-clause-lines : goal.returns-clause-lines
-returns-clause-lines c = toml-text _ c.push_lines.new.draft _ refl (search rules) c.in_ok-text.ensures.whole c.in_ok-text.ensures.text

@@ -1,6 +1,0 @@
-use Rattle.std.specs.Prelude.{replicate}
-use Rattle.bully_explain.specs.Drafted.{Appends}
-use Rattle.bully_explain.proofs.draft.Draft.push_spaces.Given as goal
-
-abbrev pub invariant-loop : goal.invariant-loop
-invariant-loop l = Appends l.initial.self l.self (replicate l.counter 32)
