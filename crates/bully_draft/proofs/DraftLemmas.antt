@@ -1,5 +1,5 @@
 -- What stands in a draft behind several pieces.
-use Rattle.std.proofs.Common.{◌≡◌, ◌∙◌, false, ℕ, zero, suc, ◌+◌, ◌++◌, length, List, [], ◌∷◌, Option, Some, refl, sym, ap, subst, arith, codes, replicate, append_assoc, append-nil}
+use Rattle.std.proofs.Common.{◌≡◌, ◌∙◌, false, ℕ, zero, suc, ◌+◌, ◌++◌, List, [], ◌∷◌, Option, Some, refl, sym, ap, subst, arith, codes, replicate, append_assoc, append-nil}
 use Rattle.std.specs.Str.{chars}
 use Rattle.bully_config.specs.declared.fault.ConfigFault.{ConfigFault}
 use Rattle.bully_draft.specs.ConfigTold.{ArePlain, IsConfigText, document_head, lines_text}

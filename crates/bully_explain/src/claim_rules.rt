@@ -2,13 +2,13 @@
 
 use crate::context::{DecisionContext, Run, last_halt, last_row, push_down};
 use crate::differing::task_of;
-use bully_draft::Draft;
 use crate::point_words::push_where;
 use crate::rules::{RULE, push_needs_crash, push_needs_recover};
 use crate::words::push_members;
 use bully_account::EventKind;
 use bully_base::{NODES_MAX, Node, NodeSet, Status};
 use bully_calls::CallKind;
+use bully_draft::Draft;
 use bully_rows::{Claim, WholeClaim, status_word};
 use bully_steps::Point;
 use bully_table::Table;

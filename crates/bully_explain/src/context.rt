@@ -1,10 +1,10 @@
 //! What a row that decided met, and what is remembered of the rows before it.
 
-use bully_draft::Draft;
 use crate::words::push_call;
 use bully_account::{Account, EventKind, NodeSheet, NodeSummary, Note, What};
 use bully_base::{NODES_MAX, Node, Setup};
 use bully_calls::{Call, CallKind, NodeEventKind, Phase};
+use bully_draft::Draft;
 use bully_table::Table;
 
 /// What a row that decided met: what the rows before it came to, what is shown of each node from node 1 on, the row's node with

@@ -2,13 +2,13 @@
 //! one for each part that differs.
 
 use crate::context::{DecisionContext, last_halt, last_row, push_start};
-use bully_draft::Draft;
 use crate::point_words::push_point_told;
 use crate::rules::RULE;
 use crate::words::push_call;
 use bully_account::EventKind;
 use bully_base::{Node, Status};
 use bully_calls::{Answer, Call, CallKind, NodeEventKind, Saying};
+use bully_draft::Draft;
 use bully_rows::{Detail, DetailedEvent, answer_word, status_word};
 use bully_steps::Point;
 use bully_trace::said_of;

@@ -6,10 +6,10 @@ ghost use Rattle.bully_world.specs.State.{world_of};
 ghost use Rattle.bully_explain.specs.Differing.{answer_in, answer_text, answers_text, callee_in, claimed_text, detailed_text, differing_text, kind_text, whole_text};
 ghost use Rattle.bully_draft.specs.Drafted.{Appends};
 
-use bully_draft::Draft;
 use crate::sides::{push_heads, push_nodes, push_sets, push_tasks, push_words};
 use bully_base::{Node, Setup};
 use bully_calls::{Answer, Saying};
+use bully_draft::Draft;
 use bully_handlers::Vector;
 use bully_rows::{
     Claim, Detail, DetailedEvent, Row, WholeClaim, answer_word, call_word, status_word,

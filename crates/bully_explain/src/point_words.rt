@@ -1,9 +1,9 @@
 //! Points in words, and the steps of an election.
 
 use crate::context::{DecisionContext, last_halt, last_move};
-use bully_draft::Draft;
 use crate::words::push_point;
 use bully_base::Setup;
+use bully_draft::Draft;
 use bully_steps::Point;
 
 /// Appends the line of the step: which of an election's, as docs/FORMATS.md counts them, and the point in words.

@@ -1,12 +1,12 @@
 //! The rule that a refused row breaks, in a sentence with what would be right: one for each of the causes.
 
 use crate::context::{DecisionContext, push_down, push_start, push_up};
-use bully_draft::Draft;
 use crate::point_words::{push_point_told, push_where};
 use crate::words::{push_call, push_members, push_offer};
 use bully_account::{EventKind, Note, What};
 use bully_base::Setup;
 use bully_calls::{NodeEventKind, PendingCall, Phase};
+use bully_draft::Draft;
 use bully_steps::Point;
 use bully_world::Event;
 

@@ -2,7 +2,6 @@
 ghost use Rattle.std.specs.Prelude.{◌<◌, length, IfSome};
 
 use crate::context::DecisionContext;
-use bully_draft::Draft;
 use crate::rules::{
     RULE, push_callee_down, push_callee_up, push_is_down, push_life, push_members_rule,
     push_needs_crash, push_nodes, push_one_call, push_one_procedure, push_orphans, push_room,
@@ -11,6 +10,7 @@ use crate::rules::{
 use crate::words::{push_held, push_offer, push_point};
 use bully_account::{NodeSheet, NodeSummary};
 use bully_base::{NODES_MAX, Node, NodeSet, Setup};
+use bully_draft::Draft;
 use bully_rows::status_word;
 use bully_table::Table;
 use bully_trace::Verdict;

@@ -10,7 +10,6 @@ use crate::claim_rules::{push_claim_rules, push_whole_rules};
 use crate::context::{DecisionContext, last_move, node_at};
 use crate::detail_rules::push_detail_rules;
 use crate::differing::push_differing;
-use bully_draft::Draft;
 use crate::point_words::push_step_line;
 use crate::rules::push_nodes_rule;
 use crate::sentences::{push_cause_rule, push_no_node, push_sentence};
@@ -18,6 +17,7 @@ use crate::words::{push_held, push_offer, push_point, push_row_place, push_vecto
 use bully_account::{Account, EventKind, Memory, NodeSheet, NodeSummary, Note, Stop, node_sheet};
 use bully_base::{Node, OutOfMemory, Status};
 use bully_calls::PendingCall;
+use bully_draft::Draft;
 use bully_rows::Row;
 use bully_steps::Point;
 use bully_table::{Table, copied};

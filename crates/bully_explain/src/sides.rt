@@ -5,8 +5,8 @@ ghost use Rattle.bully_rows.specs.TraceText.{node_text, set_text, task_text};
 ghost use Rattle.bully_explain.specs.Differing.{gap, heads, padded, part_name, sides, words_beside};
 ghost use Rattle.bully_draft.specs.Drafted.{Appends};
 
-use bully_draft::Draft;
 use bully_base::{Node, NodeSet};
+use bully_draft::Draft;
 use bully_table::Table;
 
 /// How wide the column of what a row says is, in bytes, and that of the parts' names before it.

@@ -2,10 +2,10 @@
 ghost use Rattle.bully_draft.specs.Drafted.{Appends};
 ghost use Rattle.bully_explain.specs.SheetText.{place_text};
 
-use bully_draft::Draft;
 use bully_account::{EventKind, Memory, NodeSummary, What};
 use bully_base::{NODES_MAX, Node, NodeSet};
 use bully_calls::{Answer, Call, CallKind, PendingCall, Phase};
+use bully_draft::Draft;
 use bully_rows::status_word;
 use bully_steps::{Point, Want};
 

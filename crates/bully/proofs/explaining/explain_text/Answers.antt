@@ -2,7 +2,7 @@ use Rattle.std.proofs.Common.{◌≡◌, inl, Ok, string_bytes, subst}
 use Rattle.std.proofs.lemmas.Result.{IfOk-at_ok}
 use Rattle.bully_config.specs.Answers.{answer_of}
 use Rattle.bully_config.specs.Configuration.{Configuration}
-use Rattle.bully_explain.specs.declared.config.ConfigSheet.{ConfigSheet}
+use Rattle.bully_draft.specs.declared.config.ConfigSheet.{ConfigSheet}
 use Rattle.bully_draft.specs.ConfigTold.{IsConfigText, IsConfigTold}
 use Rattle.bully.proofs.ExplainLemmas.{config-answer, free-answer}
 use Rattle.bully.proofs.explaining.explain_text.Goals as goal
