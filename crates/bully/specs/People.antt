@@ -1,5 +1,5 @@
 -- Which answers are for people, and not for programs.
-use Rattle.std.specs.Prelude.{Bool, true, false, not}
+use Rattle.std.specs.Prelude.{Bool, false, not}
 use Rattle.bully_cli.specs.Words.{Asked, annotating, checking, completing, drawing, explaining, following, planning, playing, running, upgrading}
 use Rattle.bully.specs.Answer.{is_given}
 

@@ -6,11 +6,27 @@ use crate::checking::verdict_status;
 use crate::growing::Growing;
 use crate::input::Input;
 use crate::telling::answer_fault;
-use bully_follow::{Telling, follow};
+use bully_account::Account;
+use bully_base::OutOfMemory;
+use bully_explain::account_sheet;
+use bully_follow::{Explainer, Telling, follow};
 use std::alloc::Global;
 use std::fs::OpenFile;
 use std::io::{Read, Write};
 use std::rt::Clock;
+
+// Explains a verdict by the sheet that `explain` writes of it.
+struct SheetExplainer;
+
+impl Explainer for SheetExplainer {
+    ghost use Rattle.bully_explain.specs.SheetText.{BeginsSheet};
+
+    ghost explains = { BeginsSheet };
+
+    fn explain(&self, alloc: Global, account: &Account) -> Result<String, OutOfMemory> {
+        account_sheet(alloc, account)
+    }
+}
 
 /// Follows the trace on the input, with what changes on the output, and tells the status. A regular file is one that grows.
 pub fn answer_follow<C: Clock, R: Read + Drop, F: Read + OpenFile + Drop, W: Write, E: Write>(
@@ -52,7 +68,7 @@ fn follow_input<C: Clock, R: Read + Drop, W: Write, E: Write>(
     } else {
         Telling::Words
     };
-    match follow(clock, alloc, telling, input, &mut *output) {
+    match follow(clock, &SheetExplainer, alloc, telling, input, &mut *output) {
         Ok(verdict) => verdict_status(verdict),
         Err(fault) => answer_fault(alloc, fault, errors),
     }

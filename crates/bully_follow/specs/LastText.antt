@@ -6,7 +6,6 @@ use Rattle.bully_world.specs.World.{World}
 use Rattle.bully_trace.specs.VerdictText.{verdict_text}
 use Rattle.bully_trace.specs.declared.verdict.Verdict.{Verdict}
 use Rattle.bully_account.specs.Accounts.{AccountState}
-use Rattle.bully_explain.specs.SheetText.{BeginsSheet}
 use Rattle.bully_json.specs.Objects.{sheet_line, verdict_line}
 use Rattle.bully_follow.specs.declared.lines.Telling.{Telling}
 
@@ -15,17 +14,17 @@ abbrev pub lawful_told : Telling → Setup → Verdict → World → List ℕ
 lawful_told Telling.Words setup verdict w = verdict_text setup verdict w
 lawful_told Telling.Json setup verdict w = verdict_line setup verdict w
 
--- what `explain` writes of the row that decided
+-- what explains a verdict that isn't lawful, as it is told
 abbrev pub sheet_told : Telling → Verdict → List ℕ → List ℕ
 sheet_told Telling.Words verdict sheet = sheet
 sheet_told Telling.Json verdict sheet = sheet_line verdict sheet
 
-abbrev pub IsSheetTold : Telling → AccountState → Verdict → List ℕ → Type 0
-IsSheetTold telling account verdict text = (sheet : List ℕ) × BeginsSheet account sheet × (text ≡ sheet_told telling verdict sheet)
+abbrev pub IsSheetTold : (AccountState → List ℕ → Type 0) → Telling → AccountState → Verdict → List ℕ → Type 0
+IsSheetTold explains telling account verdict text = (sheet : List ℕ) × explains account sheet × (text ≡ sheet_told telling verdict sheet)
 
 -- the one or the other, by the verdict on what the account took
-abbrev pub IsLastText : Telling → AccountState → Verdict → List ℕ → Type 0
-IsLastText telling account (Verdict.Lawful count) text =
+abbrev pub IsLastText : (AccountState → List ℕ → Type 0) → Telling → AccountState → Verdict → List ℕ → Type 0
+IsLastText explains telling account (Verdict.Lawful count) text =
     text ≡ lawful_told telling account.judge.world.setup (Verdict.Lawful count) (world_of account.judge.world)
-IsLastText telling account (Verdict.Refused number why) text = IsSheetTold telling account (Verdict.Refused number why) text
-IsLastText telling account (Verdict.Differs number) text = IsSheetTold telling account (Verdict.Differs number) text
+IsLastText explains telling account (Verdict.Refused number why) text = IsSheetTold explains telling account (Verdict.Refused number why) text
+IsLastText explains telling account (Verdict.Differs number) text = IsSheetTold explains telling account (Verdict.Differs number) text

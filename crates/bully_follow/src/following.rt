@@ -8,12 +8,12 @@ ghost use Rattle.bully_follow.specs.Followed.{IsEnded, IsFollowFault, IsFollowed
 ghost use Rattle.bully_rows.specs.RecordsLeft.{IsUnread};
 ghost use Rattle.bully_rows.specs.Rows.{IsOfWriting};
 
+use crate::explainer::Explainer;
 use crate::followed::Followed;
 use crate::lines::Telling;
 use crate::{ROOM_FROM, ROOM_STEP};
 use bully_account::{Account, TailReader};
 use bully_base::OutOfMemory;
-use bully_explain::account_sheet;
 use bully_json::{sheet_line, verdict_line};
 use bully_rows::{
     ROWS_MAX, RowReader, RowSink, TraceFault, TraceFeed, feed_each, no_header, not_written,
@@ -160,10 +160,11 @@ fn put<W: Write>(text: &str, output: &mut W) -> Result<(), TraceFault>
 }
 
 /// Judges a trace row by row as it is read, and writes a line for each change of a node's status, coordinator or task; then, at its end,
-/// what `check` writes. The first row that is refused or differs ends it: its sheet is written then. Memory is that of an account.
+/// what `check` writes. The first row that is refused or differs ends it: what explains it is written then. Memory is that of an account.
 /// Refused as `check` refuses the rows that were read; as `Write` where the output fails.
-pub fn follow<C: Clock, R: Read + Drop, W: Write + Drop>(
+pub fn follow<C: Clock, X: Explainer, R: Read + Drop, W: Write + Drop>(
     clock: &C,
+    explainer: &X,
     alloc: Global,
     telling: Telling,
     reader: R,
@@ -182,12 +183,13 @@ pub fn follow<C: Clock, R: Read + Drop, W: Write + Drop>(
             begun: None,
         },
     };
-    follow_rows(alloc, &mut rows, &mut live)
+    follow_rows(explainer, alloc, &mut rows, &mut live)
 }
 
 // Follows the rows of a text, of which none was read.
 // (what has to be dropped is owned by the function above)
-fn follow_rows<C: Clock, R: Read + Drop, W: Write>(
+fn follow_rows<C: Clock, X: Explainer, R: Read + Drop, W: Write>(
+    explainer: &X,
     alloc: Global,
     rows: &mut RowReader<TailReader<R>>,
     live: &mut Live<'_, C, W>,
@@ -200,14 +202,22 @@ fn follow_rows<C: Clock, R: Read + Drop, W: Write>(
     match &live.text.begun {
         Some(begun) => {
             let account = &begun.sink.account;
-            finish(alloc, live.telling, ended, account, &mut live.output)
+            finish(
+                explainer,
+                alloc,
+                live.telling,
+                ended,
+                account,
+                &mut live.output,
+            )
         }
         None => Err(fault_of(ended)),
     }
 }
 
 // Writes what is told at the end of the rows, or behind the one that decided, and tells the verdict.
-fn finish<W: Write>(
+fn finish<X: Explainer, W: Write>(
+    explainer: &X,
     alloc: Global,
     telling: Telling,
     ended: Result<(), Stop>,
@@ -215,7 +225,7 @@ fn finish<W: Write>(
     output: &mut W,
 ) -> Result<Verdict, TraceFault>
     ensures verdict { (known : Option (List ℕ)) (followed : FollowedState) → followed.account ≡ account.now → IsEnded known ended (Some followed) → IfOk result (IsFollowedAs known) }
-    ensures last { IfOk result (λ verdict. (text : List ℕ) × IsLastText telling account.now verdict text × Appends (W.contents output.old) (W.contents output.new) text) }
+    ensures last { IfOk result (λ verdict. (text : List ℕ) × IsLastText X.explains telling account.now verdict text × Appends (W.contents output.old) (W.contents output.new) text) }
     ensures fault { (known : Option (List ℕ)) (followed : Option FollowedState) → IsEnded known ended followed → IfErr result (IsFollowFault known) }
 {
     let verdict = match ended {
@@ -225,7 +235,7 @@ fn finish<W: Write>(
             Stop::Fault(fault) => return Err(fault),
         },
     };
-    write_last(alloc, telling, verdict, account, output)?;
+    write_last(explainer, alloc, telling, verdict, account, output)?;
     Ok(verdict)
 }
 
@@ -239,34 +249,36 @@ fn fault_of(ended: Result<(), Stop>) -> TraceFault
     }
 }
 
-// Writes the verdict as `check` does, or the sheet of the row that decided.
-fn write_last<W: Write>(
+// Writes the verdict as `check` does, or what explains it.
+fn write_last<X: Explainer, W: Write>(
+    explainer: &X,
     alloc: Global,
     telling: Telling,
     verdict: Verdict,
     account: &Account,
     output: &mut W,
 ) -> Result<(), TraceFault>
-    ensures written { OnOk result ((text : List ℕ) × IsLastText telling account.now verdict text × Appends (W.contents output.old) (W.contents output.new) text) }
+    ensures written { OnOk result ((text : List ℕ) × IsLastText X.explains telling account.now verdict text × Appends (W.contents output.old) (W.contents output.new) text) }
     ensures fault { IfErr result IsOfWriting }
 {
-    let text = last_text(alloc, telling, verdict, account)?;
+    let text = last_text(explainer, alloc, telling, verdict, account)?;
     put(text.as_str(), output)
 }
 
-// The verdict as `check` writes it, or the sheet of the row that decided.
-fn last_text(
+// The verdict as `check` writes it, or what explains it.
+fn last_text<X: Explainer>(
+    explainer: &X,
     alloc: Global,
     telling: Telling,
     verdict: Verdict,
     account: &Account,
 ) -> Result<String, OutOfMemory>
-    ensures { IfOk result (λ text. IsLastText telling account.now verdict (string_bytes text)) }
+    ensures { IfOk result (λ text. IsLastText X.explains telling account.now verdict (string_bytes text)) }
 {
     match verdict {
         Verdict::Lawful(_) => lawful_text(alloc, telling, verdict, account.world()),
         Verdict::Refused(_, _) | Verdict::Differs(_) => {
-            stopped_text(alloc, telling, verdict, account)
+            stopped_text(explainer, alloc, telling, verdict, account)
         }
     }
 }
@@ -286,16 +298,17 @@ fn lawful_text(
     }
 }
 
-// What `explain` writes of the row that decided.
-fn stopped_text(
+// What explains a verdict that isn't lawful, as it is told.
+fn stopped_text<X: Explainer>(
+    explainer: &X,
     alloc: Global,
     telling: Telling,
     verdict: Verdict,
     account: &Account,
 ) -> Result<String, OutOfMemory>
-    ensures { IfOk result (λ text. IsSheetTold telling account.now verdict (string_bytes text)) }
+    ensures { IfOk result (λ text. IsSheetTold X.explains telling account.now verdict (string_bytes text)) }
 {
-    let sheet = account_sheet(alloc, account)?;
+    let sheet = explainer.explain(alloc, account)?;
     match telling {
         Telling::Words => Ok(sheet),
         Telling::Json => sheet_line(alloc, verdict, sheet.as_str()),
