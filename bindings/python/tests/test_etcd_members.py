@@ -87,8 +87,10 @@ class OverEtcd(WithEtcd, WithFolder):
         return self.begin(node, [*WORKER, str(self.work)], *more)
 
     def worked(self) -> dict[int, tuple[int, str]]:
-        """By which token, and for which node, each partition was worked on last."""
-        found = {int(file.name): file.read_text().splitlines() for file in self.work.iterdir() if file.name != 'faults'}
+        """By which token, and for which node, each partition was worked on last. A row without its end is still being
+        written, or its worker was killed meanwhile."""
+        files = [file for file in self.work.iterdir() if file.name != 'faults']
+        found = {int(file.name): file.read_text().split('\n')[:-1] for file in files}
         return {
             partition: (int(lines[-1].split()[0]), lines[-1].split()[1]) for partition, lines in found.items() if lines
         }
