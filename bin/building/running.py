@@ -70,8 +70,9 @@ def run_beside(
     needs: Mapping[str, Sequence[str]], length: Mapping[str, int], run: Callable[[str, int], bool], children: Children
 ) -> Iterator[str]:
     """Does each task once those that it needs are done, those of long chains first, and tells its name when it is done. `length` has, as a
-    guess, how long the chain of tasks is that begins with it. `run` is given how many processes a task may use: one, and the first of those
-    that are ready what the others leave of the cores. At most one process more than cores is under way, if memory holds it."""
+    guess, how long the chain of tasks is that begins with it. `run` is given how many processes a task may use: up to two if its chain is within
+    a quarter of the longest, else one; and the first what the others that are ready leave of the cores. At most one process more than
+    cores is under way, if memory holds it: each reads alone at first."""
     tasks, cores, most = TopologicalSorter(needs), all_jobs(), all_jobs(1)
     tasks.prepare()
     ready: List[str] = []
@@ -81,7 +82,9 @@ def run_beside(
             ready = sorted([*ready, *tasks.get_ready()], key=lambda name: length[name])
             while ready and (used := sum(processes for _, processes in under_way.values())) < most:
                 name = ready.pop()
-                processes = max(cores - used - len(ready), 1)
+                longest = max(length[each] for each in (name, *(other for other, _ in under_way.values())))
+                least = 2 if 4 * length[name] >= 3 * longest else 1
+                processes = min(max(cores - used - len(ready), least), cores, most - used)
                 under_way[pool.submit(run, name, processes)] = name, processes
             for ended in wait(under_way, return_when=FIRST_COMPLETED).done:
                 name, _ = under_way.pop(ended)

@@ -58,14 +58,20 @@ class Graph(unittest.TestCase):
         return found
 
     def test_the_longest_chain_has_the_cores_that_the_others_leave(self) -> None:
-        found = self.given({'low': [], 'beside': [], 'high': ['low', 'beside']}, {'low': 40, 'beside': 20, 'high': 10}, cores=6)
-        self.assertEqual(found, {'low': 5, 'beside': 1, 'high': 6})
+        found = self.given({'low': [], 'beside': [], 'high': ['low', 'beside']}, {'low': 40, 'beside': 20, 'high': 10})
+        self.assertEqual(found, {'low': 3, 'beside': 1, 'high': 4})
 
-    def test_the_others_have_one_process(self) -> None:
-        length = {'longest': 40, 'long': 39, 'short': 10}
-        self.assertEqual(self.given({name: [] for name in length}, length), {'longest': 2, 'long': 1, 'short': 1})
-        length = {'longest': 40, 'long': 39, 'short': 10, 'another': 9, 'more': 8}
-        self.assertEqual(self.given({name: [] for name in length}, length), dict.fromkeys(length, 1))
+    def test_long_chains_have_two_processes(self) -> None:
+        for length, wanted in (
+            ({'longest': 40, 'long': 30, 'short': 10}, {'longest': 2, 'long': 2, 'short': 1}),
+            ({'longest': 40, 'short': 29, 'another': 10, 'more': 10}, {'longest': 2, 'short': 1, 'another': 1, 'more': 1}),
+        ):
+            self.assertEqual(self.given({name: [] for name in length}, length), wanted)
+
+    def test_a_chain_is_as_long_as_what_is_left(self) -> None:
+        needs: Dict[str, List[str]] = {'low': [], 'high': ['low'], 'long': ['low'], 'short': ['low']}
+        length = {'built before': 99, 'low': 90, 'high': 40, 'long': 39, 'short': 9}
+        self.assertEqual(self.given(needs, length), {'low': 4, 'high': 2, 'long': 2, 'short': 1})
 
     def test_long_chains_are_first(self) -> None:
         needs: Dict[str, List[str]] = {'first': [], 'late': ['first'], 'middle': [], 'short': []}
