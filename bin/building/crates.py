@@ -6,6 +6,8 @@ from pathlib import Path
 from typing import Dict, Iterable, List, NamedTuple, Tuple
 
 ROOT = Path(__file__).resolve().parents[2]
+# What of the kit a program is linked with: what asks the system, and the heap of C.
+ARCHIVES = ('c/libos_c.a', 'c/liblibc_c.a')
 
 
 class Stopped(Exception):

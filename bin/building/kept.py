@@ -7,7 +7,7 @@ import shutil
 from pathlib import Path
 from typing import Callable, Dict, Iterable, Iterator, Sequence, Tuple
 
-from .crates import Crate, Crates, version_of
+from .crates import Crate, Crates, Stopped, version_of
 
 
 def sum_of(crate: Crate) -> str:
@@ -19,8 +19,8 @@ def sum_of(crate: Crate) -> str:
 
 
 def made_of(crates: Crates, names: Iterable[str], kit: Path) -> Dict[str, str]:
-    """What is built of each of these crates is made of this: the kit, and the sums of the crates below it and of its own. The names are
-    also those of all crates below."""
+    """Of each of these crates what its build is made of: the kit, and the sums of all crates below it and its own. The names have to include
+    those of all crates below."""
     sums = {name: sum_of(crates[name]) for name in names}
     return {name: '\n'.join([version_of(kit), *(f'{each} {sums[each]}' for each in crates[name].all)]) + '\n' for name in sums}
 
@@ -32,6 +32,13 @@ def stamp_of(product: Path) -> Path:
 
 def is_made_of(product: Path, text: str) -> bool:
     return product.exists() and stamp_of(product).exists() and stamp_of(product).read_text() == text
+
+
+def see_unchanged(crates: Iterable[Crate], text: str) -> None:
+    """Stops if one of these crates isn't what the text says, of which something is made."""
+    for crate in crates:
+        if f'\n{crate.name} {sum_of(crate)}\n' not in text:
+            raise Stopped(f'{crate.name} changed while it was built: call it again')
 
 
 def keep(product: Path, text: str) -> None:

@@ -10,7 +10,7 @@ import tempfile
 from pathlib import Path
 from typing import List
 
-from .crates import ROOT, Stopped, find_kit, read_crates, version_of_all, words_over_libraries
+from .crates import ARCHIVES, ROOT, Stopped, find_kit, read_crates, version_of_all, words_over_libraries
 from .kept import drop
 from .proving import Say, bring, build_all, crate_of
 from .running import all_jobs
@@ -54,7 +54,7 @@ def make_files(room: Path, archive: Path) -> None:
     (room / 'names.h').write_text(''.join(f'[{number}] = "{name}",\n' for name, number in statuses))
     flags = [f'-I{HEADER.parent}', f'-I{room}', '-std=c99', '-O2', '-fPIC', '-fno-lto', '-Wall', '-Wextra', f'-DBULLY_VERSION="{version_of_all()}"']
     must([*COMPILER, *flags, '-c', f'{ROOT}/bindings/c/bully.c', '-o', layer])
-    must(['ld', '-r', '-z', 'noexecstack', '-o', whole, layer, str(archive), f'{find_kit()}/c/liblibc_c.a'])
+    must(['ld', '-r', '-z', 'noexecstack', '-o', whole, layer, str(archive), f'{find_kit()}/{ARCHIVES[1]}'])
     must(['objcopy', f'--keep-global-symbols={room}/declared', whole])
     must(['ar', 'rcsD', f'{room}/libbully.a', whole])
     must([*COMPILER, '-shared', '-o', shared, whole, '-Wl,-soname,libbully.so.0', '-Wl,-z,defs', '-Wl,-z,now', '-Wl,--gc-sections'])

@@ -6,8 +6,8 @@ import time
 from pathlib import Path
 from typing import Callable, Dict, List, NamedTuple, NoReturn, Optional
 
-from .crates import Crate, Crates, Stopped, find_kit, read_crates, version_of_all, words_over_libraries, words_over_sources
-from .kept import drop, is_made_of, keep, locked, made_of
+from .crates import ARCHIVES, Crate, Crates, Stopped, find_kit, read_crates, version_of_all, words_over_libraries, words_over_sources
+from .kept import drop, is_made_of, keep, locked, made_of, see_unchanged, stamp_of
 from .running import Children, all_jobs, become, run_beside
 
 Say = Callable[[str], None]
@@ -27,7 +27,7 @@ def run_command(name: str, status: int, command: Callable[[Say], Optional[int]])
 
 
 class Building(NamedTuple):
-    """One build: a crate, what is built of each below it is made of, when it began, and a room for what is said meanwhile."""
+    """A call that builds a crate: what that and each crate below it were made of when it began, and a folder for what the tools say."""
 
     kit: Path
     crates: Crates
@@ -41,7 +41,7 @@ class Building(NamedTuple):
     def minutes(self) -> str:
         return f'{(time.monotonic() - self.began) / 60:.1f} min'
 
-    def build(self, name: str, processes: int) -> bool:
+    def build(self, name: str, processes: int) -> None:
         """Proves and builds a crate. The first time nothing is kept for the next one, and of a library only its statements are built, by
         which those above it are proved sooner."""
         kit, crate, product = self.kit, self.crates[name], self.crates[name].product
@@ -51,16 +51,21 @@ class Building(NamedTuple):
             words += ['--incremental', 'out/incremental']
         elif crate.kind == 'library':
             words.append('--statements')
-        link = [f'{kit}/bin/rattle-link', '--target', 'x86_64-unknown-linux-gnu', '--toolchain', f'{kit}/toolchain', '-o', str(product), file]
-        link += [f'{kit}/c/libos_c.a', f'{kit}/c/liblibc_c.a']
+        see_unchanged([crate], self.made_of[name])
+        # (the prover refuses libraries over another build of this one; a program that was built goes on without it)
+        for upper in (each for each in self.crates.values() if name in each.below and each.kind == 'library'):
+            stamp_of(upper.product).unlink(missing_ok=True)
         drop(product)
-        is_built = all(self.run(name, each) for each in ([words, link] if crate.kind == 'program' else [words]))
-        if is_built:
-            keep(product, self.made_of[name])
-        return is_built
+        self.run(name, words)
+        if crate.kind == 'program':
+            link = [f'{kit}/bin/rattle-link', '--target', 'x86_64-unknown-linux-gnu', '--toolchain', f'{kit}/toolchain', '-o', str(product), file]
+            self.run(name, [*link, *(f'{kit}/{each}' for each in ARCHIVES)])
+        see_unchanged([crate], self.made_of[name])
+        keep(product, self.made_of[name])
 
-    def run(self, name: str, words: List[str]) -> bool:
-        return self.children.run(words, self.crates[name].folder, self.room / name)
+    def run(self, name: str, words: List[str]) -> None:
+        if not self.children.run(words, self.crates[name].folder, self.room / name):
+            raise Stopped(f'{name} was not built')
 
 
 def chains(crates: Crates, crate: Crate) -> Dict[str, int]:
@@ -75,7 +80,8 @@ def chains(crates: Crates, crate: Crate) -> Dict[str, int]:
 def build_all(building: Building) -> None:
     """Proves and builds each crate that isn't built of what it is made of now, as soon as those below it are."""
     crates, crate, say = building.crates, building.crate, building.say
-    due = [name for name in crate.all if not is_made_of(crates[name].product, building.made_of[name])]
+    stale = {name for name in crate.all if not is_made_of(crates[name].product, building.made_of[name])}
+    due = [name for name in crate.all if stale.intersection(crates[name].all)]
     needs = {name: [lower for lower in crates[name].below if lower in due] for name in due}
     length, new = chains(crates, crate), sum(not (crates[name].folder / 'out' / 'incremental').exists() for name in due)
     # (25 s for each from nothing, 10 s over what an earlier build kept, two minutes to compile and link; twice as much on a slow machine)
@@ -94,7 +100,7 @@ def bring(product: Path, crates: Crates, crate: Crate, say: Say, make: Callable[
     kit, began = find_kit(), time.monotonic()
     if is_made_of(product, made_of(crates, crate.all, kit)[crate.name]):
         return
-    with locked([crates[name] for name in crate.all], say) as handles, Children(handles) as children, tempfile.TemporaryDirectory() as room:
+    with locked([crates[name] for name in crate.all], say) as handles, tempfile.TemporaryDirectory() as room, Children(handles) as children:
         building = Building(kit, crates, crate, made_of(crates, crate.all, kit), say, children, Path(room), began)
         if not is_made_of(product, building.made_of[crate.name]):
             make(building)
@@ -102,7 +108,7 @@ def bring(product: Path, crates: Crates, crate: Crate, say: Say, make: Callable[
 
 def crate_of(crates: Crates, name: str, kind: str = '') -> Crate:
     if name not in crates or kind not in ('', crates[name].kind):
-        raise Stopped(f'crates.txt has no such {kind or "crate"}')
+        raise Stopped(f'crates.txt has no {kind or "crate"} of that name: {name}')
     return crates[name]
 
 

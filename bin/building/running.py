@@ -7,53 +7,66 @@ from concurrent.futures import FIRST_COMPLETED, Future, ThreadPoolExecutor, wait
 from contextlib import suppress
 from graphlib import TopologicalSorter
 from pathlib import Path
-from subprocess import DEVNULL, Popen
+from subprocess import DEVNULL, STDOUT, Popen
+from threading import Lock
 from types import FrameType
-from typing import Callable, Dict, Iterator, List, Mapping, NoReturn, Optional, Sequence, Tuple
+from typing import IO, Callable, Dict, Iterator, List, Mapping, NoReturn, Optional, Sequence, Tuple
 
 from .crates import Stopped
-
-# What a process of the prover needs, in kB.
-MEMORY_OF_ONE = 3_000_000
 
 
 def all_jobs(more: int = 0) -> int:
     """As many processes of the prover as there are cores, or some more; but one for each 3 GB of free memory, and one at least."""
     most, told = len(os.sched_getaffinity(0)) + more, Path('/proc/meminfo').read_text()
     free = re.search(r'^MemAvailable: *(\d+) kB$', told, re.MULTILINE)
-    return max(1, min(most, int(free[1]) // MEMORY_OF_ONE if free else most))
+    return max(1, min(most, int(free[1]) // 3_000_000 if free else most))
+
+
+def on_signals(answer: Callable[[int, Optional[FrameType]], object]) -> None:
+    """Has the signals that end a command answered so, but none that is ignored, as `nohup` does."""
+    for each in (signal.SIGINT, signal.SIGTERM, signal.SIGHUP):
+        if signal.getsignal(each) != signal.SIG_IGN:
+            signal.signal(each, answer)
 
 
 class Children:
     """The processes that a command has begun, each with all that it begins. They hold its locks, and are ended if it is, also by a signal."""
 
-    def __init__(self, handles: Tuple[int, ...]) -> None:
-        self.handles, self.is_ending = handles, False
+    def __init__(self, handles: Tuple[int, ...] = ()) -> None:
+        self.handles, self.is_ending, self.lock = handles, False, Lock()
         self.begun: 'List[Popen[bytes]]' = []
+
+    def begin(self, words: Sequence[str], folder: Path, out: 'int | IO[bytes]', errors: Optional[int] = STDOUT) -> 'Popen[bytes]':
+        """Begins these words in a folder, in a group of processes of their own. Nothing begins once the command ends."""
+        with self.lock:
+            if self.is_ending:
+                raise Stopped('nothing more is begun')
+            child = Popen(words, cwd=folder, stdin=DEVNULL, stdout=out, stderr=errors, pass_fds=self.handles, start_new_session=True)
+            self.begun.append(child)
+        return child
 
     def run(self, words: Sequence[str], folder: Path, said: Path) -> bool:
         """Whether these words, run in a folder, end with status 0. What they say goes into a file, and is told if they don't."""
         with said.open('ab') as out:
-            child = Popen(words, cwd=folder, stdin=DEVNULL, stdout=out, stderr=out, pass_fds=self.handles, start_new_session=True)
-        self.begun.append(child)
-        if self.is_ending:
-            self.end()
-        if child.wait() and not self.is_ending:
-            sys.stderr.write(said.read_text(errors='replace'))
-        return child.returncode == 0
+            status = self.begin(words, folder, out).wait()
+        if status and not self.is_ending:
+            how = f'{Path(words[0]).name} was ended by signal {-status}\n' if status < 0 else ''
+            sys.stderr.write(said.read_text(errors='replace') + how)
+        return status == 0
 
     def end(self, *_: object) -> None:
-        self.is_ending = True
+        """Ends them all, and waits until they are."""
+        with self.lock:
+            self.is_ending = True
         for child in (each for each in self.begun if each.poll() is None):
             with suppress(ProcessLookupError):
                 os.killpg(child.pid, signal.SIGTERM)
+        for child in self.begun:
+            child.wait()
 
     def __enter__(self) -> 'Children':
-        def leave(number: int, _: Optional[FrameType]) -> None:
-            raise SystemExit(128 + number)
-
-        for each in (signal.SIGINT, signal.SIGTERM, signal.SIGHUP):
-            signal.signal(each, leave)
+        """From here on a signal that would end the command has it leave, and so end them."""
+        on_signals(lambda number, _: sys.exit(128 + number))
         return self
 
     __exit__ = end
@@ -67,7 +80,7 @@ def become(words: Sequence[str]) -> NoReturn:
 
 
 def run_beside(
-    needs: Mapping[str, Sequence[str]], length: Mapping[str, int], run: Callable[[str, int], bool], children: Children
+    needs: Mapping[str, Sequence[str]], length: Mapping[str, int], run: Callable[[str, int], object], children: Children
 ) -> Iterator[str]:
     """Does each task once those that it needs are done, those of long chains first, and tells its name when it is done. `length` has, as a
     guess, how long the chain of tasks is that begins with it. `run` is given how many processes a task may use: up to two if its chain is within
@@ -76,7 +89,7 @@ def run_beside(
     tasks, cores, most = TopologicalSorter(needs), all_jobs(), all_jobs(1)
     tasks.prepare()
     ready: List[str] = []
-    under_way: 'Dict[Future[bool], Tuple[str, int]]' = {}
+    under_way: 'Dict[Future[object], Tuple[str, int]]' = {}
     with ThreadPoolExecutor(most) as pool, children:
         while tasks.is_active():
             ready = sorted([*ready, *tasks.get_ready()], key=lambda name: length[name])
@@ -88,7 +101,6 @@ def run_beside(
                 under_way[pool.submit(run, name, processes)] = name, processes
             for ended in wait(under_way, return_when=FIRST_COMPLETED).done:
                 name, _ = under_way.pop(ended)
-                if not ended.result():
-                    raise Stopped(f'{name} was not built')
+                ended.result()
                 tasks.done(name)
                 yield name
