@@ -20,14 +20,14 @@ class Counts:
             print(*filter(None, (f'FAILED: {what}', *(str(each).rstrip() for each in more))), sep='\n', flush=True)
 
     def add(self, said: str, status: int, command: str) -> None:
-        """Adds the counts of the last line that a command said. One that ended badly has to count a failure."""
+        """Adds the counts of the last line that a command said. One that ended badly has to count a failure, and each has to count one at all."""
         lines = said.splitlines()
         last = LAST.fullmatch(lines[-1]) if lines else None
         if last:
             self.passed, self.failed = self.passed + int(last[1]), self.failed + int(last[2])
-        else:
+        if not last or int(last[1]) + int(last[2]) == 0:
             self.hold(False, f'{command} ended with no last line that counts')
-        if status and (not last or last[2] == '0'):
+        if status and (not last or int(last[2]) == 0):
             self.hold(False, f'{command} ended with status {status}')
 
     def last(self) -> str:

@@ -1,5 +1,6 @@
 """The gate, `rt ci`, and what is tried beside it: each part as soon as the gate has proved and built what it needs."""
 import hashlib
+import io
 import os
 import re
 import shutil
@@ -7,12 +8,13 @@ import subprocess
 import sys
 import tempfile
 from concurrent.futures import ThreadPoolExecutor
+from contextlib import ExitStack
 from threading import Event
-from typing import Dict, List, NamedTuple, Tuple
+from typing import Dict, Iterable, List, NamedTuple, Tuple
 
 from building.crates import ROOT, Crates, find_kit, read_crates, version_of
 from building.kept import drop, keep, made_of
-from building.running import all_jobs
+from building.running import Children, all_jobs
 from counts import Counts
 
 RECORD = ROOT / 'out' / 'proved'
@@ -37,7 +39,8 @@ PARTS = [
     Part(('tests/members/wrong', '--fit')),
     Part(('tests/release/first_build',)),
     Part(('tests/build/try',)),
-    Part(('bin/library', '--gated', 'LIBRARY'), ('bully_agent', 'bully_lines', 'bully_member', 'bully_simulator'), makes='LIBRARY'),
+    # (behind it the bindings also need bully_simulator)
+    Part(('bin/library', '--gated', 'LIBRARY'), (*read_crates()['bully_c'].below, 'bully_simulator'), makes='LIBRARY'),
     Part(('bindings/try', '--unpacked', 'LIBRARY'), ('LIBRARY',), 7200),
     Part(('tests/release/try', 'LIBRARY', 'crates/bully/out/bully'), ('bully', 'LIBRARY'), 1800),
     Part(('tests/cluster/simulate',), ('bully', 'bully_simulator'), 1800),
@@ -48,56 +51,62 @@ PARTS = [
 Done = Dict[str, Event]
 
 
-def run_gate(done: Done) -> Tuple[str, int]:
-    """What `rt ci` said, and its status. It is told which crates it is done with."""
-    environment = {**os.environ, 'PYTHONUNBUFFERED': '1', 'RT_JOBS': os.environ.get('RT_JOBS') or str(all_jobs())}
+def run_gate(done: Done, children: Children, counts: Counts) -> bool:
+    """Runs `rt ci`, sets which crates it is done with, and adds its counts. Returns whether it was green."""
+    jobs = os.environ.get('RT_JOBS') or str(all_jobs())
+    gate = children.begin(['env', 'PYTHONUNBUFFERED=1', f'RT_JOBS={jobs}', 'rt', 'ci'], ROOT, subprocess.PIPE, errors=None)
     lines: List[str] = []
-    with subprocess.Popen(
-        ['rt', 'ci'], cwd=ROOT, env=environment, stdin=subprocess.DEVNULL, stdout=subprocess.PIPE, text=True, errors='replace'
-    ) as gate:
-        for line in gate.stdout or ():
-            print(line, end='', flush=True)
-            lines.append(line)
-            done.get((DONE.findall(line) or [''])[0], Event()).set()
-    return ''.join(lines), gate.returncode
+    for line in io.TextIOWrapper(gate.stdout or io.BytesIO(), errors='replace'):
+        print(line, end='', flush=True)
+        lines.append(line)
+        done.get((DONE.findall(line) or [''])[0], Event()).set()
+    said, status = ''.join(lines), gate.wait()
+    counts.add(said, status, 'rt ci')
+    if 'BAD EDIT' in said:
+        counts.hold(False, 'a must-fail edit fits nothing, and says nothing of a contract')
+    return status == 0
 
 
-def run_part(part: Part, done: Done, room: str) -> Tuple[str, int]:
+def run_part(part: Part, done: Done, room: str, children: Children) -> Tuple[str, int]:
     """What the part said, and its status, once all is done that it needs."""
     for name in part.behind:
         done[name].wait()
     words = [f'{room}/library' if word == 'LIBRARY' else word for word in ('timeout', str(part.limit), *part.words)]
     try:
         with tempfile.TemporaryFile() as said:
-            status = subprocess.run(words, cwd=ROOT, stdin=subprocess.DEVNULL, stdout=said, stderr=subprocess.STDOUT).returncode
+            status = children.begin(words, ROOT, said).wait()
             said.seek(0)
             return said.read().decode(errors='replace'), status
     finally:
         done[part.makes].set()
 
 
+def add_part(part: Part, said: str, status: int, counts: Counts) -> None:
+    print(said.rstrip('\n'), flush=True)
+    if not part.makes:
+        counts.add(said, status, ' '.join(part.words))
+    elif status:
+        counts.hold(False, f'{part.words[0]} ended with status {status}')
+
+
+def set_all(events: Iterable[Event]) -> None:
+    for event in events:
+        event.set()
+
+
 def run_parts(parts: List[Part], counts: Counts, is_gated: bool) -> bool:
-    """Runs the gate, if it is to be run, and the parts beside it, and adds their counts. It is told if the gate was green."""
-    done, status = {name: Event() for part in parts for name in (*part.behind, part.makes)}, 1
-    with tempfile.TemporaryDirectory() as room, ThreadPoolExecutor(len(parts)) as pool:
-        begun = [(part, pool.submit(run_part, part, done, room)) for part in parts]
-        try:
-            if is_gated:
-                said, status = run_gate(done)
-                counts.add(said, status, 'rt ci')
-                if 'BAD EDIT' in said:
-                    counts.hold(False, 'a must-fail edit fits nothing, and says nothing of a contract')
-        finally:
-            for name in done.keys() - {part.makes for part in parts}:
-                done[name].set()
+    """Runs the gate, if it is to be run, and the parts beside it, and adds their counts. Returns whether the gate was green. If this command
+    is ended meanwhile, what runs is ended, too; then those that wait go on, and begin nothing."""
+    done = {name: Event() for part in parts for name in (*part.behind, part.makes)}
+    crates = done.keys() - {part.makes for part in parts}
+    with tempfile.TemporaryDirectory() as room, ThreadPoolExecutor(len(parts)) as pool, ExitStack() as behind, Children() as children:
+        behind.callback(set_all, done.values())
+        begun = [(part, pool.submit(run_part, part, done, room, children)) for part in parts]
+        is_green = is_gated and run_gate(done, children, counts)
+        set_all(done[name] for name in crates)
         for part, ended in begun:
-            said, failed = ended.result()
-            print(said.rstrip('\n'), flush=True)
-            if not part.makes:
-                counts.add(said, failed, ' '.join(part.words))
-            elif failed:
-                counts.hold(False, f'{part.words[0]} ended with status {failed}')
-    return status == 0
+            add_part(part, *ended.result(), counts)
+    return is_green
 
 
 def take_gated(crates: Crates, texts: Dict[str, str]) -> None:
@@ -112,9 +121,12 @@ def take_gated(crates: Crates, texts: Dict[str, str]) -> None:
 
 
 def commit_here() -> str:
-    """The commit that stands here; nothing if something isn't committed."""
-    words = ['git', '-C', str(ROOT), 'status', '--porcelain=v2', '--branch']
-    told = subprocess.run(words, stdout=subprocess.PIPE, stderr=subprocess.DEVNULL, text=True).stdout.splitlines()
+    """The commit that stands here; nothing if something isn't committed, or if there is no git to tell it."""
+    words = ['git', '-C', str(ROOT), 'status', '--porcelain=v2', '--branch', '--untracked-files=all']
+    try:
+        told = subprocess.run(words, stdout=subprocess.PIPE, stderr=subprocess.DEVNULL, text=True).stdout.splitlines()
+    except FileNotFoundError:
+        return ''
     return told[0].split()[-1] if told and all(line.startswith('#') for line in told) else ''
 
 
@@ -151,7 +163,8 @@ def test_all() -> Counts:
 def test_cases() -> Counts:
     """The cases over the program that bin/bully builds, and the pages."""
     counts = Counts()
-    if subprocess.run([str(ROOT / 'bin' / 'bully'), 'help'], stdout=subprocess.DEVNULL).returncode:
-        counts.hold(False, 'bin/bully does not build the program')
+    with Children() as children:
+        if children.begin(['bin/bully', 'help'], ROOT, subprocess.DEVNULL, errors=None).wait():
+            counts.hold(False, 'bin/bully does not build the program')
     run_parts([*PAGES, *CASES], counts, is_gated=False)
     return counts

@@ -50,8 +50,7 @@ Crates = Dict[str, Crate]
 
 def read_crates(root: Path = ROOT) -> Crates:
     """The crates whose folders are there, each behind those that it stands on."""
-    lines = [line for line in (root / 'crates.txt').read_text().splitlines() if ':' in line and not line.startswith('#')]
-    heads = {line.split(':')[0].split()[0]: line for line in lines}
+    heads = {line.split(':')[0].split()[0]: line for line in (root / 'crates.txt').read_text().splitlines() if ':' in line and line[0] != '#'}
     named = {name: line.partition(':')[2].split() for name, line in heads.items() if (root / 'crates' / name).is_dir()}
     crates: Crates = {}
     try:

@@ -60,8 +60,7 @@ class Building(NamedTuple):
         if crate.kind == 'program':
             link = [f'{kit}/bin/rattle-link', '--target', 'x86_64-unknown-linux-gnu', '--toolchain', f'{kit}/toolchain', '-o', str(product), file]
             self.run(name, [*link, *(f'{kit}/{each}' for each in ARCHIVES)])
-        see_unchanged([crate], self.made_of[name])
-        keep(product, self.made_of[name])
+        keep(product, self.made_of[name], [crate])
 
     def run(self, name: str, words: List[str]) -> None:
         if not self.children.run(words, self.crates[name].folder, self.room / name):
@@ -108,7 +107,7 @@ def bring(product: Path, crates: Crates, crate: Crate, say: Say, make: Callable[
 
 def crate_of(crates: Crates, name: str, kind: str = '') -> Crate:
     if name not in crates or kind not in ('', crates[name].kind):
-        raise Stopped(f'crates.txt has no {kind or "crate"} of that name: {name}')
+        raise Stopped(f'crates.txt has no {kind or "crate"} {name or "without a name"}')
     return crates[name]
 
 

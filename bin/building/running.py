@@ -10,7 +10,7 @@ from pathlib import Path
 from subprocess import DEVNULL, STDOUT, Popen
 from threading import Lock
 from types import FrameType
-from typing import IO, Callable, Dict, Iterator, List, Mapping, NoReturn, Optional, Sequence, Tuple
+from typing import IO, Callable, Dict, Iterator, List, NoReturn, Optional, Sequence, Tuple
 
 from .crates import Stopped
 
@@ -41,9 +41,8 @@ class Children:
         with self.lock:
             if self.is_ending:
                 raise Stopped('nothing more is begun')
-            child = Popen(words, cwd=folder, stdin=DEVNULL, stdout=out, stderr=errors, pass_fds=self.handles, start_new_session=True)
-            self.begun.append(child)
-        return child
+            self.begun.append(Popen(words, cwd=folder, stdin=DEVNULL, stdout=out, stderr=errors, pass_fds=self.handles, start_new_session=True))
+            return self.begun[-1]
 
     def run(self, words: Sequence[str], folder: Path, said: Path) -> bool:
         """Whether these words, run in a folder, end with status 0. What they say goes into a file, and is told if they don't."""
@@ -79,9 +78,7 @@ def become(words: Sequence[str]) -> NoReturn:
     os.execv(words[0], list(words))
 
 
-def run_beside(
-    needs: Mapping[str, Sequence[str]], length: Mapping[str, int], run: Callable[[str, int], object], children: Children
-) -> Iterator[str]:
+def run_beside(needs: Dict[str, List[str]], length: Dict[str, int], run: Callable[[str, int], object], children: Children) -> Iterator[str]:
     """Does each task once those that it needs are done, those of long chains first, and tells its name when it is done. `length` has, as a
     guess, how long the chain of tasks is that begins with it. `run` is given how many processes a task may use: up to two if its chain is within
     a quarter of the longest, else one; and the first what the others that are ready leave of the cores. At most one process more than
