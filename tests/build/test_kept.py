@@ -9,19 +9,10 @@ from typing import Any, Dict, List, Tuple
 from unittest import mock
 
 from building.crates import Stopped, read_crates
-from building.kept import sum_of
-from building.proving import chains
+from building.kept import made_of, stamp_of, sum_of
+from building.proving import Building, chains
 from building.running import Children, all_jobs, run_beside
-from stand_in import Tree, waited
-
-
-def is_there(process: int) -> bool:
-    """Whether the process runs: one that ended and that nobody waits for doesn't."""
-    try:
-        with open(f'/proc/{process}/stat') as told:
-            return told.read().rpartition(')')[2].split()[0] != 'Z'
-    except FileNotFoundError:
-        return False
+from stand_in import Tree, is_there, waited
 
 
 class Graph(unittest.TestCase):
@@ -173,9 +164,70 @@ class Kept(unittest.TestCase):
         subprocess.run(['rm', '-r', str(self.tree.top / 'crates' / 'right' / 'proofs')], check=True)
         self.assertEqual(self.built_behind(), ['bully', 'right'])
 
+    def test_a_library_that_was_taken_away_has_those_above_built(self) -> None:
+        self.build_first()
+        subprocess.run(['rm', '-r', str(self.tree.top / 'crates' / 'base' / 'out' / 'built')], check=True)
+        self.tree.write('bully', 'src/main.rt', '// another program\n')
+        self.assertEqual(self.built_behind(), ['base', 'bully', 'left', 'right'])
+
+    def test_a_program_that_was_taken_away_is_built(self) -> None:
+        self.build_first()
+        (self.tree.top / 'crates' / 'bully' / 'out' / 'bully').unlink()
+        self.assertEqual(self.built_behind(), ['bully'])
+
+    def test_another_kit_has_all_built(self) -> None:
+        self.build_first()
+        (self.tree.room / 'kit' / 'KIT-ID').write_text('another one\n')
+        self.assertEqual(self.built_behind(), ['base', 'bully', 'left', 'right'])
+
+    def test_libraries_over_a_new_build_have_no_stamps_and_the_program_keeps_its_own(self) -> None:
+        self.build_first()
+        crates, kit = read_crates(self.tree.top), self.tree.room / 'kit'
+        prover = mock.create_autospec(Children, instance=True)
+        prover.run.return_value = False
+        building = Building(kit, crates, crates['bully'], made_of(crates, crates, kit), print, prover, self.tree.room, 0.0)
+        with self.assertRaisesRegex(Stopped, 'left was not built'):
+            building.build('left', 1)
+        self.assertEqual([name for name in crates if stamp_of(crates[name].product).exists()], ['base', 'right', 'bully'])
+        with self.assertRaisesRegex(Stopped, 'base was not built'):
+            building.build('base', 1)
+        self.assertEqual([name for name in crates if stamp_of(crates[name].product).exists()], ['bully'])
+
+    def test_what_is_made_and_not_proved_is_not_taken_for_what_was_before(self) -> None:
+        self.build_first()
+        self.tree.write('base', 'src/lib.rt', '// another base\n')
+        (self.tree.room / 'late' / 'base').touch()
+        self.assertIn('base is made, and was not proved\n', self.build().stderr)
+        (self.tree.room / 'late' / 'base').unlink()
+        self.tree.write('base', 'src/lib.rt', '// base\n')
+        self.assertEqual(self.built_behind(), [])
+        self.tree.write('bully', 'src/main.rt', '// another program\n')
+        self.assertEqual(self.built_behind(), ['base', 'bully', 'left', 'right'])
+
+    def test_what_changed_while_it_was_built_is_not_kept(self) -> None:
+        self.tree.hold('left')
+        call = self.tree.begin('bully', 'it')
+        waited(lambda: self.tree.process_of('left') is not None, 'left is begun')
+        self.tree.write('left', 'src/lib.rt', '// another left\n')
+        self.tree.let_go('left')
+        self.assertEqual((call.communicate(timeout=60)[0], call.returncode), ('', 125))
+        self.assertIn('bully: left changed while it was built: call this again\n', self.tree.said())
+        self.tree.write('left', 'src/lib.rt', '// left\n')
+        self.assertIn('left', self.built_behind())
+
+    def test_what_changed_before_its_turn_is_not_built(self) -> None:
+        self.tree.hold('base')
+        call = self.tree.begin('bully', 'it')
+        waited(lambda: self.tree.process_of('base') is not None, 'base is begun')
+        self.tree.write('left', 'src/lib.rt', '// another left\n')
+        self.tree.let_go('base')
+        call.communicate(timeout=60)
+        self.assertEqual((call.returncode, 'left' in self.tree.begun()), (125, False))
+        self.assertIn('bully: left changed while it was built: call this again\n', self.tree.said())
+
     def test_a_deleted_crate_has_those_above_built(self) -> None:
         self.build_first()
-        self.tree.list_crates({'base': '', 'left': 'base', 'bully': 'left', 'bully_trace': 'base'})
+        self.tree.list_crates({'base': '', 'left': 'base', 'bully': 'left'})
         subprocess.run(['rm', '-r', str(self.tree.top / 'crates' / 'right')], check=True)
         self.assertEqual(self.built_behind(), ['bully'])
 

@@ -3,7 +3,7 @@ import subprocess
 import unittest
 from pathlib import Path
 
-from stand_in import Tree
+from stand_in import Tree, waited
 
 # A program that ends as a check ends one: it writes AddressSanitizer's report with the places of its functions, and aborts.
 CHECKED = r'''
@@ -66,6 +66,25 @@ class Trying(unittest.TestCase):
         self.assertIn('error: expected an item\n', refused.stderr)
         (self.tree.room / 'refuse' / 'try').unlink()
         self.assertEqual(self.tree.call('try').returncode, 0)
+
+    def test_what_is_not_built_leaves_nothing_of_before(self) -> None:
+        self.tree.call('try')
+        self.tree.write('left', 'src/lib.rt', '// another left\n')
+        (self.tree.room / 'refuse' / 'try').touch()
+        self.assertEqual([self.tree.call('try').returncode for _ in range(2)], [125, 125])
+        self.assertFalse((self.tree.top / 'out' / 'try' / 'bully').exists())
+
+    def test_what_changed_while_it_was_built_is_not_kept(self) -> None:
+        self.tree.hold('try')
+        call = self.tree.begin('try', 'it')
+        waited(lambda: self.tree.process_of('try') is not None, 'it is begun')
+        self.tree.write('base', 'src/lib.rt', '// another base\n')
+        self.tree.let_go('try')
+        self.assertEqual((call.communicate(timeout=60)[0], call.returncode), ('', 125))
+        self.assertIn('bully: base changed while it was built: call this again\n', self.tree.said())
+        self.tree.write('base', 'src/lib.rt', '// base\n')
+        self.tree.call('try')
+        self.assertEqual(self.tree.begun(), ['try', 'try'])
 
     def test_tells_in_a_sentence_which_check_ended_it(self) -> None:
         self.tree.call('try')

@@ -1,0 +1,158 @@
+"""What the commands tell the prover, how they end, and what they do with what was built."""
+import re
+import signal
+import unittest
+from typing import List
+
+from stand_in import Tree, is_there, waited
+
+HEADER = """typedef int bully_status;
+enum {
+    BULLY_OK = 0,
+};
+bully_status bully_begin(int number);
+"""
+LAYER = """#include "bully.h"
+bully_status bully_begin(int number) { return number; }
+"""
+
+
+class Commands(unittest.TestCase):
+    def setUp(self) -> None:
+        self.tree = Tree()
+        self.addCleanup(self.tree.remove)
+
+    def words(self, name: str, source: str, *more: str) -> List[str]:
+        """What the prover is told of a crate, with what more it is told; N stands for how many processes it may use."""
+        kit = self.tree.room / 'kit'
+        logic = ['--antt-project', f'{kit}/rattle/logic/antt-project.json', '--logic-built', f'{kit}/logic_built', '--links', f'{name}=']
+        return ['--crate-name', name, f'src/{source}', '-L', f'dependency={kit}/rlibs', *logic, *more]
+
+    def told(self, since: int = 0) -> 'dict[str, list[str]]':
+        return {name: re.sub(r'--jobs \d+', '--jobs N', ' '.join(words)).split() for name, *words in self.tree.words()[since:]}
+
+    def test_the_prover_is_told_what_a_crate_stands_on_and_what_is_kept(self) -> None:
+        kit, crates = self.tree.room / 'kit', self.tree.top / 'crates'
+        std, tools = ['--extern', f'std={kit}/rlibs/std.rlib'], ['--toolchain', f'{kit}/toolchain', '--jobs', 'N', '-o']
+        below, over = ['-L', f'dependency={crates}/base/out/built'], ['--extern', f'base={crates}/base/out/built/base.rlib']
+        left = ['build', *self.words('left', 'lib.rt', *std, *over, *below, *tools, f'{crates}/left/out/built/left.rlib')]
+        for name in ('left', 'right'):
+            over = [*(over if name == 'right' else []), '--extern', f'{name}={crates}/{name}/out/built/{name}.rlib']
+            below += ['-L', f'dependency={crates}/{name}/out/built']
+        over = [word for name in ('left', 'right') for word in ('--extern', f'{name}={crates}/{name}/out/built/{name}.rlib')]
+        bully = ['build', *self.words('bully', 'main.rt', *std, *over, *below, '--backend', 'llvm', *tools, f'{crates}/bully/out/bully.o')]
+        self.tree.call('bully')
+        first = self.told()
+        self.assertEqual((first['left'], first['bully']), ([*left, '--statements'], bully))
+        self.tree.write('left', 'src/lib.rt', '// another left\n')
+        self.tree.call('bully')
+        kept = ['--incremental', 'out/incremental']
+        self.assertEqual(self.told(4), {'left': [*left, *kept], 'bully': [*bully, *kept]})
+
+    def test_the_program_reads_the_standard_input(self) -> None:
+        for command in ('bully', 'try'):
+            for _ in range(2):
+                self.assertEqual(self.tree.call(command, 'it', given='a row\n').stdout, 'stand-in it\na row\n')
+
+    def test_check_has_one_run_over_sources_and_keeps_others_out(self) -> None:
+        self.tree.hold('left')
+        call = self.tree.begin('check', 'left', '--only', 'half')
+        waited(lambda: self.tree.process_of('left') is not None, 'left is checked')
+        beside = self.tree.begin('bully', 'it')
+        waited(lambda: 'waits for another call, which builds or checks base' in self.tree.said(), 'the other call waits')
+        self.assertEqual(self.tree.begun(), ['left'])
+        self.tree.let_go('left')
+        call.communicate(timeout=60)
+        self.assertEqual((call.returncode, beside.communicate(timeout=60)[0]), (3, 'stand-in it\n'))
+        kit = self.tree.room / 'kit'
+        sources = ['--lib', f'base:core,std={self.tree.top}/crates/base/src/lib.rt']
+        given = [word for name in ('core', 'std') for word in ('--extern', f'{name}={kit}/rlibs/{name}.rlib')]
+        more = ['--jobs', 'N', '--incremental', 'out/whole', '--only', 'half']
+        name, *words = self.tree.words()[0]
+        self.assertEqual(name, 'left')
+        self.assertEqual(re.sub(r'--jobs \d+', '--jobs N', ' '.join(words)).split(), ['check', *self.words('left', 'lib.rt', *given, *sources, *more)])
+
+    def test_check_is_of_bully_if_no_crate_is_named(self) -> None:
+        self.assertEqual(self.tree.call('check').returncode, 3)
+        self.assertEqual(self.tree.begun(), ['bully'])
+        refused = self.tree.call('check', 'nobody')
+        self.assertEqual((refused.returncode, refused.stderr), (2, 'check: crates.txt has no crate nobody\n'))
+
+    def test_program_builds_the_one_that_is_named(self) -> None:
+        self.assertEqual(self.tree.call('program', 'bully', 'one', 'two').stdout, 'stand-in one two\n')
+        for words, said in (((), 'program: crates.txt has no program without a name\n'), (('left',), 'left: crates.txt has no program left\n')):
+            refused = self.tree.call('program', *words)
+            self.assertEqual((refused.returncode, refused.stderr), (125, said))
+
+    def test_library_is_made_of_the_archive_and_stays_if_that_is_not_proved(self) -> None:
+        self.tree.list_crates({'base': '', 'bully_c staticlib': 'base'})
+        self.tree.write('bully_c', 'src/lib.rt', '// the functions for C\n')
+        for name, text in (('include/bully.h', HEADER), ('bindings/c/bully.c', LAYER)):
+            (self.tree.top / name).parent.mkdir(parents=True)
+            (self.tree.top / name).write_text(text)
+        folder = self.tree.room / 'library'
+        made = self.tree.call('library', str(folder))
+        self.assertEqual((made.returncode, made.stdout), (0, ''), made.stderr)
+        self.assertEqual(sorted(path.name for path in folder.iterdir()), ['bully.h', 'libbully.a', 'libbully.so', 'libbully.so.0'])
+        words = self.tree.words()[1]
+        self.assertEqual((words[0], words[words.index('--crate-type') + 1]), ('bully_c', 'staticlib'))
+        self.assertEqual(words[-2:], ['-o', f'{self.tree.top}/crates/bully_c/out/libbully_c.a'])
+        before = {path.name: path.stat().st_ino for path in folder.iterdir()}
+        self.tree.write('base', 'src/lib.rt', '// another base\n')
+        (self.tree.room / 'refuse' / 'base').touch()
+        self.assertEqual(self.tree.call('library', str(folder)).returncode, 1)
+        self.assertEqual({path.name: path.stat().st_ino for path in folder.iterdir()}, before)
+        self.assertEqual([self.tree.call('library', *words).returncode for words in (('',), ('a', 'b'), ('--other', 'a'))], [2, 2, 2])
+
+
+class Ending(unittest.TestCase):
+    def setUp(self) -> None:
+        self.tree = Tree()
+        self.addCleanup(self.tree.remove)
+
+    def test_a_signal_ends_the_prover_and_what_that_began(self) -> None:
+        for number in (signal.SIGINT, signal.SIGHUP, signal.SIGTERM):
+            with self.subTest(signal=number):
+                self.setUp()
+                self.tree.hold('base')
+                (self.tree.room / 'child').touch()
+                call = self.tree.begin('bully', 'it')
+                waited(lambda: ['child', 'base'] in [line[:2] for line in self.tree.log()], 'the prover has a child')
+                call.send_signal(number)
+                self.assertEqual((call.communicate(timeout=60)[0], call.returncode), ('', 128 + number))
+                self.assertFalse(is_there(self.tree.process_of('base') or 0))
+                child = int((self.tree.room / 'child').read_text())
+                waited(lambda: not is_there(child), 'the child is gone')
+
+    def test_a_signal_that_is_ignored_ends_nothing(self) -> None:
+        self.tree.hold('base')
+        call = self.tree.begin('bully', 'it', ignored=(signal.SIGHUP,))
+        waited(lambda: self.tree.process_of('base') is not None, 'base is begun')
+        call.send_signal(signal.SIGHUP)
+        self.tree.let_go('base')
+        self.assertEqual((call.communicate(timeout=60)[0], call.returncode), ('stand-in it\n', 0))
+
+    def test_a_prover_that_is_killed_is_told(self) -> None:
+        (self.tree.room / 'kill' / 'left').touch()
+        ended = self.tree.call('bully')
+        self.assertEqual(ended.returncode, 125)
+        self.assertIn('rattle was ended by signal 9\n', ended.stderr)
+        self.assertIn('bully: left was not built\n', ended.stderr)
+
+    def test_what_builds_without_proofs_ends_before_its_folder_goes(self) -> None:
+        self.tree.hold('try')
+        call = self.tree.begin('try', 'it')
+        waited(lambda: self.tree.process_of('try') is not None, 'it is begun')
+        call.send_signal(signal.SIGTERM)
+        call.communicate(timeout=60)
+        self.assertEqual(call.returncode, 128 + signal.SIGTERM)
+        self.assertEqual([what for what, *_ in self.tree.log()], ['begin', 'end'])
+
+    def test_a_program_without_proofs_has_the_signal(self) -> None:
+        self.tree.call('try')
+        (self.tree.top / 'out' / 'try' / 'bully').write_text('#!/bin/sh\ntrap "exit 7" TERM\necho up\nwhile :; do sleep 0.01; done\n')
+        call = self.tree.begin('try')
+        self.assertEqual(call.stdout.readline() if call.stdout else '', 'up\n')
+        call.send_signal(signal.SIGTERM)
+        call.communicate(timeout=60)
+        self.assertEqual(call.returncode, 7)
