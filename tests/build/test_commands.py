@@ -23,24 +23,24 @@ class Commands(unittest.TestCase):
         self.addCleanup(self.tree.remove)
 
     def words(self, name: str, source: str, *more: str) -> List[str]:
-        """What the prover is told of a crate, with what more it is told; N stands for how many processes it may use."""
+        """What the prover is told of each crate, and what more of this one."""
         kit = self.tree.room / 'kit'
         logic = ['--antt-project', f'{kit}/rattle/logic/antt-project.json', '--logic-built', f'{kit}/logic_built', '--links', f'{name}=']
         return ['--crate-name', name, f'src/{source}', '-L', f'dependency={kit}/rlibs', *logic, *more]
 
     def told(self, since: int = 0) -> 'dict[str, list[str]]':
+        """What the prover was told of each crate, behind so many runs of it. N stands for how many processes it might use."""
         return {name: re.sub(r'--jobs \d+', '--jobs N', ' '.join(words)).split() for name, *words in self.tree.words()[since:]}
 
     def test_the_prover_is_told_what_a_crate_stands_on_and_what_is_kept(self) -> None:
         kit, crates = self.tree.room / 'kit', self.tree.top / 'crates'
         std, tools = ['--extern', f'std={kit}/rlibs/std.rlib'], ['--toolchain', f'{kit}/toolchain', '--jobs', 'N', '-o']
-        below, over = ['-L', f'dependency={crates}/base/out/built'], ['--extern', f'base={crates}/base/out/built/base.rlib']
-        left = ['build', *self.words('left', 'lib.rt', *std, *over, *below, *tools, f'{crates}/left/out/built/left.rlib')]
-        for name in ('left', 'right'):
-            over = [*(over if name == 'right' else []), '--extern', f'{name}={crates}/{name}/out/built/{name}.rlib']
-            below += ['-L', f'dependency={crates}/{name}/out/built']
-        over = [word for name in ('left', 'right') for word in ('--extern', f'{name}={crates}/{name}/out/built/{name}.rlib')]
-        bully = ['build', *self.words('bully', 'main.rt', *std, *over, *below, '--backend', 'llvm', *tools, f'{crates}/bully/out/bully.o')]
+        over = {name: ['--extern', f'{name}={crates}/{name}/out/built/{name}.rlib'] for name in ('base', 'left', 'right')}
+        below = {name: ['-L', f'dependency={crates}/{name}/out/built'] for name in over}
+        more = [*std, *over['base'], *below['base'], *tools, f'{crates}/left/out/built/left.rlib']
+        left = ['build', *self.words('left', 'lib.rt', *more)]
+        more = [*std, *over['left'], *over['right'], *(word for name in over for word in below[name])]
+        bully = ['build', *self.words('bully', 'main.rt', *more, '--backend', 'llvm', *tools, f'{crates}/bully/out/bully.o')]
         self.tree.call('bully')
         first = self.told()
         self.assertEqual((first['left'], first['bully']), ([*left, '--statements'], bully))
@@ -68,9 +68,8 @@ class Commands(unittest.TestCase):
         sources = ['--lib', f'base:core,std={self.tree.top}/crates/base/src/lib.rt']
         given = [word for name in ('core', 'std') for word in ('--extern', f'{name}={kit}/rlibs/{name}.rlib')]
         more = ['--jobs', 'N', '--incremental', 'out/whole', '--only', 'half']
-        name, *words = self.tree.words()[0]
-        self.assertEqual(name, 'left')
-        self.assertEqual(re.sub(r'--jobs \d+', '--jobs N', ' '.join(words)).split(), ['check', *self.words('left', 'lib.rt', *given, *sources, *more)])
+        words = re.sub(r'--jobs \d+', '--jobs N', ' '.join(self.tree.words()[0])).split()
+        self.assertEqual(words, ['left', 'check', *self.words('left', 'lib.rt', *given, *sources, *more)])
 
     def test_check_is_of_bully_if_no_crate_is_named(self) -> None:
         self.assertEqual(self.tree.call('check').returncode, 3)

@@ -1,19 +1,25 @@
 """The gate: what is counted, when a part begins, and what is kept of a green run."""
 import contextlib
 import io
+import os
+import shutil
+import signal
 import subprocess
 import sys
 import unittest
 
+from building.crates import read_crates
 from counts import Counts
+from gate import PARTS
 from reading import Reader
-from stand_in import Tree, waited
+from stand_in import Tree, as_ever, is_there, waited
 
 # A gate that proves base and bully and leaves what it built, once the test lets it go on; `verdict` has its last line.
 GATE = r'''#!/bin/sh
-cd "$(git rev-parse --show-toplevel)"
+echo $$ >ROOM/gate
 mkdir -p crates/base/out/rlib/base.rlib crates/bully/out crates/bully_c/out
-echo built >crates/base/out/rlib/base.rlib/format
+: >crates/base/out/rlib/base.rlib/format
+echo gated >crates/base/out/rlib/base.rlib/code
 echo 'rt: base proved'
 while [ -e ROOM/hold/gate ]; do sleep 0.01; done
 echo program >crates/bully/out/bully; chmod 755 crates/bully/out/bully
@@ -34,6 +40,8 @@ print(counts.last())
 '''
 PART = r'''#!/bin/sh
 echo "begin $1" >>ROOM/parts
+[ "$1" != held ] || { echo $$ >ROOM/held; while [ -e ROOM/hold/held ]; do sleep 0.01; done; }
+[ "$1" != empty ] || { echo '0 passed, 0 failed'; exit; }
 case $1 in bad | make_badly) echo 'no count'; exit 1 ;; make_well) echo 'no count'; exit ;; esac
 echo '2 passed, 1 failed'
 [ "$1" = wrong ] || { echo '3 passed, 0 failed'; exit 0; }
@@ -55,6 +63,7 @@ class Counting(unittest.TestCase):
         self.assertEqual(self.add('20 passed, 0 failed\n', 2), (20, 1, 'FAILED: it ended with status 2\n'))
 
     def test_a_last_line_that_counts_nothing_is_one(self) -> None:
+        self.assertEqual(self.add('0 passed, 0 failed\n', 0), (0, 1, 'FAILED: it ended with no last line that counts\n'))
         self.assertEqual(self.add('20 passed, 0 failed\nbye\n', 0), (0, 1, 'FAILED: it ended with no last line that counts\n'))
         self.assertEqual(self.add('', 0)[1], 1)
 
@@ -86,19 +95,23 @@ class Gated(unittest.TestCase):
         self.install('tree/part', PART)
         (self.tree.top / '.gitignore').write_text('out/\n__pycache__/\n')
         for words in (['init', '-q'], ['add', '-A'], ['-c', 'user.name=a', '-c', 'user.email=a@b.example', 'commit', '-q', '-m', 'all']):
-            subprocess.run(['git', '-C', str(self.tree.top), *words], check=True)
+            self.git(*words)
         self.verdict = '10 passed, 0 failed\n'
+        self.path = f'{self.tree.room}/kit/bin:/usr/bin:/bin'
+
+    def git(self, *words: str) -> None:
+        environment = {name: value for name, value in os.environ.items() if not name.startswith('GIT_')}
+        subprocess.run(['git', '-C', str(self.tree.top), *words], env=environment, check=True)
 
     def install(self, name: str, text: str) -> None:
         path = self.tree.room / name
-        path.write_text(text.replace('ROOM', str(self.tree.room)).replace('KIT', str(self.tree.room / 'kit')))
+        path.write_text(text.replace('ROOM', str(self.tree.room)))
         path.chmod(0o755)
 
     def begin(self, *parts: 'tuple[str, tuple[str, ...]]') -> 'subprocess.Popen[str]':
         (self.tree.room / 'verdict').write_text(self.verdict)
-        path = f'{self.tree.room}/kit/bin:/usr/bin:/bin'
         words = [sys.executable, '-c', RUN.format(parts=parts)]
-        return subprocess.Popen(words, cwd=self.tree.top, env={'PATH': path}, stdout=subprocess.PIPE, stderr=subprocess.STDOUT, text=True)
+        return subprocess.Popen(words, cwd=self.tree.top, env={'PATH': self.path}, stdout=subprocess.PIPE, stderr=subprocess.STDOUT, text=True, preexec_fn=as_ever)
 
     def parts_begun(self) -> str:
         begun = self.tree.room / 'parts'
@@ -147,6 +160,54 @@ class Gated(unittest.TestCase):
         (self.tree.top / 'crates' / 'bully' / 'out' / 'bully').write_text('#!/bin/sh\necho of the gate\n')
         self.assertEqual(self.tree.call('bully').stdout, 'of the gate\n')
         self.assertEqual(self.tree.begun(), [])
+
+    def test_a_library_of_a_green_gate_is_taken(self) -> None:
+        self.last_of(('fine', ()))
+        self.tree.make_kit()
+        self.tree.write('bully', 'src/main.rt', '// another program\n')
+        self.assertEqual(self.tree.call('bully', 'it').stdout, 'stand-in it\n')
+        self.assertEqual(self.tree.begun(), ['bully'])
+        taken = self.tree.top / 'crates' / 'base' / 'out' / 'built' / 'base.rlib' / 'code'
+        self.assertEqual(taken.read_text(), 'gated\n')
+
+    def test_what_is_not_committed_is_not_recorded(self) -> None:
+        self.git('config', 'status.showUntrackedFiles', 'no')
+        (self.tree.top / 'another').touch()
+        self.assertEqual((self.last_of(('fine', ())), self.record()), ('13 passed, 0 failed', ''))
+        self.git('add', 'another')
+        self.assertEqual((self.last_of(('fine', ())), self.record()), ('13 passed, 0 failed', ''))
+        self.git('-c', 'user.name=a', '-c', 'user.email=a@b.example', 'commit', '-q', '-m', 'another')
+        self.last_of(('fine', ()))
+        self.assertNotEqual(self.record(), '')
+
+    def test_without_git_all_is_counted_and_nothing_recorded(self) -> None:
+        tools = self.tree.room / 'tools'
+        tools.mkdir()
+        for tool in ('sh', 'env', 'timeout', 'mkdir', 'chmod', 'sleep', 'cat', 'tail', 'grep'):
+            (tools / tool).symlink_to(shutil.which(tool) or tool)
+        self.path = f'{self.tree.room}/kit/bin:{tools}'
+        self.assertEqual((self.last_of(('fine', ())), self.record()), ('13 passed, 0 failed', ''))
+
+    def test_a_part_that_counts_nothing_is_a_failure(self) -> None:
+        self.assertEqual(self.last_of(('empty', ())), '10 passed, 1 failed')
+
+    def test_who_ends_it_ends_what_runs_and_nothing_more_begins(self) -> None:
+        for number in (signal.SIGINT, signal.SIGTERM, signal.SIGHUP):
+            for name in ('gate', 'held'):
+                self.tree.hold(name)
+                (self.tree.room / name).unlink(missing_ok=True)
+            run = self.begin(('held', ()), ('make_later', ('bully',)), ('later', ('make_later', 'base')))
+            processes = [self.tree.room / name for name in ('gate', 'held')]
+            waited(lambda: all(path.exists() and path.read_text().endswith('\n') for path in processes), 'the gate and a part run')
+            run.send_signal(number)
+            run.communicate(timeout=60)
+            self.assertEqual(run.returncode, 128 + number)
+            self.assertEqual([is_there(int(path.read_text())) for path in processes], [False, False])
+            self.assertNotIn('later', self.parts_begun())
+
+    def test_the_library_for_c_waits_for_all_that_it_is_built_over(self) -> None:
+        [made] = [part for part in PARTS if part.makes == 'LIBRARY']
+        self.assertEqual({*made.behind}, {*read_crates()['bully_c'].below, 'bully_simulator'})
 
     def test_what_changed_while_the_gate_ran_is_not_taken(self) -> None:
         self.tree.hold('last')
