@@ -2,6 +2,7 @@
 import re
 import signal
 import unittest
+from pathlib import Path
 from typing import List
 
 from stand_in import Tree, is_there, waited
@@ -152,6 +153,8 @@ class Ending(unittest.TestCase):
         (self.tree.top / 'out' / 'try' / 'bully').write_text('#!/bin/sh\ntrap "exit 7" TERM\necho up\nwhile :; do sleep 0.01; done\n')
         call = self.tree.begin('try')
         self.assertEqual(call.stdout.readline() if call.stdout else '', 'up\n')
+        stat = Path(f'/proc/{call.pid}/stat')
+        waited(lambda: stat.read_text().rpartition(')')[2].split()[0] == 'S', 'the command waits for its program')
         call.send_signal(signal.SIGTERM)
         call.communicate(timeout=60)
         self.assertEqual(call.returncode, 7)
