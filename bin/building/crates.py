@@ -6,8 +6,7 @@ from pathlib import Path
 from typing import Dict, Iterable, List, NamedTuple, Tuple
 
 ROOT = Path(__file__).resolve().parents[2]
-# What of the kit a program is linked with: what asks the system, and the heap of C.
-ARCHIVES = ('c/libos_c.a', 'c/liblibc_c.a')
+ARCHIVES = ('c/libos_c.a', 'c/liblibc_c.a')  # (of the kit, for each program: what asks the system, and the heap of C)
 
 
 class Stopped(Exception):

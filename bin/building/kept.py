@@ -19,8 +19,7 @@ def sum_of(crate: Crate) -> str:
 
 
 def made_of(crates: Crates, names: Iterable[str], kit: Path) -> Dict[str, str]:
-    """Of each of these crates what its build is made of: the kit, and the sums of all crates below it and its own. The names have to include
-    those of all crates below."""
+    """Of each of these crates what its build is made of: the kit, and the sums of all crates below it, which are to be among them, and its own."""
     sums = {name: sum_of(crates[name]) for name in names}
     return {name: '\n'.join([version_of(kit), *(f'{each} {sums[each]}' for each in crates[name].all)]) + '\n' for name in sums}
 

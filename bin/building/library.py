@@ -31,12 +31,12 @@ def archive_of(is_gated: bool, say: Say) -> Path:
     """The proved functions, over what was built; or over the crates as the gate left them, which keeps the folders locked."""
     crates, kit = read_crates(), find_kit()
     crate = crate_of(crates, 'bully_c')
-    if not is_gated:
+    if is_gated:
+        drop(crate.product)
+        words = [*words_over_libraries(kit, crates, crate, 'rlib'), '--jobs', str(all_jobs()), '-o', str(crate.product)]
+        must([f'{kit}/bin/rattle', 'build', *words], crate.folder)
+    else:
         bring(crate.product, crates, crate, say, build_all)
-        return crate.product
-    drop(crate.product)
-    words = [*words_over_libraries(kit, crates, crate, 'rlib'), '--jobs', str(all_jobs()), '-o', str(crate.product)]
-    must([f'{kit}/bin/rattle', 'build', *words], crate.folder)
     return crate.product
 
 

@@ -13,14 +13,14 @@ from .running import Children, all_jobs, become, run_beside
 Say = Callable[[str], None]
 
 
-def run_command(name: str, status: int, command: Callable[[Say], Optional[int]]) -> NoReturn:
-    """Ends this process as the command ends. If it can't go on, why is told, and the exit status is this one."""
+def run_command(name: str, status: int, command: Callable[[List[str], Say], Optional[int]]) -> NoReturn:
+    """Ends this process as the command ends, which gets its words. If it can't go on, why is told, and the exit status is this one."""
 
     def say(line: str) -> None:
         print(f'{name}: {line}', file=sys.stderr, flush=True)
 
     try:
-        sys.exit(command(say))
+        sys.exit(command(sys.argv[1:], say))
     except (Stopped, OSError) as why:
         say(str(why))
         sys.exit(status)
@@ -83,12 +83,10 @@ def build_all(building: Building) -> None:
     due = [name for name in crate.all if stale.intersection(crates[name].all)]
     needs = {name: [lower for lower in crates[name].below if lower in due] for name in due}
     length, new = chains(crates, crate), sum(not (crates[name].folder / 'out' / 'incremental').exists() for name in due)
-    # (25 s for each from nothing, 10 s over what an earlier build kept, two minutes to compile and link; twice as much on a slow machine)
+    # (25 s for each from nothing, 10 s over what an earlier build kept, two minutes to compile and link; three times as much on a slow machine)
     minutes = -(-(120 + 10 * len(due) + 15 * new) // 60)
-    told = f'{len(due)} of {len(crate.all)} crates, {new} of them from nothing; on four cores {minutes} to {2 * minutes} min'
-    say(f'proves and builds {crate.name}: {told}')
-    proved = run_beside(needs, length, building.build, building.children)
-    for number, name in enumerate(proved, 1):
+    say(f'proves and builds {crate.name}: {len(due)} of {len(crate.all)} crates, {new} of them from nothing; {minutes} to {3 * minutes} min on four cores')
+    for number, name in enumerate(run_beside(needs, length, building.build, building.children), 1):
         say(f'{number} of {len(due)} crates proved after {building.minutes()}: {name}')
         if name == 'bully_trace' and crate.name == 'bully':
             say('what judges a trace for the command check is proved; the other commands stand on what comes now')

@@ -12,7 +12,7 @@ from threading import Lock
 from types import FrameType
 from typing import IO, Callable, Dict, Iterator, List, NoReturn, Optional, Sequence, Tuple
 
-from .crates import Stopped
+from .crates import ROOT, Stopped
 
 
 def all_jobs(more: int = 0) -> int:
@@ -76,6 +76,11 @@ def become(words: Sequence[str]) -> NoReturn:
     for each in (signal.SIGPIPE, signal.SIGXFSZ):
         signal.signal(each, signal.SIG_DFL)
     os.execv(words[0], list(words))
+
+
+def hand_on(tool: str) -> NoReturn:
+    """Goes on as this tool of the repository, with the words of the command."""
+    become([str(ROOT / tool), *sys.argv[1:]])
 
 
 def run_beside(needs: Dict[str, List[str]], length: Dict[str, int], run: Callable[[str, int], object], children: Children) -> Iterator[str]:
