@@ -1,10 +1,8 @@
 -- What stands in a draft behind several pieces.
-use Rattle.std.proofs.Common.{◌≡◌, ◌∙◌, false, ℕ, zero, suc, ◌+◌, ◌++◌, List, [], ◌∷◌, Option, Some, refl, sym, ap, subst, arith, codes, replicate, append_assoc, append-nil}
+use Rattle.std.proofs.Common.{◌≡◌, ◌∙◌, ℕ, zero, suc, ◌+◌, ◌++◌, List, [], ◌∷◌, refl, sym, ap, subst, arith, codes, replicate, append_assoc, append-nil}
 use Rattle.std.specs.Str.{chars}
-use Rattle.bully_config.specs.declared.fault.ConfigFault.{ConfigFault}
-use Rattle.bully_draft.specs.ConfigTold.{ArePlain, IsConfigText, document_head, lines_text}
-use Rattle.bully_draft.specs.Drafted.{Appends, AppendsLines, AppendsPrinted, Drafted, blank}
-use Rattle.bully_draft.specs.Shown.{AllPlain, AllPrinted, shown}
+use Rattle.bully_draft.specs.Drafted.{Appends, AppendsLines, Drafted}
+use Rattle.bully_draft.specs.Shown.{AllPlain, ArePlain, lines_text}
 
 -- nothing was appended
 pub appends_nothing : (a : Drafted) → Appends a a []
@@ -27,28 +25,6 @@ pub one-space : {a b c : Drafted} (n : ℕ) → Appends a b (replicate n 32) →
 one-space {a} {b} {c} n first second =
     let next : suc n ≡ n + 1 = omega arith in
     subst (Appends a c) (spaces-more n ∙ ap (λ m. replicate m 32) next) (appends_then first second)
-
--- ---- printed ASCII characters
-
-pub no_printed : (a : Drafted) → AppendsPrinted a a
-no_printed a = record { memory = λ good. good; text = λ good. ([], tt, sym (append-nil a.text)) }
-
-printed-append : (part more : List ℕ) → AllPrinted part → AllPrinted more → AllPrinted (part ++ more)
-printed-append [] more first second = second
-printed-append (byte ∷ part) more (head, first) second = (head, printed-append part more first second)
-
-pub printed_then : {a b c : Drafted} → AppendsPrinted a b → AppendsPrinted b c → AppendsPrinted a c
-printed_then {a} {b} {c} first second = record {
-  memory = λ good. first.memory (second.memory good);
-  text = λ good.
-      let (part, are, is) = first.text (second.memory good) in
-      let (more, also, next) = second.text good in
-      (part ++ more, printed-append part more are also, next ∙ ap (λ t. t ++ more) is ∙ append_assoc a.text part more);
-}
-
--- what was appended is printed
-pub printed_part : {a b : Drafted} (part : List ℕ) → AllPrinted part → Appends a b part → AppendsPrinted a b
-printed_part part are pushed = record { memory = pushed.memory; text = λ good. (part, are, pushed.text good) }
 
 -- ---- lines
 
@@ -77,23 +53,3 @@ one-line start a b c line so_far first plain second =
             both.text good ∙ ap (λ t. t ++ (line ++ codes "\n")) is ∙ append_assoc start.text (lines_text lines) (line ++ codes "\n") ∙ ap (λ t. start.text ++ t) (sym (lines-more lines line)),
           );
     }
-
--- ---- the text of a sheet
-
--- a document's is one line, which begins so
-pub line-text : {a b c : Drafted} (told : Option ConfigFault) (text rest : List ℕ) → text ≡ shown c.text ++ codes "\n" → AllPlain (chars (shown c.text)) → c.has_failed ≡ false → a ≡ blank
-    → Appends a b (document_head told) → Appends b c rest → IsConfigText told text
-line-text {a} {b} {c} told text rest is plain good begun head behind = record {
-  lines = shown c.text ∷ [];
-  plain = (plain, tt);
-  whole = is;
-  one = λ other. refl;
-  begins = λ other. (rest, is ∙ ap (λ t. shown t ++ codes "\n") ((appends_then head behind).text good ∙ ap (λ (d : Drafted). d.text ++ (document_head told ++ rest)) begun));
-}
-
--- that of another text has several
-pub toml-text : (told : Option ConfigFault) (draft : Drafted) (text : List ℕ) → told ≡ Some ConfigFault.Toml → AppendsLines blank draft → draft.has_failed ≡ false → text ≡ draft.text
-    → IsConfigText told text
-toml-text told draft text toml appended good same =
-    let (lines, are, is) = appended.text good in
-    record { lines = lines; plain = are; whole = same ∙ is; one = λ other. absurd (other toml); begins = λ other. absurd (other toml) }

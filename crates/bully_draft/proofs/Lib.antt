@@ -1,3 +1,4 @@
-pub mod ConfigLemmas
+mod ConfigLemmas
 pub mod DraftLemmas
+mod RowLemmas
 pub mod ShownLemmas

@@ -1,26 +1,15 @@
 -- What is told of a configuration's text.
-use Rattle.std.specs.Prelude.{◌≡◌, ◌≢◌, ℕ, List, [], ◌∷◌, ◌++◌, Option, Some, None, Ok, Err, codes, length, ⊤}
-use Rattle.std.specs.Str.{chars}
+use Rattle.std.specs.Prelude.{◌≡◌, ◌≢◌, ℕ, List, ◌++◌, Option, Some, None, Ok, Err, codes, length}
 use Rattle.bully_config.specs.Answers.{answer_of}
 use Rattle.bully_config.specs.Configuration.{Configuration}
 use Rattle.bully_config.specs.Keys.{fault_text}
 use Rattle.bully_config.specs.declared.fault.ConfigFault.{ConfigFault}
-use Rattle.bully_draft.specs.Shown.{AllPlain, shown}
+use Rattle.bully_draft.specs.Shown.{ArePlain, lines_text, shown}
 
 -- the first refusal of the text; none where it is a configuration
 abbrev pub IsConfigTold : List ℕ → Option ConfigFault → Type 0
 IsConfigTold text None = (config : Configuration) × (answer_of text ≡ Ok config)
 IsConfigTold text (Some fault) = answer_of text ≡ Err fault
-
--- lines, with a line feed behind each
-abbrev pub lines_text : List (List ℕ) → List ℕ
-lines_text [] = []
-lines_text (line ∷ lines) = line ++ (codes "\n" ++ lines_text lines)
-
--- none of them has a control
-abbrev pub ArePlain : List (List ℕ) → Type 0
-ArePlain [] = ⊤
-ArePlain (line ∷ lines) = AllPlain (chars line) × ArePlain lines
 
 -- how the line of a document begins: with its first refusal, or that it has none
 abbrev pub document_head : Option ConfigFault → List ℕ

@@ -1,8 +1,7 @@
 -- A text in the making.
 use Rattle.std.specs.Prelude.{◌≡◌, ℕ, Bool, false, List, [], ◌++◌, ◌==◌, codes, if◌then◌else◌}
 use Rattle.std.specs.Fmt.{decimal}
-use Rattle.bully_draft.specs.ConfigTold.{ArePlain, lines_text}
-use Rattle.bully_draft.specs.Shown.{AllPrinted}
+use Rattle.bully_draft.specs.Shown.{ArePlain, lines_text}
 
 -- the text so far, and whether memory was wanting for any of it
 pub record Drafted : Type 0 where
@@ -22,11 +21,6 @@ pub record Appends (old new : Drafted) (part : List ℕ) : Type 0 where
 pub record AppendsLines (old new : Drafted) : Type 0 where
   pub memory : new.has_failed ≡ false → old.has_failed ≡ false
   pub text : new.has_failed ≡ false → (lines : List (List ℕ)) × ArePlain lines × (new.text ≡ old.text ++ lines_text lines)
-
--- printed ASCII characters were appended, unless memory is wanting
-pub record AppendsPrinted (old new : Drafted) : Type 0 where
-  pub memory : new.has_failed ≡ false → old.has_failed ≡ false
-  pub text : new.has_failed ≡ false → (part : List ℕ) × AllPrinted part × (new.text ≡ old.text ++ part)
 
 -- how many things of a kind there are: its word with an `s` behind it, but for one of them
 abbrev pub count_text : ℕ → List ℕ → List ℕ

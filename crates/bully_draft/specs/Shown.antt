@@ -1,5 +1,6 @@
 -- How a text that comes from outside is shown.
-use Rattle.std.specs.Prelude.{◌≡◌, ℕ, Bool, true, false, List, [], ◌∷◌, ◌||◌, ◌&&◌, ◌==◌, ⊤, map, nat_lt, nat_le, if◌then◌else◌}
+use Rattle.std.specs.Prelude.{◌≡◌, ℕ, zero, suc, Bool, true, false, List, [], ◌∷◌, ◌++◌, ◌||◌, ◌&&◌, ◌==◌, ⊤, codes, length, map, nat_lt, nat_le, take, if◌then◌else◌}
+use Rattle.std.specs.List.{join_with_byte}
 use Rattle.std.specs.Str.{chars, encode_utf8_all}
 
 -- a control character, a separator of lines (U+2028) or of paragraphs (U+2029), or a mark that turns the direction of the text
@@ -23,6 +24,16 @@ abbrev pub AllPlain : List ℕ → Type 0
 AllPlain [] = ⊤
 AllPlain (c ∷ cs) = (is_control c ≡ false) × AllPlain cs
 
+-- none of these lines has one
+abbrev pub ArePlain : List (List ℕ) → Type 0
+ArePlain [] = ⊤
+ArePlain (line ∷ lines) = AllPlain (chars line) × ArePlain lines
+
+-- their text, with a line feed behind each
+abbrev pub lines_text : List (List ℕ) → List ℕ
+lines_text [] = []
+lines_text (line ∷ lines) = line ++ (codes "\n" ++ lines_text lines)
+
 -- a printed ASCII character
 abbrev pub is_printed : ℕ → Bool
 is_printed byte = nat_le 32 byte && nat_le byte 126
@@ -35,3 +46,16 @@ shown_byte byte = if is_printed byte then byte else 63
 abbrev pub AllPrinted : List ℕ → Type 0
 AllPrinted [] = ⊤
 AllPrinted (byte ∷ bytes) = (is_printed byte ≡ true) × AllPrinted bytes
+
+-- bytes as they are shown, up to so many, and two dots if these aren't all
+abbrev pub cut_shown : ℕ → List ℕ → List ℕ
+cut_shown most bytes = map shown_byte (take most bytes) ++ (if nat_lt most (length bytes) then codes ".." else [])
+
+-- a field of a row, counted from 0, as it stands there: behind a comma, but for the first
+abbrev pub parted : ℕ → List ℕ → List ℕ
+parted zero field = field
+parted (suc place) field = 44 ∷ field
+
+-- a row of these fields as it is shown
+abbrev pub row_shown : List (List ℕ) → List ℕ
+row_shown fields = cut_shown 60 (join_with_byte 44 fields)

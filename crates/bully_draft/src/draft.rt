@@ -113,7 +113,7 @@ impl Draft {
         self.note(written);
     }
 
-    /// Appends bytes that come from outside, as [`push_bytes`] shows them.
+    /// Appends bytes that come from outside; one that is no printed ASCII character as a question mark.
     pub fn push_bytes(&mut self, raw: &[u8])
         ensures shown { Appends self.old self.new (map shown_byte raw.now) }
         ensures printed { AllPrinted (map shown_byte raw.now) }

@@ -1,6 +1,8 @@
 //! Where a row breaks its form.
+ghost use Rattle.std.specs.Prelude.{◌≡◌, [], get_or};
+ghost use Rattle.csv.specs.Records.{fields_of};
 
-use bully_base::NODES_MAX;
+use bully_base::{NODES_MAX, Setup};
 use bully_calls::{EventKind, NodeEventKind, Saying, is_word};
 use bully_rows::{
     SAW, Version, call_named, number_within, read_coordinator, read_node, read_set, read_weights,
@@ -18,7 +20,7 @@ pub enum Expected {
     /// The number of a node, at most this one.
     Node(u16),
     /// The owners of the partitions.
-    Owners,
+    Owners(Ownership),
     /// A status.
     Status,
     /// The number of a node, at most this one, or a dash.
@@ -26,7 +28,7 @@ pub enum Expected {
     /// The members of an up set, none above this node, or a dash.
     Up(u16),
     /// The owners of the partitions, or a dash.
-    Task,
+    Task(Ownership),
     /// The word of a call.
     Call,
     /// What a call is answered.
@@ -47,6 +49,13 @@ pub enum Expected {
     Keep,
 }
 
+/// Of how many partitions there are owners, and up to which node.
+#[derive(Clone, Copy)]
+pub struct Ownership {
+    pub partitions: u16,
+    pub nodes: u16,
+}
+
 /// How many fields the rows of a kind have: so many, and where they may say more, so many then.
 #[derive(Clone, Copy)]
 pub struct FieldCounts {
@@ -62,8 +71,8 @@ pub struct Misfit {
     pub expected: Expected,
 }
 
-/// Where a row behind the header of a trace of this version, which has no form, breaks it.
-pub fn misfit_of_row(version: Version, fields: &ByteRecord) -> Misfit {
+/// Where a row behind the header of a trace of this version and setup, which has no form, breaks it.
+pub fn misfit_of_row(version: Version, setup: &Setup, fields: &ByteRecord) -> Misfit {
     let word = field_at(fields, 0);
     let Some(counts) = counts_wanted(version, word) else {
         return breaks_at(1, Expected::Word);
@@ -73,9 +82,9 @@ pub fn misfit_of_row(version: Version, fields: &ByteRecord) -> Misfit {
     } else if read_node(version, field_at(fields, 1)).is_none() {
         breaks_at(2, Expected::Node(version.nodes_max()))
     } else if is_word(word, EventKind::Plan.word()) {
-        breaks_at(3, Expected::Owners)
+        breaks_at(3, Expected::Owners(ownership_in(setup)))
     } else if is_word(word, SAW) {
-        misfit_of_claim(version, fields)
+        misfit_of_claim(version, setup, fields)
     } else {
         misfit_of_detail(version, fields)
     }
@@ -129,7 +138,7 @@ fn are_wanted(counts: &FieldCounts, count: usize) -> bool {
 }
 
 // Where a claim of a node, which has a right number of fields, breaks its form behind that node.
-fn misfit_of_claim(version: Version, fields: &ByteRecord) -> Misfit {
+fn misfit_of_claim(version: Version, setup: &Setup, fields: &ByteRecord) -> Misfit {
     let highest = version.nodes_max();
     if status_named(field_at(fields, 2)).is_none() {
         breaks_at(3, Expected::Status)
@@ -140,7 +149,15 @@ fn misfit_of_claim(version: Version, fields: &ByteRecord) -> Misfit {
     } else if read_set(version, field_at(fields, 5)).is_none() {
         breaks_at(6, Expected::Up(highest))
     } else {
-        breaks_at(7, Expected::Task)
+        breaks_at(7, Expected::Task(ownership_in(setup)))
+    }
+}
+
+// Of how many partitions there are owners in a trace of this setup, and up to which node.
+fn ownership_in(setup: &Setup) -> Ownership {
+    Ownership {
+        partitions: setup.partitions(),
+        nodes: setup.nodes(),
     }
 }
 
@@ -214,7 +231,9 @@ fn breaks_at(field: usize, expected: Expected) -> Misfit {
 }
 
 /// The field at this place, counted from 0; an empty one where there is none.
-pub fn field_at(fields: &ByteRecord, place: usize) -> &[u8] {
+pub fn field_at(fields: &ByteRecord, place: usize) -> &[u8]
+    ensures { result.now ≡ get_or (fields_of fields.now) place [] }
+{
     match fields.get(place) {
         Some(field) => field,
         None => &[],

@@ -1,3 +1,3 @@
-pub mod DifferingLemmas
-pub mod SheetLemmas
-pub mod SidesLemmas
+mod DifferingLemmas
+mod SheetLemmas
+mod SidesLemmas

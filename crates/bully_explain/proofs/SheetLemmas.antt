@@ -20,7 +20,8 @@ use Rattle.bully_account.specs.TraceReport.{Explains, IsToldOf}
 use Rattle.bully_account.specs.declared.account.Stop.{Stop}
 use Rattle.bully_account.specs.declared.showing.NodeSheet.{NodeSheet}
 use Rattle.bully_explain.specs.Differing.{decided_text}
-use Rattle.bully_draft.specs.Drafted.{Appends, AppendsPrinted, Drafted, blank}
+use Rattle.bully_draft.specs.Drafted.{Appends, Drafted, blank}
+use Rattle.bully_draft.specs.Shown.{row_shown}
 use Rattle.bully_explain.specs.SheetText.{AppendsForm, Begins, BeginsSheet, IsDecided, IsFormText, IsSheet, IsSheetOf, IsSheetText, form_head, head_text, place_text}
 
 -- ---- more text behind a head
@@ -78,18 +79,19 @@ form_no_row {a} {b} {c} fault first second = record {
 grouped-row : (a p n l d e row x y z : List ℕ) → (a ++ (p ++ n ++ l ++ d ++ e) ++ row) ++ (x ++ y ++ z) ≡ a ++ (p ++ n ++ (l ++ d ++ e ++ row) ++ x ++ y ++ z)
 grouped-row a p n l d e row x y z = simp append_assoc
 
--- the row at this line, of which printed ASCII characters are shown
-pub form_row : {a b c d : Drafted} (fault : TraceFault) (line : ℕ) → Appends a b (place_text fault.row line) → AppendsPrinted b c
+-- the row of these fields at this line
+pub form_row : {a b c d : Drafted} (fault : TraceFault) (line : ℕ) (fields : List (List ℕ)) → Appends a b (place_text fault.row line) → Appends b c (row_shown fields)
     → Appends c d (codes "\n" ++ trace_cause_text fault.cause ++ codes ": ") → AppendsForm fault a d
-form_row {a} {b} {c} {d} fault line first second third = record {
+form_row {a} {b} {c} {d} fault line fields first second third = record {
   memory = λ good. first.memory (second.memory (third.memory good));
   text = λ good.
       let three = third.text good in
-      let (row, are, two) = second.text (third.memory good) in
+      let row = row_shown fields in
+      let two = second.text (third.memory good) in
       let one = first.text (second.memory (third.memory good)) in
       let so_far = two ∙ ap (λ t. t ++ row) one in (
         codes " (line " ++ decimal line ++ codes "): " ++ row,
-        inr (line, row, are, refl),
+        inr (line, fields, refl),
         three ∙ ap (λ t. t ++ (codes "\n" ++ trace_cause_text fault.cause ++ codes ": ")) so_far
             ∙ grouped-row a.text (codes "row ") (decimal fault.row) (codes " (line ") (decimal line) (codes "): ") row (codes "\n") (trace_cause_text fault.cause) (codes ": "),
       );

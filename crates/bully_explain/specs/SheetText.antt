@@ -21,7 +21,7 @@ use Rattle.bully_account.specs.declared.account.Stop.{Stop}
 use Rattle.bully_account.specs.declared.showing.NodeSheet.{NodeSheet}
 use Rattle.bully_explain.specs.Differing.{decided_text}
 use Rattle.bully_draft.specs.Drafted.{Drafted}
-use Rattle.bully_draft.specs.Shown.{AllPrinted}
+use Rattle.bully_draft.specs.Shown.{row_shown}
 
 -- the text begins with this part
 abbrev pub Begins : List ℕ → List ℕ → Type 0
@@ -42,10 +42,10 @@ IsSheetText setup rows w (Verdict.Lawful count) text = Begins text (verdict_head
 IsSheetText setup rows w (Verdict.Refused number why) text = IsDecided setup rows w (Verdict.Refused number why) number text
 IsSheetText setup rows w (Verdict.Differs number) text = IsDecided setup rows w (Verdict.Differs number) number text
 
--- the sheet of a fault of form: the row with its place, of which only printed ASCII characters are shown, and the fault
+-- the sheet of a fault of form: the row with its place, as fields are shown, and the fault
 abbrev pub IsRowShown : List ℕ → Type 0
 IsRowShown place =
-    (place ≡ codes ": there is none") ⊎ ((line : ℕ) × (row : List ℕ) × AllPrinted row × (place ≡ codes " (line " ++ decimal line ++ codes "): " ++ row))
+    (place ≡ codes ": there is none") ⊎ ((line : ℕ) × (fields : List (List ℕ)) × (place ≡ codes " (line " ++ decimal line ++ codes "): " ++ row_shown fields))
 
 abbrev pub form_head : TraceFault → List ℕ → List ℕ
 form_head fault place = codes "row " ++ decimal fault.row ++ place ++ codes "\n" ++ trace_cause_text fault.cause ++ codes ": "

@@ -3,9 +3,9 @@ ghost use Rattle.bully_explain.specs.SheetText.{AppendsForm, IsFormText};
 
 use crate::words::push_row_place;
 use bully_account::{Account, TailReader, line_of};
-use bully_base::{OutOfMemory, Setup};
-use bully_draft::{Draft, push_cut, push_form_fault};
-use bully_rows::{RowReader, TraceCause, TraceFault, Version};
+use bully_base::OutOfMemory;
+use bully_draft::{Draft, push_header_misfit, push_row_misfit, push_row_shown};
+use bully_rows::{ROWS_MAX, RowReader, TraceCause, TraceFault};
 use csv::ByteRecord;
 use std::alloc::Global;
 use std::io::Read;
@@ -68,11 +68,11 @@ fn push_faulty_row(text: &mut Draft, line: u64, fields: &ByteRecord, fault: Trac
     ensures { AppendsForm fault text.old text.new }
 {
     push_row_place(text, fault.row, line);
-    push_cut(text, fields);
+    push_row_shown(text, fields);
     text.push_between("\n", fault.cause, ": ");
 }
 
-// What stands behind the head of the sheet: where the row breaks its form.
+// What stands behind the head of the sheet: why the row at the fault, or the lack of one, makes no trace.
 fn form_rest<R: Read + Drop>(
     alloc: Global,
     rows: &RowReader<TailReader<R>>,
@@ -81,18 +81,24 @@ fn form_rest<R: Read + Drop>(
 ) -> Result<String, OutOfMemory> {
     let mut text = Draft::new(alloc);
     if rows.number() == 0 {
-        text.push_str("a trace begins with a header\n");
+        text.push_str("a trace begins with a header");
     } else {
-        let (version, setup) = header_of(account);
-        push_form_fault(&mut text, rows.fields(), version, setup, cause);
+        push_why(&mut text, rows.fields(), account, cause);
     }
+    text.push_str("\n");
     text.finish()
 }
 
-// What later rows are read by: the version, and the setup where there is a header.
-fn header_of(account: &Option<Account>) -> (Version, Option<&Setup>) {
-    match account {
-        Some(account) => (account.version(), Some(account.world().setup())),
-        None => (Version::Two, None),
+// Appends why the row of these fields is none of a trace. Of no other cause is there a sheet.
+fn push_why(text: &mut Draft, fields: &ByteRecord, account: &Option<Account>, cause: TraceCause) {
+    match (cause, account) {
+        (TraceCause::BadHeader, _) => push_header_misfit(text, fields),
+        (TraceCause::BadRow, Some(account)) => {
+            push_row_misfit(text, fields, account.version(), account.world().setup());
+        }
+        (TraceCause::TooManyRows, _) => {
+            text.push_between("a trace has at most ", ROWS_MAX, " rows behind its header");
+        }
+        _ => {}
     }
 }

@@ -15,16 +15,17 @@ lawful_told Telling.Words setup verdict w = verdict_text setup verdict w
 lawful_told Telling.Json setup verdict w = verdict_line setup verdict w
 
 -- what explains a verdict that isn't lawful, as it is told
-abbrev pub sheet_told : Telling → Verdict → List ℕ → List ℕ
-sheet_told Telling.Words verdict sheet = sheet
-sheet_told Telling.Json verdict sheet = sheet_line verdict sheet
+abbrev pub explained_told : Telling → Verdict → List ℕ → List ℕ
+explained_told Telling.Words verdict text = text
+explained_told Telling.Json verdict text = sheet_line verdict text
 
-abbrev pub IsSheetTold : (AccountState → List ℕ → Type 0) → Telling → AccountState → Verdict → List ℕ → Type 0
-IsSheetTold explains telling account verdict text = (sheet : List ℕ) × explains account sheet × (text ≡ sheet_told telling verdict sheet)
+-- some text that explains what the account came to (what does is the caller's to say), as it is told
+abbrev pub IsExplainedTold : (AccountState → List ℕ → Type 0) → Telling → AccountState → Verdict → List ℕ → Type 0
+IsExplainedTold explains telling account verdict text = (told : List ℕ) × explains account told × (text ≡ explained_told telling verdict told)
 
 -- the one or the other, by the verdict on what the account took
 abbrev pub IsLastText : (AccountState → List ℕ → Type 0) → Telling → AccountState → Verdict → List ℕ → Type 0
 IsLastText explains telling account (Verdict.Lawful count) text =
     text ≡ lawful_told telling account.judge.world.setup (Verdict.Lawful count) (world_of account.judge.world)
-IsLastText explains telling account (Verdict.Refused number why) text = IsSheetTold explains telling account (Verdict.Refused number why) text
-IsLastText explains telling account (Verdict.Differs number) text = IsSheetTold explains telling account (Verdict.Differs number) text
+IsLastText explains telling account (Verdict.Refused number why) text = IsExplainedTold explains telling account (Verdict.Refused number why) text
+IsLastText explains telling account (Verdict.Differs number) text = IsExplainedTold explains telling account (Verdict.Differs number) text

@@ -1,7 +1,7 @@
 ghost use Rattle.std.specs.Prelude.{◌≡◌, ℕ, List, Option, None, Some, IfErr, IfOk, OnOk, string_bytes};
 ghost use Rattle.std.specs.Io.KnownBytes.{Appends};
 ghost use Rattle.bully_world.specs.State.{world_of};
-ghost use Rattle.bully_follow.specs.LastText.{IsLastText, IsSheetTold, lawful_told};
+ghost use Rattle.bully_follow.specs.LastText.{IsExplainedTold, IsLastText, lawful_told};
 ghost use Rattle.bully_follow.specs.Lines.{IsRowTold, row_told, tells_room};
 ghost use Rattle.bully_follow.specs.declared.followed.Followed.{Followed as FollowedState};
 ghost use Rattle.bully_follow.specs.Followed.{IsEnded, IsFollowFault, IsFollowedAs, fault_in};
@@ -306,11 +306,11 @@ fn stopped_text<X: Explainer>(
     verdict: Verdict,
     account: &Account,
 ) -> Result<String, OutOfMemory>
-    ensures { IfOk result (λ text. IsSheetTold X.explains telling account.now verdict (string_bytes text)) }
+    ensures { IfOk result (λ text. IsExplainedTold X.explains telling account.now verdict (string_bytes text)) }
 {
-    let sheet = explainer.explain(alloc, account)?;
+    let text = explainer.explain(alloc, account)?;
     match telling {
-        Telling::Words => Ok(sheet),
-        Telling::Json => sheet_line(alloc, verdict, sheet.as_str()),
+        Telling::Words => Ok(text),
+        Telling::Json => sheet_line(alloc, verdict, text.as_str()),
     }
 }

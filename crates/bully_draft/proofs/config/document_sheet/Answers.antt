@@ -1,6 +1,6 @@
 -- An answer by name: an edit that breaks it is refused at once.
 use Rattle.std.proofs.Common.{rules}
-use Rattle.bully_draft.proofs.DraftLemmas.{line-text}
+use Rattle.bully_draft.proofs.ConfigLemmas.{line-text}
 use Rattle.bully_draft.proofs.config.document_sheet.Goals as goal
 
 pub returns-clause-told : goal.returns-clause-told

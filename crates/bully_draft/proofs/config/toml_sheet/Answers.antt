@@ -1,5 +1,5 @@
 use Rattle.std.proofs.Common.{refl, rules}
-use Rattle.bully_draft.proofs.DraftLemmas.{toml-text}
+use Rattle.bully_draft.proofs.ConfigLemmas.{toml-text}
 use Rattle.bully_draft.proofs.config.toml_sheet.Goals as goal
 
 pub returns-clause-lines : goal.returns-clause-lines
