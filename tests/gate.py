@@ -39,9 +39,9 @@ PARTS = [
     Part(('tests/members/wrong', '--fit')),
     Part(('tests/release/first_build',)),
     Part(('tests/build/try',)),
-    # (behind it the bindings also need bully_simulator)
-    Part(('bin/library', '--gated', 'LIBRARY'), (*read_crates()['bully_c'].below, 'bully_simulator'), makes='LIBRARY'),
-    Part(('bindings/try', '--unpacked', 'LIBRARY'), ('LIBRARY',), 7200),
+    # (behind the crates below bully_c, too, over which it is built)
+    Part(('bin/library', '--gated', 'LIBRARY'), makes='LIBRARY'),
+    Part(('bindings/try', '--unpacked', 'LIBRARY'), ('LIBRARY', 'bully_simulator'), 7200),
     Part(('tests/release/try', 'LIBRARY', 'crates/bully/out/bully'), ('bully', 'LIBRARY'), 1800),
     Part(('tests/cluster/simulate',), ('bully', 'bully_simulator'), 1800),
     Part(('tests/hostile/memory',), ('bully_memory',), 1800),
@@ -51,10 +51,16 @@ PARTS = [
 Done = Dict[str, Event]
 
 
-def run_gate(done: Done, children: Children, counts: Counts) -> bool:
-    """Runs `rt ci`, sets which crates it is done with, and adds its counts. Returns whether it was green."""
-    jobs = os.environ.get('RT_JOBS') or str(all_jobs())
-    gate = children.begin(['env', 'PYTHONUNBUFFERED=1', f'RT_JOBS={jobs}', 'rt', 'ci'], ROOT, subprocess.PIPE, errors=None)
+def parts_over(crates: Crates) -> List[Part]:
+    """The parts of the gate of these crates."""
+    return [part._replace(behind=crates['bully_c'].below) if part.makes == 'LIBRARY' else part for part in PARTS]
+
+
+def run_gate(done: Done, pool: ThreadPoolExecutor, children: Children, counts: Counts) -> bool:
+    """Runs `rt ci`, sets which crates it is done with, and adds its counts. Returns whether it was green. A thread begins it: a signal, which
+    comes to the main one, comes before that or behind it."""
+    words = ['env', 'PYTHONUNBUFFERED=1', f'RT_JOBS={os.environ.get("RT_JOBS") or all_jobs()}', 'rt', 'ci']
+    gate = pool.submit(children.begin, words, ROOT, subprocess.PIPE, errors=None).result()
     lines: List[str] = []
     for line in io.TextIOWrapper(gate.stdout or io.BytesIO(), errors='replace'):
         print(line, end='', flush=True)
@@ -99,10 +105,10 @@ def run_parts(parts: List[Part], counts: Counts, is_gated: bool) -> bool:
     is ended meanwhile, what runs is ended, too; then those that wait go on, and begin nothing."""
     done = {name: Event() for part in parts for name in (*part.behind, part.makes)}
     crates = done.keys() - {part.makes for part in parts}
-    with tempfile.TemporaryDirectory() as room, ThreadPoolExecutor(len(parts)) as pool, ExitStack() as behind, Children() as children:
+    with tempfile.TemporaryDirectory() as room, ThreadPoolExecutor(len(parts) + 1) as pool, ExitStack() as behind, Children() as children:
         behind.callback(set_all, done.values())
         begun = [(part, pool.submit(run_part, part, done, room, children)) for part in parts]
-        is_green = is_gated and run_gate(done, children, counts)
+        is_green = is_gated and run_gate(done, pool, children, counts)
         set_all(done[name] for name in crates)
         for part, ended in begun:
             add_part(part, *ended.result(), counts)
@@ -147,7 +153,7 @@ def test_all() -> Counts:
         shutil.rmtree(crate.library('rlib').parent, ignore_errors=True)
         if crate.kind == 'archive':
             drop(crate.product)
-    is_green = run_parts(PARTS, counts, is_gated=True)
+    is_green = run_parts(parts_over(crates), counts, is_gated=True)
     try:
         if is_green and texts == made_of(crates, crates, find_kit()):
             take_gated(crates, texts)

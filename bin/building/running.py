@@ -22,11 +22,10 @@ def all_jobs(more: int = 0) -> int:
     return max(1, min(most, int(free[1]) // 3_000_000 if free else most))
 
 
-def on_signals(answer: Callable[[int, Optional[FrameType]], object]) -> None:
-    """Has the signals that end a command answered so, but none that is ignored, as `nohup` does."""
-    for each in (signal.SIGINT, signal.SIGTERM, signal.SIGHUP):
-        if signal.getsignal(each) != signal.SIG_IGN:
-            signal.signal(each, answer)
+def on_signals(answer: Callable[[int, Optional[FrameType]], object]) -> List[object]:
+    """Has the signals that end a command answered so, but none that is ignored, as by `nohup`. Gives how they were answered before."""
+    ending = (signal.SIGINT, signal.SIGTERM, signal.SIGHUP, signal.SIGQUIT)
+    return [signal.signal(each, answer) for each in ending if signal.getsignal(each) != signal.SIG_IGN]
 
 
 class Children:
@@ -49,8 +48,7 @@ class Children:
         with said.open('ab') as out:
             status = self.begin(words, folder, out).wait()
         if status and not self.is_ending:
-            how = f'{Path(words[0]).name} was ended by signal {-status}\n' if status < 0 else ''
-            sys.stderr.write(said.read_text(errors='replace') + how)
+            sys.stderr.write(said.read_text(errors='replace') + (f'{Path(words[0]).name} was ended by signal {-status}\n' if status < 0 else ''))
         return status == 0
 
     def end(self, *_: object) -> None:
@@ -64,8 +62,8 @@ class Children:
             child.wait()
 
     def __enter__(self) -> 'Children':
-        """From here on a signal that would end the command has it leave, and so end them."""
-        on_signals(lambda number, _: sys.exit(128 + number))
+        """From here on a signal that would end the command has it leave, and so end them; and no other one breaks that off."""
+        on_signals(lambda number, _: (on_signals(lambda *_: None), sys.exit(128 + number)))
         return self
 
     __exit__ = end

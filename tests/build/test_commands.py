@@ -102,7 +102,7 @@ class Commands(unittest.TestCase):
         (self.tree.room / 'refuse' / 'base').touch()
         self.assertEqual(self.tree.call('library', str(folder)).returncode, 1)
         self.assertEqual({path.name: path.stat().st_ino for path in folder.iterdir()}, before)
-        self.assertEqual([self.tree.call('library', *words).returncode for words in (('',), ('a', 'b'), ('--other', 'a'))], [2, 2, 2])
+        self.assertEqual([self.tree.call('library', *words).returncode for words in (('',), ('a', 'b'), ('--other', 'a'), ('--gated',), ('--gated', 'a', 'b'), ('--gate', 'a'))], [2] * 6)
 
 
 class Ending(unittest.TestCase):
@@ -111,7 +111,7 @@ class Ending(unittest.TestCase):
         self.addCleanup(self.tree.remove)
 
     def test_a_signal_ends_the_prover_and_what_that_began(self) -> None:
-        for number in (signal.SIGINT, signal.SIGHUP, signal.SIGTERM):
+        for number in (signal.SIGINT, signal.SIGHUP, signal.SIGTERM, signal.SIGQUIT):
             with self.subTest(signal=number):
                 self.setUp()
                 self.tree.hold('base')

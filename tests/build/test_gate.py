@@ -7,10 +7,11 @@ import signal
 import subprocess
 import sys
 import unittest
+from pathlib import Path
 
-from building.crates import read_crates
+from building.crates import read_crates, words_over_libraries
 from counts import Counts
-from gate import PARTS
+from gate import parts_over
 from reading import Reader
 from stand_in import Tree, as_ever, is_there, waited
 
@@ -111,7 +112,8 @@ class Gated(unittest.TestCase):
     def begin(self, *parts: 'tuple[str, tuple[str, ...]]') -> 'subprocess.Popen[str]':
         (self.tree.room / 'verdict').write_text(self.verdict)
         words = [sys.executable, '-c', RUN.format(parts=parts)]
-        return subprocess.Popen(words, cwd=self.tree.top, env={'PATH': self.path}, stdout=subprocess.PIPE, stderr=subprocess.STDOUT, text=True, preexec_fn=as_ever)
+        environment, pipe, joined = {'PATH': self.path}, subprocess.PIPE, subprocess.STDOUT
+        return subprocess.Popen(words, cwd=self.tree.top, env=environment, stdout=pipe, stderr=joined, text=True, preexec_fn=as_ever)
 
     def parts_begun(self) -> str:
         begun = self.tree.room / 'parts'
@@ -192,13 +194,15 @@ class Gated(unittest.TestCase):
         self.assertEqual(self.last_of(('empty', ())), '10 passed, 1 failed')
 
     def test_who_ends_it_ends_what_runs_and_nothing_more_begins(self) -> None:
-        for number in (signal.SIGINT, signal.SIGTERM, signal.SIGHUP):
+        for number in (signal.SIGINT, signal.SIGTERM, signal.SIGHUP, signal.SIGQUIT):
             for name in ('gate', 'held'):
                 self.tree.hold(name)
                 (self.tree.room / name).unlink(missing_ok=True)
             run = self.begin(('held', ()), ('make_later', ('bully',)), ('later', ('make_later', 'base')))
             processes = [self.tree.room / name for name in ('gate', 'held')]
             waited(lambda: all(path.exists() and path.read_text().endswith('\n') for path in processes), 'the gate and a part run')
+            # (twice, as who sees nothing happen presses Ctrl-C again)
+            run.send_signal(number)
             run.send_signal(number)
             run.communicate(timeout=60)
             self.assertEqual(run.returncode, 128 + number)
@@ -206,8 +210,11 @@ class Gated(unittest.TestCase):
             self.assertNotIn('later', self.parts_begun())
 
     def test_the_library_for_c_waits_for_all_that_it_is_built_over(self) -> None:
-        [made] = [part for part in PARTS if part.makes == 'LIBRARY']
-        self.assertEqual({*made.behind}, {*read_crates()['bully_c'].below, 'bully_simulator'})
+        crates = read_crates()
+        [made] = [part for part in parts_over(crates) if part.makes == 'LIBRARY']
+        words = words_over_libraries(Path('/kit'), crates, crates['bully_c'], 'rlib')
+        handed_on = {Path(word).parents[1].name for word in words if word.startswith('dependency=') and word.endswith('/out/rlib')}
+        self.assertEqual({*made.behind}, handed_on)
 
     def test_what_changed_while_the_gate_ran_is_not_taken(self) -> None:
         self.tree.hold('last')
