@@ -56,9 +56,7 @@ class Commands(unittest.TestCase):
                 self.assertEqual(self.tree.call(command, 'it', given='a row\n').stdout, 'stand-in it\na row\n')
 
     def test_check_has_one_run_over_sources_and_keeps_others_out(self) -> None:
-        self.tree.hold('left')
-        call = self.tree.begin('check', 'left', '--only', 'half')
-        waited(lambda: self.tree.process_of('left') is not None, 'left is checked')
+        call = self.tree.begin_held('left', 'check', 'left', '--only', 'half')
         beside = self.tree.begin('bully', 'it')
         waited(lambda: 'waits for another call, which builds or checks base' in self.tree.said(), 'the other call waits')
         self.assertEqual(self.tree.begun(), ['left'])
@@ -125,9 +123,7 @@ class Ending(unittest.TestCase):
                 waited(lambda: not is_there(child), 'the child is gone')
 
     def test_a_signal_that_is_ignored_ends_nothing(self) -> None:
-        self.tree.hold('base')
-        call = self.tree.begin('bully', 'it', ignored=(signal.SIGHUP,))
-        waited(lambda: self.tree.process_of('base') is not None, 'base is begun')
+        call = self.tree.begin_held('base', 'bully', 'it', ignored=(signal.SIGHUP,))
         call.send_signal(signal.SIGHUP)
         self.tree.let_go('base')
         self.assertEqual((call.communicate(timeout=60)[0], call.returncode), ('stand-in it\n', 0))
@@ -140,9 +136,7 @@ class Ending(unittest.TestCase):
         self.assertIn('bully: left was not built\n', ended.stderr)
 
     def test_what_builds_without_proofs_ends_before_its_folder_goes(self) -> None:
-        self.tree.hold('try')
-        call = self.tree.begin('try', 'it')
-        waited(lambda: self.tree.process_of('try') is not None, 'it is begun')
+        call = self.tree.begin_held('try', 'try', 'it')
         call.send_signal(signal.SIGTERM)
         call.communicate(timeout=60)
         self.assertEqual(call.returncode, 128 + signal.SIGTERM)

@@ -205,25 +205,16 @@ class Kept(unittest.TestCase):
         self.assertEqual(self.built_behind(), ['base', 'bully', 'left', 'right'])
 
     def test_what_changed_while_it_was_built_is_not_kept(self) -> None:
-        self.tree.hold('left')
-        call = self.tree.begin('bully', 'it')
-        waited(lambda: self.tree.process_of('left') is not None, 'left is begun')
-        self.tree.write('left', 'src/lib.rt', '// another left\n')
-        self.tree.let_go('left')
-        self.assertEqual((call.communicate(timeout=60)[0], call.returncode), ('', 125))
-        self.assertIn('bully: left changed while it was built: call this again\n', self.tree.said())
+        call = self.tree.call_with_edit('bully', 'left', 'left')
+        self.assertEqual((call.stdout, call.returncode), ('', 125))
+        self.assertIn('bully: left changed while it was built: call this again\n', call.stderr)
         self.tree.write('left', 'src/lib.rt', '// left\n')
         self.assertIn('left', self.built_behind())
 
     def test_what_changed_before_its_turn_is_not_built(self) -> None:
-        self.tree.hold('base')
-        call = self.tree.begin('bully', 'it')
-        waited(lambda: self.tree.process_of('base') is not None, 'base is begun')
-        self.tree.write('left', 'src/lib.rt', '// another left\n')
-        self.tree.let_go('base')
-        call.communicate(timeout=60)
+        call = self.tree.call_with_edit('bully', 'base', 'left')
         self.assertEqual((call.returncode, 'left' in self.tree.begun()), (125, False))
-        self.assertIn('bully: left changed while it was built: call this again\n', self.tree.said())
+        self.assertIn('bully: left changed while it was built: call this again\n', call.stderr)
 
     def test_a_deleted_crate_has_those_above_built(self) -> None:
         self.build_first()
@@ -241,9 +232,7 @@ class Kept(unittest.TestCase):
         self.assertIn('left', self.built_behind())
 
     def test_two_calls_at_once_build_once(self) -> None:
-        self.tree.hold('base')
-        first = self.tree.begin('bully', 'one')
-        waited(lambda: self.tree.process_of('base') is not None, 'base is begun')
+        first = self.tree.begin_held('base', 'bully', 'one')
         second = self.tree.begin('bully', 'two')
         waited(lambda: 'waits for another call' in self.tree.said(), 'the second call waits')
         self.tree.let_go('base')
@@ -253,9 +242,7 @@ class Kept(unittest.TestCase):
 
     def ended_by(self, number: int) -> int:
         """Ends a build while it proves base, and gives the process of the prover."""
-        self.tree.hold('base')
-        call = self.tree.begin('bully', 'it')
-        waited(lambda: self.tree.process_of('base') is not None, 'base is begun')
+        call = self.tree.begin_held('base', 'bully', 'it')
         call.send_signal(number)
         call.communicate(timeout=60)
         self.assertNotEqual(call.returncode, 0)

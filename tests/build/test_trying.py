@@ -3,7 +3,7 @@ import subprocess
 import unittest
 from pathlib import Path
 
-from stand_in import Tree, waited
+from stand_in import Tree
 
 # A program that ends as a check ends one: it writes AddressSanitizer's report with the places of its functions, and aborts.
 CHECKED = r'''
@@ -75,13 +75,9 @@ class Trying(unittest.TestCase):
         self.assertFalse((self.tree.top / 'out' / 'try' / 'bully').exists())
 
     def test_what_changed_while_it_was_built_is_not_kept(self) -> None:
-        self.tree.hold('try')
-        call = self.tree.begin('try', 'it')
-        waited(lambda: self.tree.process_of('try') is not None, 'it is begun')
-        self.tree.write('base', 'src/lib.rt', '// another base\n')
-        self.tree.let_go('try')
-        self.assertEqual((call.communicate(timeout=60)[0], call.returncode), ('', 125))
-        self.assertIn('bully: base changed while it was built: call this again\n', self.tree.said())
+        call = self.tree.call_with_edit('try', 'try', 'base')
+        self.assertEqual((call.stdout, call.returncode), ('', 125))
+        self.assertIn('bully: base changed while it was built: call this again\n', call.stderr)
         self.tree.write('base', 'src/lib.rt', '// base\n')
         self.tree.call('try')
         self.assertEqual(self.tree.begun(), ['try', 'try'])
