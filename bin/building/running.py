@@ -83,20 +83,20 @@ def hand_on(tool: str) -> NoReturn:
 
 def run_beside(needs: Dict[str, List[str]], length: Dict[str, int], run: Callable[[str, int], object], children: Children) -> Iterator[str]:
     """Does each task once those that it needs are done, those of long chains first, and tells its name when it is done. `length` has, as a
-    guess, how long the chain of tasks is that begins with it. `run` is given how many processes a task may use: up to two if its chain is within
-    a quarter of the longest, else one; and the first what the others that are ready leave of the cores. At most one process more than
-    cores is under way, if memory holds it: each reads alone at first."""
-    tasks, cores, most = TopologicalSorter(needs), all_jobs(), all_jobs(1)
+    guess, how long the chain of tasks is that begins with it. `run` is given how many processes a task may use: up to two if its chain is three
+    fifths of the longest or more, else one; and the first what the others that are ready leave of the cores. At most as many tasks as cores are
+    under way, and two processes more, if memory holds them: a task has one while it reads, and while it takes in what the others did."""
+    tasks, cores, most = TopologicalSorter(needs), all_jobs(), all_jobs(2)
     tasks.prepare()
     ready: List[str] = []
     under_way: 'Dict[Future[object], Tuple[str, int]]' = {}
-    with ThreadPoolExecutor(most) as pool, children:
+    with ThreadPoolExecutor(cores) as pool, children:
         while tasks.is_active():
             ready = sorted([*ready, *tasks.get_ready()], key=lambda name: length[name])
-            while ready and (used := sum(processes for _, processes in under_way.values())) < most:
+            while ready and len(under_way) < cores and (used := sum(processes for _, processes in under_way.values())) < most:
                 name = ready.pop()
                 longest = max(length[each] for each in (name, *(other for other, _ in under_way.values())))
-                least = 2 if 4 * length[name] >= 3 * longest else 1
+                least = 2 if 5 * length[name] >= 3 * longest else 1
                 processes = min(max(cores - used - len(ready), least), cores, most - used)
                 under_way[pool.submit(run, name, processes)] = name, processes
             for ended in wait(under_way, return_when=FIRST_COMPLETED).done:

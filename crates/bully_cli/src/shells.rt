@@ -37,13 +37,31 @@ const SHELL_CHOICE: &str = "(bash zsh fish)";
 /// What the shell reads to complete the program's commands and options, and the paths behind them. Refused where an allocation fails.
 pub fn completion(alloc: Global, shell: Shell) -> Result<String, AllocError> {
     let command = command_line(alloc)?;
+    completion_by(alloc, shell, command.get_subcommands())
+}
+
+// The same, from the commands of the command line.
+fn completion_by(
+    alloc: Global,
+    shell: Shell,
+    commands: &[Command<'_>],
+) -> Result<String, AllocError> {
     let mut text = String::new(alloc);
-    match shell {
-        Shell::Bash => push_bash(&mut text, command.get_subcommands())?,
-        Shell::Zsh => push_zsh(&mut text, command.get_subcommands())?,
-        Shell::Fish => push_fish(&mut text, command.get_subcommands())?,
-    }
+    push_completion(&mut text, shell, commands)?;
     Ok(text)
+}
+
+// Appends it.
+fn push_completion(
+    text: &mut String,
+    shell: Shell,
+    commands: &[Command<'_>],
+) -> Result<(), AllocError> {
+    match shell {
+        Shell::Bash => push_bash(text, commands),
+        Shell::Zsh => push_zsh(text, commands),
+        Shell::Fish => push_fish(text, commands),
+    }
 }
 
 // Whether the argument is the name of a shell.
