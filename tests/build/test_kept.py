@@ -4,7 +4,7 @@ import subprocess
 import unittest
 from concurrent.futures import Future, wait
 from pathlib import Path
-from threading import Barrier
+from threading import Barrier, Lock
 from typing import Any, Dict, List, Tuple
 from unittest import mock
 
@@ -55,7 +55,7 @@ class Graph(unittest.TestCase):
     def test_long_chains_have_two_processes(self) -> None:
         for length, wanted in (
             ({'longest': 40, 'long': 30, 'short': 10}, {'longest': 2, 'long': 2, 'short': 1}),
-            ({'longest': 40, 'short': 29, 'another': 10, 'more': 10}, {'longest': 2, 'short': 1, 'another': 1, 'more': 1}),
+            ({'longest': 40, 'long': 24, 'short': 23, 'another': 10}, {'longest': 2, 'long': 2, 'short': 1, 'another': 1}),
         ):
             self.assertEqual(self.given({name: [] for name in length}, length), wanted)
 
@@ -69,34 +69,41 @@ class Graph(unittest.TestCase):
         found = self.given(needs, {'first': 50, 'late': 20, 'middle': 30, 'short': 10}, room=1)
         self.assertEqual(list(found), ['first', 'middle', 'late', 'short'])
 
-    def test_one_core_has_two_tasks_of_one_process(self) -> None:
-        meeting = Barrier(2, timeout=60)  # that both are under way at once
+    def test_as_many_tasks_as_cores_are_under_way(self) -> None:
+        for cores in (1, 2):
+            under_way, most = [0], [0]
+            meeting, lock = Barrier(cores, timeout=60), Lock()  # that so many are under way at once
 
-        def run(name: str, processes: int) -> bool:
-            meeting.wait()
-            return processes == 1
+            def run(name: str, processes: int) -> None:
+                with lock:
+                    under_way[0] += 1
+                    most[0] = max(most[0], under_way[0])
+                meeting.wait()
+                with lock:
+                    under_way[0] -= 1
 
-        with mock.patch('building.running.all_jobs', side_effect=lambda more=0: 1 + more):
-            self.assertEqual(set(run_beside({'one': [], 'other': []}, {'one': 2, 'other': 2}, run, Children(()))), {'one', 'other'})
+            with mock.patch('building.running.all_jobs', side_effect=lambda more=0: cores + more):
+                list(run_beside({f'task {number}': [] for number in range(6)}, {f'task {number}': 2 for number in range(6)}, run, Children(())))
+            self.assertEqual(most, [cores])
 
-    def test_one_more_than_cores_is_under_way_if_memory_holds_it(self) -> None:
+    def test_two_more_than_cores_are_under_way_if_memory_holds_them(self) -> None:
         seen: List[int] = []
 
         def watched(under_way: 'Dict[Future[bool], Tuple[str, int]]', return_when: str) -> Any:
             seen.append(sum(processes for _, processes in under_way.values()))
             return wait(under_way, return_when=return_when)
 
-        for room, most in ((8, 5), (3, 3)):
+        for room, most in ((8, 6), (5, 5), (3, 3)):
             seen.clear()
             with mock.patch('building.running.wait', watched):
                 self.given({f'task {number}': [] for number in range(9)}, {f'task {number}': number + 1 for number in range(9)}, room=room)
             self.assertEqual((seen[0], max(seen)), (most, most))
 
-    def test_a_process_for_each_core_or_one_more_as_far_as_memory_goes(self) -> None:
-        for free, wanted in ((99_000_000, (4, 5)), (12_500_000, (4, 4)), (9_100_000, (3, 3)), (1_000, (1, 1))):
+    def test_a_process_for_each_core_or_two_more_as_far_as_memory_goes(self) -> None:
+        for free, wanted in ((99_000_000, (4, 6)), (15_500_000, (4, 5)), (12_500_000, (4, 4)), (9_100_000, (3, 3)), (1_000, (1, 1))):
             told = f'MemTotal:  99000000 kB\nMemAvailable:  {free} kB\n'
             with mock.patch('os.sched_getaffinity', return_value={0, 1, 2, 3}), mock.patch.object(Path, 'read_text', return_value=told):
-                self.assertEqual((all_jobs(), all_jobs(1)), wanted)
+                self.assertEqual((all_jobs(), all_jobs(2)), wanted)
 
     def test_a_chain_has_the_lines_of_code_from_a_crate_on_up(self) -> None:
         self.tree.write('left', 'src/lib.rt', 50 * '// a line\n')
