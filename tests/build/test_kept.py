@@ -4,7 +4,7 @@ import subprocess
 import unittest
 from concurrent.futures import Future, wait
 from pathlib import Path
-from threading import Barrier, Lock
+from threading import Barrier
 from typing import Any, Dict, List, Tuple
 from unittest import mock
 
@@ -69,35 +69,38 @@ class Graph(unittest.TestCase):
         found = self.given(needs, {'first': 50, 'late': 20, 'middle': 30, 'short': 10}, room=1)
         self.assertEqual(list(found), ['first', 'middle', 'late', 'short'])
 
-    def test_as_many_tasks_as_cores_are_under_way(self) -> None:
-        for cores in (1, 2):
-            under_way, most = [0], [0]
-            meeting, lock = Barrier(cores, timeout=60), Lock()  # that so many are under way at once
-
-            def run(name: str, processes: int) -> None:
-                with lock:
-                    under_way[0] += 1
-                    most[0] = max(most[0], under_way[0])
-                meeting.wait()
-                with lock:
-                    under_way[0] -= 1
-
-            with mock.patch('building.running.all_jobs', side_effect=lambda more=0: cores + more):
-                list(run_beside({f'task {number}': [] for number in range(6)}, {f'task {number}': 2 for number in range(6)}, run, Children(())))
-            self.assertEqual(most, [cores])
-
-    def test_two_more_than_cores_are_under_way_if_memory_holds_them(self) -> None:
-        seen: List[int] = []
+    def seen(self, length: Dict[str, int], cores: int = 4, room: int = 8) -> List[Tuple[int, int]]:
+        """How many tasks are under way, and how many processes they may use, each time that the end of one is waited for."""
+        found: List[Tuple[int, int]] = []
 
         def watched(under_way: 'Dict[Future[bool], Tuple[str, int]]', return_when: str) -> Any:
-            seen.append(sum(processes for _, processes in under_way.values()))
+            found.append((len(under_way), sum(processes for _, processes in under_way.values())))
             return wait(under_way, return_when=return_when)
 
+        with mock.patch('building.running.wait', watched):
+            self.given({name: [] for name in length}, length, cores, room)
+        return found
+
+    def test_at_most_as_many_tasks_as_cores_are_under_way(self) -> None:
+        length = {'long': 9, **{f'short {number}': 1 for number in range(6)}}
+        for cores, first in ((1, (1, 1)), (2, (2, 3)), (4, (4, 5))):
+            seen = self.seen(length, cores)
+            self.assertEqual((seen[0], max(tasks for tasks, _ in seen)), (first, cores))
+
+    def test_two_more_than_cores_are_under_way_if_memory_holds_them(self) -> None:
+        length = {f'task {number}': number + 1 for number in range(9)}
         for room, most in ((8, 6), (5, 5), (3, 3)):
-            seen.clear()
-            with mock.patch('building.running.wait', watched):
-                self.given({f'task {number}': [] for number in range(9)}, {f'task {number}': number + 1 for number in range(9)}, room=room)
-            self.assertEqual((seen[0], max(seen)), (most, most))
+            processes = [each for _, each in self.seen(length, room=room)]
+            self.assertEqual((processes[0], max(processes)), (most, most))
+
+    def test_tasks_run_at_once(self) -> None:
+        meeting = Barrier(2, timeout=60)
+
+        def run(name: str, processes: int) -> None:
+            meeting.wait()
+
+        with mock.patch('building.running.all_jobs', side_effect=lambda more=0: 2 + more):
+            self.assertEqual(set(run_beside({'one': [], 'other': []}, {'one': 2, 'other': 1}, run, Children(()))), {'one', 'other'})
 
     def test_a_process_for_each_core_or_two_more_as_far_as_memory_goes(self) -> None:
         for free, wanted in ((99_000_000, (4, 6)), (15_500_000, (4, 5)), (12_500_000, (4, 4)), (9_100_000, (3, 3)), (1_000, (1, 1))):
