@@ -84,8 +84,8 @@ def hand_on(tool: str) -> NoReturn:
 def run_beside(needs: Dict[str, List[str]], length: Dict[str, int], run: Callable[[str, int], object], children: Children) -> Iterator[str]:
     """Does each task once those that it needs are done, those of long chains first, and tells its name when it is done. `length` has, as a
     guess, how long the chain of tasks is that begins with it. `run` is given how many processes a task may use: up to two if its chain is three
-    fifths of the longest or more, else one; and the first what the others that are ready leave of the cores. At most as many tasks as cores are
-    under way, and two processes more, if memory holds them: a task has one while it reads, and while it takes in what the others did."""
+    fifths of the longest that is left or more, else one; and the first what the others that are ready leave of the cores. At most as many tasks
+    as cores are under way, in at most two processes more than cores, and fewer of both if memory is short: each reads alone at first."""
     tasks, cores, most = TopologicalSorter(needs), all_jobs(), all_jobs(2)
     tasks.prepare()
     ready: List[str] = []

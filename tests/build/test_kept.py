@@ -5,7 +5,7 @@ import unittest
 from concurrent.futures import Future, wait
 from pathlib import Path
 from threading import Barrier
-from typing import Any, Dict, List, Tuple
+from typing import Any, Callable, Dict, List, Tuple
 from unittest import mock
 
 from building.crates import Stopped, read_crates
@@ -13,6 +13,8 @@ from building.kept import made_of, stamp_of, sum_of
 from building.proving import Building, chains
 from building.running import Children, all_jobs, run_beside
 from stand_in import Tree, is_there, waited
+
+Work = Callable[[str], object]
 
 
 class Graph(unittest.TestCase):
@@ -35,12 +37,13 @@ class Graph(unittest.TestCase):
         with self.assertRaisesRegex(Stopped, 'left|right'):
             read_crates(self.tree.top)
 
-    def given(self, needs: Dict[str, List[str]], length: Dict[str, int], cores: int = 4, room: int = 8) -> Dict[str, int]:
-        """How many processes each task may use, in the order in which they begin, in the room of so many processes."""
+    def given(self, needs: Dict[str, List[str]], length: Dict[str, int], cores: int = 4, room: int = 8, work: Work = str) -> Dict[str, int]:
+        """How many processes each task may use, in the order in which they begin, in the room of so many processes. A task does this work."""
         found: Dict[str, int] = {}
 
         def run(name: str, processes: int) -> bool:
             found[name] = processes
+            work(name)
             return True
 
         with mock.patch('building.running.all_jobs', side_effect=lambda more=0: min(cores + more, room)):
@@ -55,7 +58,7 @@ class Graph(unittest.TestCase):
     def test_long_chains_have_two_processes(self) -> None:
         for length, wanted in (
             ({'longest': 40, 'long': 30, 'short': 10}, {'longest': 2, 'long': 2, 'short': 1}),
-            ({'longest': 40, 'long': 24, 'short': 23, 'another': 10}, {'longest': 2, 'long': 2, 'short': 1, 'another': 1}),
+            ({'longest': 100, 'long': 60, 'short': 59, 'another': 10}, {'longest': 2, 'long': 2, 'short': 1, 'another': 1}),
         ):
             self.assertEqual(self.given({name: [] for name in length}, length), wanted)
 
@@ -89,23 +92,25 @@ class Graph(unittest.TestCase):
 
     def test_two_more_than_cores_are_under_way_if_memory_holds_them(self) -> None:
         length = {f'task {number}': number + 1 for number in range(9)}
-        for room, most in ((8, 6), (5, 5), (3, 3)):
-            processes = [each for _, each in self.seen(length, room=room)]
-            self.assertEqual((processes[0], max(processes)), (most, most))
+        for room, first in ((8, (3, 6)), (5, (3, 5)), (3, (2, 3))):
+            seen = self.seen(length, room=room)
+            self.assertEqual((seen[0], max(processes for _, processes in seen)), (first, first[1]))
 
     def test_tasks_run_at_once(self) -> None:
-        meeting = Barrier(2, timeout=60)
+        meeting = Barrier(4, timeout=60)
+        length = {'long': 9, 'one': 1, 'other': 1, 'third': 1}
+        self.assertEqual(set(self.given({name: [] for name in length}, length, work=lambda name: meeting.wait())), set(length))
 
-        def run(name: str, processes: int) -> None:
-            meeting.wait()
-
-        with mock.patch('building.running.all_jobs', side_effect=lambda more=0: 2 + more):
-            self.assertEqual(set(run_beside({'one': [], 'other': []}, {'one': 2, 'other': 1}, run, Children(()))), {'one', 'other'})
+    def test_a_task_begins_while_another_goes_on(self) -> None:
+        meeting = Barrier(2, timeout=60)  # of the one that goes on, and the one that stands on what is done
+        needs: Dict[str, List[str]] = {'low': [], 'beside': [], 'high': ['low']}
+        found = self.given(needs, {'low': 90, 'beside': 10, 'high': 60}, work=lambda name: name == 'low' or meeting.wait())
+        self.assertEqual(found, {'low': 3, 'beside': 1, 'high': 3})
 
     def test_a_process_for_each_core_or_two_more_as_far_as_memory_goes(self) -> None:
-        for free, wanted in ((99_000_000, (4, 6)), (15_500_000, (4, 5)), (12_500_000, (4, 4)), (9_100_000, (3, 3)), (1_000, (1, 1))):
-            told = f'MemTotal:  99000000 kB\nMemAvailable:  {free} kB\n'
-            with mock.patch('os.sched_getaffinity', return_value={0, 1, 2, 3}), mock.patch.object(Path, 'read_text', return_value=told):
+        for free, wanted in ((99_000_000, (5, 7)), (15_000_000, (5, 5)), (14_999_999, (4, 4)), (11_999_999, (3, 3)), (1_000, (1, 1)), (None, (5, 7))):
+            told = 'MemTotal:  99000000 kB\n' + (f'MemAvailable:  {free} kB\n' if free else '')
+            with mock.patch('os.sched_getaffinity', return_value=set(range(5))), mock.patch.object(Path, 'read_text', return_value=told):
                 self.assertEqual((all_jobs(), all_jobs(2)), wanted)
 
     def test_a_chain_has_the_lines_of_code_from_a_crate_on_up(self) -> None:

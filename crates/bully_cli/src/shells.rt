@@ -51,7 +51,7 @@ fn completion_by(
     Ok(text)
 }
 
-// Appends it.
+// Appends the same to a text.
 fn push_completion(
     text: &mut String,
     shell: Shell,
