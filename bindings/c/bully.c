@@ -416,6 +416,20 @@ bully_status bully_member_owned(bully_member *member, uint32_t *token, uint16_t 
     return bully_c_member_owned(member, token, target(partitions, room), room, count);
 }
 
+PROVED(member_owned_of);
+bully_status bully_member_owned_of(bully_member *member, const bully_presence *presence, uint32_t *token, uint16_t *partitions,
+                                   size_t room, size_t *count) {
+    if (member == NULL || presence == NULL || token == NULL || !can_lie(partitions, room, sizeof *partitions) || count == NULL) {
+        return BULLY_NULL;
+    }
+    return bully_c_member_owned_of(member, presence, token, target(partitions, room), room, count);
+}
+
+PROVED(member_rests);
+bully_status bully_member_rests(bully_member *member, uint64_t now, uint32_t *rests) {
+    return member == NULL || rests == NULL ? BULLY_NULL : bully_c_member_rests(member, now, rests);
+}
+
 PROVED(member_show);
 bully_status bully_member_show(bully_member *member, uint64_t now, bully_member_state *shown) {
     return member == NULL || shown == NULL ? BULLY_NULL : bully_c_member_show(member, now, shown);

@@ -1,11 +1,11 @@
-//! Tells cargo where the library is: in the folder that BULLY_LIBRARY names; or else in `lib` of the archive that this crate stands in; or
-//! else in `out/library` of the repository, where `bin/library` makes it. Its `libbully.a` is taken into the crate, so a program that has
+//! Tells cargo where the library is: in the folder that BULLY_LIBRARY names, or in `lib` of that; or else in `lib` of the archive that this
+//! crate stands in; or else in `out/library` of the repository, where `bin/library` makes it. Its `libbully.a` is taken into the crate, so a program that has
 //! this crate has to name no library. And it writes what the header of that library declares for `src/raw.rs`, into the folder OUT_DIR.
 //!
 //! Without cargo, rustc does the same so:
 //!
 //!     rustc --edition 2021 build.rs -o build && OUT_DIR=$PWD BULLY_LIBRARY=FOLDER ./build
-//!     OUT_DIR=$PWD rustc --edition 2021 --crate-type rlib --crate-name bully src/lib.rs -L native=FOLDER -l static=bully
+//!     OUT_DIR=$PWD rustc --edition 2021 --crate-type rlib --crate-name bully src/lib.rs -L native=FOLDER/lib -l static=bully
 //!     rustc --edition 2021 PROGRAM.rs --extern bully=libbully.rlib
 
 use std::env;
@@ -18,9 +18,9 @@ const HEADER: &str = "bully.h";
 
 const HOW_TO_FIND: &str = "\
 set BULLY_LIBRARY to the folder that has it:
-    lib of an archive cinnabarloom-VERSION-x86_64-linux, or
+    that of an archive cinnabarloom-VERSION-x86_64-linux, or
     FOLDER, behind `bin/library FOLDER` in the repository of Cinnabarloom.
-For example: BULLY_LIBRARY=/opt/cinnabarloom/lib cargo build";
+For example: BULLY_LIBRARY=/opt/cinnabarloom cargo build";
 
 fn main() {
     println!("cargo:rerun-if-env-changed=BULLY_LIBRARY");
@@ -46,10 +46,12 @@ fn tell_and_write() -> Result<(), String> {
 // The folder that has the library, or what is wrong. A path that isn't absolute goes from the folder of this file.
 fn library_folder(here: &Path) -> Result<PathBuf, String> {
     match env::var_os("BULLY_LIBRARY") {
-        Some(named) if !named.is_empty() => Some(here.join(named))
-            .filter(|folder| has_library(folder))
+        Some(named) if !named.is_empty() => ["lib", ""]
+            .iter()
+            .map(|place| here.join(&named).join(place))
+            .find(|folder| has_library(folder))
             .ok_or_else(|| format!("there is no {ARCHIVE} in BULLY_LIBRARY")),
-        _ => ["../../lib", "../../out/library"]
+        _ => ["../../lib", "../../out/library/lib"]
             .iter()
             .map(|place| here.join(place))
             .find(|folder| has_library(folder))

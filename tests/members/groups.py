@@ -135,7 +135,7 @@ class Group:
         """Starts `bully-member`, where the member is, if one is named."""
         within = self.within(member) if member else ()
         words = [
-            *within, sys.executable, '-W', 'error', '-m', 'bully.command', name, '--log', self.stores[member], *more,
+            *within, sys.executable, '-W', 'error', '-m', 'bully_member', name, '--log', self.stores[member], *more,
         ]  # fmt: skip
         with open(self.said(member or name), 'ab') as said:
             return subprocess.Popen(words, env=environment(), stdout=said, stderr=said)
@@ -209,14 +209,13 @@ class Group:
         return None
 
     def goes_on(self, end: float, but: str = '') -> float | None:
-        """Waits until one more unit is done on each partition, but those of that node, by the token of the table. When
-        that was."""
-        before = self.work.sizes()
+        """Waits until one more unit is done on each partition, but those of that node, which have no owner while it may
+        not work on them, by the token of the table. When that was."""
+        before, left_out = self.work.sizes(), (but, None) if but else ()
         while time.monotonic() < end:
             shown, sizes, tokens = self.look(), self.work.sizes(), self.work.last_tokens()
-            others = (
-                [partition for partition, owner in enumerate(shown.owners) if owner != but] if shown is not None else []
-            )
+            owners = enumerate(shown.owners if shown is not None else ())
+            others = [partition for partition, owner in owners if owner not in left_out]
             are_done = all(sizes[partition] > before[partition] for partition in others)
             if shown is not None and are_done and {tokens[partition] for partition in others} == {shown.token}:
                 return time.monotonic()

@@ -8,7 +8,8 @@ from typing import TypeVar
 
 from bully import BullyError, Owned, Setup
 from bully.member import (
-    Ask, Begin, End, Life, Opening, Presence, Present, Promise, Request, Rest, Seen, Step, StoreAnswer, Unknown, Wait,
+    Ask, Begin, End, Life, Opening, Presence, Present, Promise, Request, Rest, Seen, Step, Stop, StoreAnswer, Unknown,
+    Wait,
 )  # fmt: skip
 from . import proved
 from .driven import Maker, Rules, Wrong
@@ -151,13 +152,14 @@ class Anything:
         return replace(opening, **changes)  # type: ignore[arg-type]
 
     def tell(self, step: Step) -> None:
-        """Mostly what fits the step."""
+        """Mostly what fits the step, or what is awaited still."""
+        asked = self.both.plain.asked
         if self.choice.random() < 0.15:
             self.tell_kind(
                 self.choice.choice(['answer', 'look', 'woke', 'stopped', 'lost', 'follow', 'pass', 'leave', 'nothing'])
             )
-        elif isinstance(step, Ask):
-            self.tell_kind({Request.LOOK: 'look', Request.FOLLOW: 'follow'}.get(step.request, 'answer'))
+        elif asked is not None:
+            self.tell_kind({Request.LOOK: 'look', Request.FOLLOW: 'follow'}.get(asked[0].request, 'answer'))
         elif not isinstance(step, Begin):
             self.tell_kind('woke' if isinstance(step, Wait) else self.choice.choice(['stopped', 'nothing']))
 
@@ -226,8 +228,10 @@ class Anything:
     def step(self) -> Step:
         """The next one keeps what users may rely on."""
         plain = self.both.plain
-        work, may_begin = plain.work, self.may_begin()
+        work, may_begin, awaited = plain.work, self.may_begin(), plain.asked
         step = self.both.next(self.now)
+        if awaited is not None and not isinstance(step, (Rest, Stop)):
+            raise Wrong(f'{step}, while {awaited} is not answered: {plain.state()}')
         waited = step.at_most if isinstance(step, (Wait, Rest)) else 1
         is_of_group = isinstance(step, Ask) and step.request in (Request.APPEND, Request.FINISH, Request.PROMISE)
         if isinstance(step, Begin) and not may_begin or waited <= 0 or is_of_group and work:

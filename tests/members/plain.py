@@ -286,15 +286,20 @@ class Plain:
         return step
 
     def _step_of_work(self, now: int) -> Step | None:
-        """Rules 1 to 4: work that may not go on stops, and nothing is asked just behind what wasn't answered."""
-        if self.work is not None and self.work.way is Way.STOPPING:
+        """Rules 1 to 4: work that may not go on stops, one thing is asked at a time, and nothing just behind what wasn't
+        answered."""
+        is_stopping = self.work is not None and self.work.way is Way.STOPPING
+        works = self.work is not None and not is_stopping
+        if works and (self.work.way is Way.LOST or not self._goes_on(now, self.work.token)):
+            return Stop()
+        if self.asked is not None:
+            return Rest(self.sure_until - now if works else self.ttl)
+        if is_stopping:
             if not isinstance(self.life, Present):
                 return Rest(self.ttl)
             if self._is_due(now) and not self._is_quiet(now):
                 return Ask(Request.RENEW, self.life.life)
             return Rest(max(left(self.renewal, self.life.since, now), self._quiet_left(now)))
-        if self.work is not None and (self.work.way is Way.LOST or not self._goes_on(now, self.work.token)):
-            return Stop()
         if self._is_quiet(now):
             quiet = self._quiet_left(now)
             return Rest(quiet if self.work is None else min(quiet, self.sure_until - now))

@@ -95,6 +95,7 @@ class Soak:
                 kinds[f'{whom} paused for long'] = partial(self.strike, (), names, LONG)
         kinds['a member killed whose worker is paused'] = partial(self.strike, ('member',), ('worker',), LONG)
         kinds['a guard killed whose member is paused'] = partial(self.strike, ('guard',), ('member',), LONG)
+        kinds['a member killed whose guard is paused'] = self.strike_below
         return kinds
 
     def of_servers(self, servers: Servers) -> dict[str, Strike]:
@@ -116,6 +117,19 @@ class Soak:
         is_seen = waited(lambda: all(each.has_ended or each.is_stopped for each in [*dead, *still]))
         is_seen &= all(each.has_ended for each in dead) and not any(each.has_ended for each in still)
         self.do_later(self.choice.uniform(*span) * self.group.ttl if still else 0.0, partial(resume, still, there))
+        return is_seen
+
+    def strike_below(self) -> bool:
+        """A guard is paused, and then its member is killed: so the guard goes on at once. Whether both were seen."""
+        there = self.tend_until(self.some_family, PART_MAX)
+        if not there:
+            return False
+        member, guard = there['member'], there['guard']
+        send_all([guard], signal.SIGSTOP)
+        is_seen = waited(lambda: guard.is_stopped or guard.has_ended) and not guard.has_ended
+        send_all([member], signal.SIGKILL)
+        is_seen &= waited(lambda: member.has_ended)
+        self.do_later(self.choice.uniform(*LONG) * self.group.ttl, partial(resume, [guard], there))
         return is_seen
 
     def some_family(self) -> dict[str, Process]:

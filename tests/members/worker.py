@@ -60,10 +60,10 @@ def work_by_file(partition: str) -> None:
 
 def work_by_recorder(partition: str) -> None:
     """One unit, by leave of the recorder."""
-    recorder.send(f'begin {partition} {token} {node} {time.clock_gettime_ns(time.CLOCK_BOOTTIME)}'.encode())
+    recorder.send(f'begin {partition} {token} {node} {time.clock_gettime_ns(time.CLOCK_MONOTONIC)}'.encode())
     if recorder.recv(ROW) == b'granted':
         time.sleep(UNIT)
-        recorder.send(b'end %d' % time.clock_gettime_ns(time.CLOCK_BOOTTIME))
+        recorder.send(b'end %d' % time.clock_gettime_ns(time.CLOCK_MONOTONIC))
 
 
 def hear() -> None:

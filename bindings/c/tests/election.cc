@@ -363,6 +363,12 @@ public:
         });
     }
 
+    Owners owned_of(const bully_presence &presence, std::uint32_t *token) {
+        return list_of([&](std::uint16_t *items, std::size_t room, std::size_t *count) {
+            return bully_member_owned_of(&handle, &presence, token, items, room, count);
+        });
+    }
+
     Owners planned() {
         return list_of([&](std::uint16_t *items, std::size_t room, std::size_t *count) {
             return bully_member_planned(&handle, items, room, count);
@@ -378,7 +384,7 @@ private:
 // Process 9 takes the presence of its node, settles its group, works, stops, and goes on in another epoch, where it isn't there.
 void act() {
     const std::vector<bully_presence> own = {{9, 1, 1, 0, 1}};
-    std::uint32_t token = 77;
+    std::uint32_t token = 77, rests = 77;
     bully_group shown = {};
     bully_state state = {};
     Member member;
@@ -388,6 +394,7 @@ void act() {
     member.ask(30, BULLY_ASK_APPEND);
     member.look(40, member.settlement(), own);
     EXPECT(member.next(50).kind == BULLY_STEP_BEGIN && member.owned(&token) == Owners{0} && token == 5 && member.planned() == Owners{1});
+    EXPECT(member.owned_of(own[0], &token) == Owners{0} && bully_member_rests(*member, 50, &rests) == BULLY_OK && rests == 1);
     EXPECT(bully_member_group(*member, &shown) == BULLY_OK && shown.events == 6);
     EXPECT(bully_member_node(*member, 1, &state) == BULLY_OK && state.status == BULLY_NORMAL);
     EXPECT(bully_member_woke(*member) == BULLY_OK && bully_member_lost(*member, 5) == BULLY_OK);

@@ -63,6 +63,14 @@ static void try_null_of_showing(bully_member *member) {
     ANSWERS(NULL, bully_member_owned(member, &token, NULL, 1, &count));
     ANSWERS(NULL, bully_member_owned(member, &token, items, TOO_MANY_PAIRS, &count));
     ANSWERS(NULL, bully_member_owned(member, &token, items, 1, NULL));
+    ANSWERS(NULL, bully_member_owned_of(NULL, present, &token, items, 1, &count));
+    ANSWERS(NULL, bully_member_owned_of(member, NULL, &token, items, 1, &count));
+    ANSWERS(NULL, bully_member_owned_of(member, present, NULL, items, 1, &count));
+    ANSWERS(NULL, bully_member_owned_of(member, present, &token, NULL, 1, &count));
+    ANSWERS(NULL, bully_member_owned_of(member, present, &token, items, TOO_MANY_PAIRS, &count));
+    ANSWERS(NULL, bully_member_owned_of(member, present, &token, items, 1, NULL));
+    ANSWERS(NULL, bully_member_rests(NULL, 0, &token));
+    ANSWERS(NULL, bully_member_rests(member, 0, NULL));
     ANSWERS(NULL, bully_member_show(NULL, 0, &shown));
     ANSWERS(NULL, bully_member_show(member, 0, NULL));
     ANSWERS(NULL, bully_member_node(NULL, 1, &state));
@@ -103,6 +111,8 @@ static void try_closed_member(bully_member *member) {
     ANSWERS(CLOSED, bully_member_stopped(member));
     ANSWERS(CLOSED, bully_member_settlement(member, text, sizeof text, &count));
     ANSWERS(CLOSED, bully_member_owned(member, &token, items, 1, &count));
+    ANSWERS(CLOSED, bully_member_owned_of(member, present, &token, items, 1, &count));
+    ANSWERS(CLOSED, bully_member_rests(member, 0, &token));
     ANSWERS(CLOSED, bully_member_show(member, 0, &shown));
     ANSWERS(CLOSED, bully_member_node(member, 0, &state));
     ANSWERS(CLOSED, bully_member_group(member, &group));

@@ -128,6 +128,28 @@ static void begin(bully_member *member) {
 
 /* ---- Stories ---- */
 
+/* Life 1 of process 5 owns the partition by the plan of token 5, if it has promised less in epoch 7; and the group rests. */
+static void show_owned_of(bully_member *member) {
+    bully_presence own = {5, 1, 7, 4, 1}, third = {5, 1, 7, 0, 3}, none = {5, 1, 7, 0, 0};
+    uint16_t numbers[2] = {77, 77};
+    uint32_t token = 77, rest = 77;
+    size_t count = 77;
+    ANSWERS(BAD_NODE, bully_member_owned_of(member, &third, &token, numbers, 2, &count));
+    ANSWERS(BAD_NODE, bully_member_owned_of(member, &none, &token, numbers, 2, &count));
+    EXPECT(token == 77 && count == 77 && numbers[0] == 77);
+    ANSWERS(OK, bully_member_owned_of(member, &own, &token, numbers, 2, &count));
+    EXPECT(token == 5 && count == 1 && numbers[0] == 0 && numbers[1] == 77);
+    ANSWERS(SHORT, bully_member_owned_of(member, &own, &token, NULL, 0, &count));
+    own.place = 5;
+    ANSWERS(OK, bully_member_owned_of(member, &own, &token, numbers, 2, &count));
+    EXPECT(token == 0 && count == 0);
+    own.epoch = 6;
+    ANSWERS(OK, bully_member_owned_of(member, &own, &token, numbers, 2, &count));
+    EXPECT(token == 5 && count == 1);
+    ANSWERS(OK, bully_member_rests(member, 100, &rest));
+    EXPECT(rest == 1);
+}
+
 static void show_worker(bully_member *member) {
     bully_member_state shown = state_of(member, 100);
     bully_group group = {77, 77, 77, 77, 77, 77, 77};
@@ -143,6 +165,7 @@ static void show_worker(bully_member *member) {
     EXPECT(token == 5 && count == 1 && numbers[0] == 0 && numbers[1] == 77);
     ANSWERS(SHORT, bully_member_owned(member, &token, NULL, 0, &count));
     EXPECT(token == 5 && count == 1);
+    show_owned_of(member);
     ANSWERS(OK, bully_member_group(member, &group));
     EXPECT(group.rows == 6 && group.events == 6 && group.token == 5 && group.planner == 1 && group.nodes == 1 && group.partitions == 1);
     ANSWERS(OK, bully_member_planned(member, numbers, 2, &count));
@@ -199,6 +222,32 @@ static void lose(void) {
     EXPECT(state_of(&member, 250020).since == 250010);
     ANSWERS(OK, bully_member_stopped(&member));
     EXPECT(begins(&member, 250030, 5));
+    ANSWERS(OK, bully_member_close(&member));
+}
+
+/* One request is under way at a time: until it is answered nothing else is asked for, and work stops that may not go on. */
+static void await_one(void) {
+    bully_member member;
+    uint32_t rest = 77;
+    open_one(&member);
+    ANSWERS(OK, bully_member_rests(&member, 0, &rest));
+    EXPECT(rest == 0 && asks(&member, 0, BULLY_ASK_LOOK) && rests(&member, 1, TTL) && rests(&member, 2 * TTL, TTL));
+    ANSWERS(OK, bully_member_close(&member));
+    open_one(&member);
+    begin(&member);
+    ANSWERS(OK, bully_member_woke(&member));
+    EXPECT(asks(&member, 100, BULLY_ASK_LOOK));
+    /* its presence is sure up to 800,010, and would be renewed by 250,010 */
+    EXPECT(rests(&member, 110, 799900) && rests(&member, 260010, 540000));
+    EXPECT(stops(&member, 800010) && rests(&member, 800020, TTL));
+    ANSWERS(OK, bully_member_stopped(&member));
+    EXPECT(rests(&member, 800030, TTL));
+    answer(&member, 800040, BULLY_STORE_UNANSWERED);
+    EXPECT(rests(&member, 800040, 50000) && asks_of(&member, 850040, BULLY_ASK_RENEW, 1, 0));
+    /* the answer is that of the renewal, whatever was due meanwhile */
+    EXPECT(rests(&member, 850050, TTL));
+    answer(&member, 850060, BULLY_STORE_DONE);
+    EXPECT(state_of(&member, 850060).since == 850040);
     ANSWERS(OK, bully_member_close(&member));
 }
 
@@ -335,6 +384,7 @@ static void try_broken(void) {
 void try_members(void) {
     work_and_stop();
     lose();
+    await_one();
     leave();
     follow();
     tell_in_vain();

@@ -199,6 +199,11 @@ static bully_status own(void) {
     return bully_member_owned(&member, &token, owners, 2, &length);
 }
 
+static bully_status own_of(void) {
+    static const bully_presence presence = {9, 1, 1, 0, 1};
+    return bully_member_owned_of(&member, &presence, &token, owners, 2, &length);
+}
+
 static bully_status follow(void) {
     static const uint16_t old[3] = {1, 0, 2};
     return bully_member_followed(&member, 90, "bully,1,2,3\n", 12, 2, 2, ROWS_MAX, old, 3);
@@ -394,6 +399,9 @@ static void refuse_of_member(void) {
     refuse_each("bully_member_learn, plan", BULLY_OK, learn_table, 1);
     ANSWERS(OK, bully_member_learn(&member, "start,2\nrun,2\n", 14, &length));
     refuse_each("bully_member_owned", BULLY_OK, own, 1);
+    EXPECT(token == 12 && length == 1 && owners[0] == 0);
+    token = 77;
+    refuse_each("bully_member_owned_of", BULLY_OK, own_of, 1);
     EXPECT(token == 12 && length == 1 && owners[0] == 0);
     ANSWERS(OK, bully_member_passed(&member));
     ANSWERS(OK, bully_member_next(&member, 80, &step));

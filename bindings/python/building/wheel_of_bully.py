@@ -1,7 +1,7 @@
 """Builds the wheel of the package `bully` for pip, by the standard library alone.
 
-The wheel takes libbully.so with it from the folder BULLY_LIBRARY; or else from `lib` of an archive; or else from
-out/library at the top of the repository, where `bin/library` puts it. Without any it has none, and whoever uses it sets
+The wheel takes libbully.so with it from the folder BULLY_LIBRARY, or from `lib` in that; or else from `lib` of an
+archive; or else from out/library at the top of the repository, where `bin/library` puts it. Without any it has none, and whoever uses it sets
 BULLY_LIBRARY. It always has bully.h, which the package reads: that of the archive or the repository. The same files
 make the same bytes; SOURCE_DATE_EPOCH, where it is set, is the time of each.
 """
@@ -35,6 +35,7 @@ def tables_of(text: str) -> Tables:
 
 TABLES = tables_of((HERE / 'pyproject.toml').read_text(encoding='utf-8'))
 PROJECT = TABLES['project']
+COMMAND = 'bully_member.py'
 NAME, VERSION = PROJECT['name'], PROJECT['version']
 SAID = f'{NAME}-{VERSION}.dist-info'
 METADATA = f"""\
@@ -60,6 +61,7 @@ def build_wheel(wheel_directory: str, config_settings: Settings = None, metadata
     library = find_library()
     tag = f'py3-none-{platform()}' if library else 'py3-none-any'
     files = {f'{NAME}/{each.name}': each.read_bytes() for each in sorted((HERE / NAME).glob('*')) if is_source(each)}
+    files[COMMAND] = (HERE / COMMAND).read_bytes()
     files[f'{NAME}/bully.h'] = find_header(library).read_bytes()
     if library:
         files[f'{NAME}/libbully.so'] = library.read_bytes()
@@ -89,7 +91,7 @@ def find_library() -> Path | None:
     """The library to take along, if there is one. What BULLY_LIBRARY names has to be there."""
     named = os.environ.get('BULLY_LIBRARY')
     top = HERE.parents[1]
-    places = [Path(named)] if named else [top / 'lib', top / 'out' / 'library']
+    places = [Path(named, 'lib'), Path(named)] if named else [top / 'lib', top / 'out' / 'library' / 'lib']
     files = (place / 'libbully.so' if place.is_dir() else place for place in places)
     file = next(filter(Path.is_file, files), None)
     if named and not file:

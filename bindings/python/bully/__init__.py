@@ -8,7 +8,7 @@ The command `bully-member` runs one. `bully.member` has the proved rules of one 
 
 `bin/library FOLDER` of the repository builds the library. This module finds it by
 
-    load('FOLDER')                  # the folder, or the path of libbully.so itself
+    load('FOLDER')                  # the folder that it made, or the path of libbully.so itself
     BULLY_LIBRARY=FOLDER python3 .. # the same, where `load` wasn't called
 
 or else in the folder of this package, where `pip install` puts it; in an archive in `lib`, and at the top of the

@@ -16,6 +16,7 @@ from .values import EVENTS_MAX
 
 FIRST, LATEST = 1, 4_000_000_000  # of the epochs with which a log may begin
 SETTLEMENT = 11  # rows for each node: what settles a group has no more
+TTL = 5.0  # seconds, if neither the log nor a member has another one
 LEAST = 2 * SETTLEMENT  # rows for each node that an epoch has room for at least: two settlements
 
 

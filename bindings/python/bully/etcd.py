@@ -8,6 +8,7 @@ Below a log's prefix stand
   each with its line end, by where they begin;
 - `time/EPOCH/PLACE`, when that append was done, by the wall clock of who appended: milliseconds since 1970;
 - `next`, what the next epoch is to begin with, if something is wished for; and `orders`, if some are given;
+- `failing/NAME`, of a node whose work fails: `fails`, or `gave up`, if it has; no watch tells of these;
 - `presence/life/NAME` and `presence/promise/NAME`, EPOCH/PLACE, under one lease of etcd's.
 
 EPOCH and PLACE have ten digits, so what is later is greater. A call finds one revision; no read is `serializable`.
@@ -48,6 +49,7 @@ FORM = 3
 BEGIN = f'{{"form": {FORM}, '  # of an opening; what an older version doesn't take for one
 NAMED = f'{FORM} '.encode()  # with which a name begins
 OLDER = b'{"epoch": '  # of an opening of an older form
+FAILS, GAVE_UP = 'fails', 'gave up'  # what is noted of a node
 PAGE = 500  # appends that are read in one request
 READS = 3  # how often a read is begun, if etcd compacts its revision meanwhile
 WATCH_AGAIN = 0.2  # seconds from the end of a watch that broke to the next
@@ -75,6 +77,7 @@ class Keys:
         self.name, self.first, self.next, self.orders, self.place = (self.root + word for word in words)
         self.logs, self.times, self.presences = self.root + b'log/', self.root + b'time/', self.root + b'presence/'
         self.lives, self.promises = self.presences + b'life/', self.presences + b'promise/'
+        self.failing = self.root + b'failing/'
 
     def opening(self, epoch: int) -> bytes:
         return self.root + b'opening/%010d' % epoch
@@ -95,6 +98,9 @@ class Keys:
     def promise(self, name: str) -> bytes:
         return self.promises + name.encode()
 
+    def failure(self, name: str) -> bytes:
+        return self.failing + name.encode()
+
     def node(self, key: bytes, prefix: bytes) -> str:
         """The name of a key that begins so. Raises ValueError."""
         return key[len(prefix) :].decode()
@@ -109,10 +115,12 @@ class Keys:
         return range_from(begin, behind(self.rows(epoch)), limit=PAGE)
 
     def standing(self, since: int) -> list[Json]:
-        """The ranges of all but rows: end of the log, wish, orders, and lives and promises put behind a revision."""
+        """The ranges of all but rows: end of the log, wish, orders, lives and promises put behind a revision, and whose
+        work fails."""
         newer = {'min_mod_revision': str(since + 1)}
         whole = map(range_at, (self.place, self.next, self.orders))
-        return [*whole, *(range_below(prefix, **newer) for prefix in (self.lives, self.promises))]
+        presences = (range_below(prefix, **newer) for prefix in (self.lives, self.promises))
+        return [*whole, *presences, range_below(self.failing)]
 
     def watched(self, is_wide: bool) -> Json:
         """The range of what changes, with promises or without them; rows aren't told, since they are looked for."""
@@ -183,7 +191,7 @@ class EtcdLog:
             raise NoLog(f'{self.address}: there is none; bully-member init makes a log')
         if name is None and opening.startswith(OLDER):
             raise ForeignLog(f'{self.address}: a log by an older version, and not of form {FORM}{BY_HISTORY}')
-        is_ours = pairs_of(first)[0].key.startswith((keys.first, keys.logs, keys.presences))
+        is_ours = pairs_of(first)[0].key.startswith((keys.failing, keys.first, keys.logs, keys.presences))
         if name is None and (opening.startswith(BEGIN.encode()) or is_ours):
             raise DamagedLog(f'{self.address}: the log has no name')
         raise ForeignLog(f'{self.address}: something else than a log of form {FORM} is below its prefix')
@@ -240,6 +248,18 @@ class EtcdLog:
             return False
         is_same, text = number_is(key, 'mod_revision', found[0].modified if found else 0), orders.text()
         return self._change([is_same], [put_at(key, text) if text else removed(range_at(key))]).is_done
+
+    def note(self, name: str, gave_up: bool | None) -> None:
+        self._client.begin()
+        key = self._keys.failure(name)
+        self._change([], [removed(range_at(key)) if gave_up is None else put_at(key, GAVE_UP if gave_up else FAILS)])
+
+    def give_up(self, name: str, heir: str, life: Life) -> bool:
+        self._client.begin()
+        keys = self._keys
+        is_there = value_is(keys.life(heir), life_text(life).encode())
+        is_well = number_is(keys.failure(heir), 'version', 0)
+        return self._change([is_there, is_well], [put_at(keys.failure(name), GAVE_UP)]).is_done
 
     def prune(self, first: int) -> None:
         """The epochs are gone at once. Their rows follow, a part at a time, so that nobody waits for long."""
@@ -481,7 +501,7 @@ class EtcdLog:
             if self._see_all(answer, since):
                 break
         wish, orders = wish_of(self.address, end.epoch, self._news.wish), orders_of(self.address, self._news.orders)
-        found = Found(end.epoch, rows or Rows(''), self._news.presences(), wish, orders)
+        found = Found(end.epoch, rows or Rows(''), self._news.presences(), wish, orders, self._news.failing)
         self._seen_wanted, self._seen_idle = self._news.wanted, (end, found.idle(end))
         return found
 
@@ -587,6 +607,7 @@ class News:
         self.end: bytes | None = None
         self.wish: bytes | None = None
         self.orders: bytes | None = None
+        self.failing: dict[str, bool] = {}  # by the last look
         self.lives: dict[str, Life] = {}
         self.promises: dict[str, Promise] = {}
         self._keys = keys
@@ -616,6 +637,8 @@ class News:
             promises[name]
         self.lives, self.promises, self._is_odd = lives, promises, False
         self.end, self.wish, self.orders = value_of(place), value_of(wish), value_of(orders)
+        notes = [(pair.key[len(keys.failing) :], pair.value) for pair in pairs_of(answer.ranges[5])]
+        self.failing = {name.decode(errors='replace'): told == GAVE_UP.encode() for name, told in notes}
         self.revision, self.is_fresh = answer.revision, True
         return True
 

@@ -14,6 +14,7 @@ from typing import Any, NamedTuple, NoReturn
 
 from .clocks import seconds_of_boot, sleep_until_ready
 from .logs import DamagedLog, ForeignLog, LogError, Unanswered
+from .settings import shown_address
 
 PORT = 2379
 LEAST_LIMIT = 0.01  # seconds that a request is given at least
@@ -36,6 +37,8 @@ class Denied(LogError):
 
 
 # ---- Addresses
+
+ENDPOINT = re.compile(r'(?:\[([^\[\]]+)\]|([^:\[\]]+))(?::([0-9]{1,5}))?')
 
 
 class Endpoint(NamedTuple):
@@ -63,6 +66,9 @@ def read_address(words: str) -> Address:
     kind, mark, rest = words.partition('://')
     servers, _, prefix = rest.partition('/')
     prefix = prefix.rstrip('/')
+    if '@' in servers or '@' in rest and not all(map(ENDPOINT.fullmatch, servers.split(','))):
+        how = '--user NAME does, with BULLY_ETCD_PASSWORD or --password-file'
+        raise ValueError(f'{shown_address(words)}, and an address has no user and no password: {how}')
     if kind not in ('etcd', 'etcds') or not mark or not prefix:
         raise ValueError(f'{words} has to be etcd://HOST:PORT,HOST:PORT/PREFIX')
     if not {'log', 'opening', 'presence', 'time'}.isdisjoint(prefix.split('/')):
@@ -74,7 +80,7 @@ def read_address(words: str) -> Address:
 
 def read_endpoint(words: str) -> Endpoint:
     """The endpoint HOST, HOST:PORT or [HOST]:PORT. Raises ValueError."""
-    found = re.fullmatch(r'(?:\[([^\[\]]+)\]|([^:\[\]]+))(?::([0-9]{1,5}))?', words)
+    found = ENDPOINT.fullmatch(words)
     if found is None or int(found[3] or PORT) > 65_535:
         raise ValueError(f'{words or "an empty word"} has to be HOST:PORT')
     return Endpoint(found[1] or found[2], int(found[3] or PORT))

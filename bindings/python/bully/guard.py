@@ -11,8 +11,9 @@ CHANNEL is a socket to the member, by its number. The member says
 
 and the guard says `begun`; `stopped` behind a stop, once nothing of the worker is left; `lost`, if it has killed the
 worker since its time was over; `ended STATUS`, if that ended by itself; and before these `held PROCESSES`, if these are
-still there a twentieth of the ttl behind SIGKILL, as one of another user is. It kills a worker with all that it
-started, also while the member is stopped or dead, and behind a sleep of the machine. One that is gone has said stop.
+still there a twentieth of the ttl behind SIGKILL, as one of another user is; no PROCESSES, if the kernel doesn't list
+them. It kills a worker with all that it started, also while the member is stopped or dead, and behind a sleep of the
+machine. One that is gone has said stop. If the guard is stopped it goes on once its member dies.
 
 If KIND is `talks`, a worker stays over changes: WORDS is then a line for its standard input, and so is {"stop": true}.
 It answers such a stop by a line `stopped` on the descriptor BULLY_ANSWERS, or it ends. Earlier answers aren't heard.
@@ -32,22 +33,25 @@ import socket
 import struct
 import sys
 import time
-from collections.abc import Callable, Sequence, Set as AbstractSet
+from collections.abc import Callable, Iterator, Sequence, Set as AbstractSet
 from pathlib import Path
 
 CLOCK_BOOTTIME = 7
 TIMER_ABSOLUTE = 1
 PR_SET_PDEATHSIG, PR_SET_CHILD_SUBREAPER = 1, 36
 NANOSECONDS, MILLISECOND = 1_000_000_000, 1_000_000
-QUIET = (signal.SIGTERM, signal.SIGINT, signal.SIGHUP)  # its member ends it, and no signal that all processes get
+# Signals that tell a member to leave. They don't end its guard, if all processes get them: that is the member's to do.
+ENDS = (signal.SIGTERM, signal.SIGINT, signal.SIGHUP, signal.SIGQUIT, signal.SIGUSR1, signal.SIGUSR2)
 MESSAGE_MAX = 1 << 20  # bytes
 ANSWERS = 3  # the descriptor for a worker that talks
 STOP, STOPPED = b'{"stop": true}', b'stopped'
-WRITER_BYTE = '120'  # of the file, on which whoever writes has a lock
+WRITE, READ = 'WRITE', 'READ'  # kinds of locks
+WRITER_BYTE = 120  # of the file, on which whoever writes has a lock
 TIMES = 5  # how often the locks are looked at: while others come and go, a line may be left out
 BEATS = 20  # of a ttl, one of which a guard may be late
 LOOKS = 5  # of a ttl, from one look at a member to the next, for which it may be stopped in a write, too
 TOLD = 20  # processes that are told at most
+ANY_CHILD = -1
 LONGEST_SLEEP = 0.02  # seconds between two looks at what was killed
 
 _libc = ctypes.CDLL(None, use_errno=True)
@@ -60,17 +64,49 @@ def checked(result: int) -> int:
     return result
 
 
+@contextlib.contextmanager
+def held_back() -> Iterator[None]:
+    """Signals that tell a member to leave wait meanwhile, also in what begins then."""
+    before = signal.pthread_sigmask(signal.SIG_BLOCK, ENDS)
+    try:
+        yield
+    finally:
+        signal.pthread_sigmask(signal.SIG_SETMASK, before)
+
+
 def now() -> int:
     return time.clock_gettime_ns(CLOCK_BOOTTIME)
 
 
 def children() -> set[int]:
-    """The processes that this one has to wait for."""
+    """The processes that this one has to wait for. Raises an OSError, if the kernel doesn't list them."""
     found: list[str] = []
-    for task in os.listdir('/proc/self/task'):
-        with contextlib.suppress(OSError):  # the thread has ended
-            found += Path(f'/proc/self/task/{task}/children').read_text(encoding='ascii').split()
+    for task in Path('/proc/self/task').iterdir():
+        try:
+            found += (task / 'children').read_text(encoding='ascii').split()
+        except OSError:
+            if task.exists():  # else the thread has ended
+                raise
     return set(map(int, found))
+
+
+def has_children() -> bool:
+    """Whether there are any, listed or not."""
+    with contextlib.suppress(ChildProcessError):
+        os.waitid(os.P_ALL, 0, os.WEXITED | os.WNOHANG | os.WNOWAIT)
+        return True
+    return False
+
+
+def children_but(spared: AbstractSet[int]) -> set[int] | None:
+    """The processes that this one has to wait for, but these; None, if there may be some that the kernel doesn't
+    list."""
+    found: set[int] = set()
+    with contextlib.suppress(OSError):
+        found = children() - spared
+        if found or spared:
+            return found
+    return None if has_children() else found
 
 
 def adopt() -> None:
@@ -79,15 +115,20 @@ def adopt() -> None:
 
 
 def end_children(spared: AbstractSet[int], seconds: float, tell: Callable[[list[int]], object]) -> dict[int, int]:
-    """Kills the children of this process but these, with all that they leave, and waits for that. Which are still there
-    in so many seconds is told, those that may work on first, and once more if others come. Their statuses."""
+    """Kills the children of this process but these, with all that they leave, and waits until none is left, listed or
+    not. Which are still there in so many seconds is told, those that may work on first, and once more if others come.
+    Their statuses."""
     statuses: dict[int, int] = {}
-    reported: set[int] = set()
+    reported: set[int] | None = None
     end, sleep = now() + int(seconds * NANOSECONDS), LONGEST_SLEEP / 16
-    while left := children() - spared:
+    while (found := children_but(spared)) != set():
+        left = found or set()
         for child in left:
-            statuses.update(kill_and_reap(child))
-        if now() >= end and not left <= reported:
+            kill(os.kill, child)
+            statuses.update(reap(child))
+        if found is None and not spared:
+            statuses.update(reap(ANY_CHILD))
+        if now() >= end and (reported is None or not left <= reported):
             tell(sorted(left, key=may_kill))
             reported = left
         time.sleep(sleep)
@@ -95,13 +136,17 @@ def end_children(spared: AbstractSet[int], seconds: float, tell: Callable[[list[
     return statuses
 
 
-def kill_and_reap(child: int) -> dict[int, int]:
-    """Kills a child, if it may. Its status, if it has ended."""
-    with contextlib.suppress(PermissionError):  # nobody else waits for children meanwhile, so the number is the child's
-        os.kill(child, signal.SIGKILL)
+def kill(send: Callable[[int, int], None], number: int) -> None:
+    """Kills a child or a process group, if it may. Nobody else waits for children meanwhile: the number is theirs."""
+    with contextlib.suppress(PermissionError, ProcessLookupError):  # it is another user's, or there is no such group
+        send(number, signal.SIGKILL)
+
+
+def reap(child: int) -> dict[int, int]:
+    """The status of this child, or of any, if it has ended."""
     with contextlib.suppress(ChildProcessError):
         ended, how = os.waitpid(child, os.WNOHANG)
-        return {child: os.waitstatus_to_exitcode(how)} if ended else {}
+        return {ended: os.waitstatus_to_exitcode(how)} if ended else {}
     return {}
 
 
@@ -118,22 +163,28 @@ def may_kill(process: int) -> bool:
 # ---- Who writes to a file
 
 
-def writer_of(file: str) -> int | None:
-    """The process that writes, if that can be told. (To open and close the file itself would lose the locks on it.)"""
+def lock_holder(file: str, kind: str = WRITE) -> int | None:
+    """The process that has such a lock where who writes has one, if that can be told; -1, if no process has it for
+    itself. (To open and close the file itself would lose the locks on it.)"""
     with contextlib.suppress(OSError):
         inode = str(os.stat(file).st_ino)
-        found = (writer_in(inode, Path('/proc/locks').read_text(encoding='ascii')) for _ in range(TIMES))
+        found = (holder_in(inode, Path('/proc/locks').read_text(encoding='ascii'), kind) for _ in range(TIMES))
         return next((process for process in found if process is not None), None)
     return None
 
 
-def writer_in(inode: str, locks: str) -> int | None:
+def holder_in(inode: str, locks: str, kind: str) -> int | None:
     """The same, by this list of the locks that processes have."""
     for line in locks.splitlines():
         words = line.split()
-        if words[3:4] == ['WRITE'] and words[5].split(':')[-1] == inode and words[6] == WRITER_BYTE:
+        if words[3:4] == [kind] and words[5].split(':')[-1] == inode and is_within(words[6], words[7]):
             return int(words[4])
     return None
+
+
+def is_within(first: str, last: str) -> bool:
+    """Whether the byte is one of these."""
+    return int(first) <= WRITER_BYTE and (last == 'EOF' or WRITER_BYTE <= int(last))
 
 
 def is_stopped(process: int) -> bool:
@@ -168,7 +219,7 @@ class Watchdog:
         return left // MILLISECOND + 1
 
     def look(self) -> None:
-        if not self.file or not is_stopped(self.member) or writer_of(self.file) != self.member:
+        if not self.file or not is_stopped(self.member) or lock_holder(self.file) != self.member:
             self.stopped_at = None
         elif self.stopped_at is None:
             self.stopped_at = now()
@@ -190,11 +241,10 @@ class Worker:
         self.lines, given = socket.socketpair() if talks else (None, None)  # it has room for all that can be unread
         self.answers, taken = os.pipe() if talks else (-1, -1)
         parent = os.getpid()
-        signal.pthread_sigmask(signal.SIG_BLOCK, QUIET)
-        self.process = os.fork()
-        if self.process == 0:
-            become(words, environment, (given.fileno(), taken) if given is not None else (), parent)
-        signal.pthread_sigmask(signal.SIG_UNBLOCK, QUIET)
+        with held_back():
+            self.process = os.fork()
+            if self.process == 0:
+                become(words, environment, (given.fileno(), taken) if given is not None else (), parent)
         with contextlib.suppress(OSError):  # it may have done that itself
             os.setpgid(self.process, self.process)
         self.end = os.pidfd_open(self.process)
@@ -233,7 +283,10 @@ class Worker:
         self.tell(STOP)
 
     def end_all(self, seconds: float, tell: Callable[[list[int]], object]) -> int:
-        """Kills what is left of it, and waits for that. Its status. What is there still in so many seconds is told."""
+        """Kills what is left of it, and waits for that. Its status. What is there still in so many seconds is told. Its
+        own process and the group that this began are killed whatever the kernel lists."""
+        kill(os.kill, self.process)
+        kill(os.killpg, self.process)
         close(self.end)
         close(self.answers)
         if self.lines is not None:
@@ -271,9 +324,9 @@ def become(words: list[str], environment: list[bytes], pipes: Sequence[int], par
         copies = [os.dup(pipe) for pipe in pipes]
         for copy, wanted in zip(copies, (0, ANSWERS)):
             os.dup2(copy, wanted)
-        for number in (*QUIET, signal.SIGPIPE, signal.SIGXFSZ):
+        for number in (*ENDS, signal.SIGPIPE, signal.SIGXFSZ):
             signal.signal(number, signal.SIG_DFL)
-        signal.pthread_sigmask(signal.SIG_UNBLOCK, QUIET)
+        signal.pthread_sigmask(signal.SIG_UNBLOCK, ENDS)
         parts = [entry.partition(b'=') for entry in environment]
         os.execvpe(words[0], words, {**os.environb, **{name: value for name, _, value in parts}})
     except OSError as error:
@@ -330,8 +383,9 @@ class Guard:
 
     def see(self, worker: Worker, ready: set[int]) -> None:
         """What has become of the worker, and of what that left to this process."""
-        for child in children() - {worker.process}:
-            os.waitpid(child, os.WNOHANG)
+        with contextlib.suppress(OSError):  # which they are isn't told now
+            for child in children() - {worker.process}:
+                os.waitpid(child, os.WNOHANG)
         moment, is_told = self.last_moment(), worker.stop_by is not None
         if moment is not None and now() >= moment or worker.end in ready:
             by_itself = moment is None or now() < moment
@@ -376,12 +430,14 @@ class Guard:
 
 
 def main() -> None:
-    number, patience, kind, file, ttl, *words = sys.argv[1:]
-    channel = socket.socket(fileno=int(number))
+    descriptor, patience, kind, file, ttl, *words = sys.argv[1:]
+    channel = socket.socket(fileno=int(descriptor))
     channel.set_inheritable(False)
-    for quiet in QUIET:
-        signal.signal(quiet, signal.SIG_IGN)
+    for number in ENDS:
+        signal.signal(number, signal.SIG_IGN)
+    signal.pthread_sigmask(signal.SIG_UNBLOCK, ENDS)  # which waited since before its first line
     adopt()
+    checked(_libc.prctl(PR_SET_PDEATHSIG, int(signal.SIGCONT), 0, 0, 0))  # at the end of each thread above it, too
     Guard(channel, float(patience), kind == 'talks', float(ttl), Watchdog(file, float(ttl)), words).go_on()
 
 

@@ -42,7 +42,7 @@ def _places() -> Iterator[str]:
     library = os.environ.get('BULLY_LIBRARY')
     if library:
         folder = library if os.path.isdir(library) else os.path.dirname(library)
-        yield from (folder, os.path.join(folder, os.pardir, 'include'))
+        yield from (os.path.join(folder, 'include'), folder, os.path.join(folder, os.pardir, 'include'))
 
 
 def _text() -> str:

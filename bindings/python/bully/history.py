@@ -10,9 +10,10 @@ import ssl
 import time
 from collections.abc import Callable, Mapping, Sequence
 
+from .files import identity
 from .gateway import KV_RANGE, Client, pairs_of, range_below, range_from, read_address
 from .logs import DamagedLog, Log, NoEpoch
-from .sqlite import calls, connection, form_of, identity
+from .sqlite import calls, connection, form_of
 
 
 def trace(log: Log, epoch: int | None, has_times: bool = False) -> Sequence[str]:

@@ -13,8 +13,8 @@ from .header import HERE, functions, structures, top_of_tree, type_of
 from .values import Call, CallKind, Line, Owned, Rows, State, Status, Want
 
 FILE = 'libbully.so'
-WHERE = f'an archive of Cinnabarloom has {FILE} in lib, or bin/library FOLDER builds it'
-HOW_TO_FIND = f'{WHERE}; BULLY_LIBRARY=FOLDER tells where it is'
+WHERE = f'the wheel of a release has it, and an archive in lib; in the sources run bin/library, which builds {FILE}'
+HOW_TO_FIND = f'{WHERE}, and then pip install bindings/python; or set BULLY_LIBRARY to the folder that has it'
 ROOM_MIN = 256
 UINT16_MAX = 0xFFFF
 UINT32_MAX = 0xFFFF_FFFF
@@ -24,6 +24,11 @@ UINT64_MAX = 0xFFFF_FFFF_FFFF_FFFF
 STRUCTURES: dict[str, type[ctypes.Structure]] = {
     name: type(name, (ctypes.Structure,), {'_fields_': fields}) for name, fields in structures()
 }
+
+
+class NoLibrary(OSError):
+    """The library isn't found, or is another one."""
+
 
 # The library twice. Calls of a handle keep Python's lock, so that no two threads are in one; a check of a long trace
 # gives it away.
@@ -49,7 +54,7 @@ def _own_places() -> Iterator[str]:
     yield HERE
     for top in top_of_tree():
         yield os.path.join(top, 'lib')
-        yield os.path.join(top, 'out', 'library')
+        yield os.path.join(top, 'out', 'library', 'lib')
 
 
 def _place_of(path: str | os.PathLike[str] | None) -> str:
@@ -58,20 +63,24 @@ def _place_of(path: str | os.PathLike[str] | None) -> str:
     if not place:
         files = (os.path.join(each, FILE) for each in _own_places())
         return next(filter(os.path.exists, files), FILE)
-    return os.path.join(place, FILE) if os.path.isdir(place) else place
+    if not os.path.isdir(place):
+        return place
+    within = os.path.join(place, 'lib', FILE)
+    return within if os.path.exists(within) else os.path.join(place, FILE)
 
 
 def load(path: str | os.PathLike[str] | None = None) -> None:
-    """Loads the library from this path: its file, or the folder that has it. Without a path that is BULLY_LIBRARY of
-    the environment, or else libbully.so in the folder of this package, in `lib` of an archive or in `out/library` of
-    the repository, or else what the system finds by that name. An OSError tells that it isn't there."""
+    """Loads the library from this path: its file, the folder that has it, or the one that has that as `lib`. Without a
+    path that is BULLY_LIBRARY of the environment, or else libbully.so in the folder of this package, in `lib` of an
+    archive or in `out/library` of the repository, or else what the system finds by that name. NoLibrary, which is an
+    OSError, tells that it isn't there."""
     place, prototypes = _place_of(path), _prototypes()
     try:
         _loaded[:] = [_declared(ctypes.PyDLL(place), prototypes), _declared(ctypes.CDLL(place), prototypes)]
     except AttributeError as missing:
-        raise OSError(f'{place} is not the library of bully.h: {missing}') from missing
+        raise NoLibrary(f'{place} is not the library of bully.h: {missing}; {HOW_TO_FIND}') from missing
     except OSError as missing:
-        raise OSError(f'{missing}; {HOW_TO_FIND}') from missing
+        raise NoLibrary(f'the library of this package is not found: {missing}; {HOW_TO_FIND}') from missing
 
 
 def loaded(for_long: bool = False) -> ctypes.CDLL:

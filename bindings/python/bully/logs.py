@@ -16,6 +16,7 @@ from __future__ import annotations
 
 from collections.abc import Iterator, Mapping, Sequence, Set as AbstractSet
 from contextlib import suppress
+from types import MappingProxyType
 from typing import NamedTuple, Optional, Protocol, TypeVar
 
 from .epochs import Opening
@@ -84,13 +85,15 @@ class Holder(NamedTuple):
 
 class Found(NamedTuple):
     """What a look finds at one moment: which epoch is the current one; the rows that were asked for, if they are of
-    that one; who is present, by name; what is wished for; and what is ordered."""
+    that one; who is present, by name; what is wished for; what is ordered; and of which nodes it is noted that their
+    work fails, and whether they have given up."""
 
     epoch: int
     rows: Sequence[str]
     presences: Mapping[str, Holder]
     wish: Opening | None
     orders: Orders = Orders()
+    failing: Mapping[str, bool] = MappingProxyType({})
 
     @property
     def wanted(self) -> Wanted:
@@ -164,6 +167,14 @@ class Log(Protocol):
     def order(self, orders: Orders, before: Orders | None) -> bool:
         """These are the orders from now on, over all epochs, if those were the ones before; if none are told, whatever
         they were, also if they can't be read. Whether they are."""
+
+    def note(self, name: str, gave_up: bool | None) -> None:
+        """It is noted, over all epochs, that the work of that node fails, and whether the node has given up; or nothing
+        is noted of it any more. No wait ends by that."""
+
+    def give_up(self, name: str, heir: str, life: Life) -> bool:
+        """It is noted that the node has given up, if that life holds the presence of its heir, of which nothing is
+        noted. Whether it is."""
 
     def times(self, epoch: int) -> Mapping[int, int | None]:
         """When the appends of an epoch were done, by the places that they stand behind: milliseconds since 1970 by the

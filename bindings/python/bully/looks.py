@@ -1,10 +1,23 @@
-"""What a member is told of a look. In a pause it is told that all is as the log has it, so that it settles nothing."""
+"""What a member is told of an epoch and of a look. In a pause it is told that all is as the log has it, so that it
+settles nothing."""
 from __future__ import annotations
 
 from collections.abc import Callable, Iterable, Mapping
 
+from .epochs import Opening
 from .logs import Found, Holder
-from .member import Life, Presence, Promise, Seen, Until
+from .member import Life, Opening as CoreOpening, Presence, Promise, Seen, Until
+
+
+def core_opening_of(opening: Opening, node: int) -> CoreOpening:
+    """What the epoch begins with for this node."""
+    return CoreOpening(opening.header, opening.epoch, node, opening.limit, opening.table or None)
+
+
+def presences_of(holders: Mapping[str, Holder], numbers: Mapping[str, int]) -> tuple[Presence, ...]:
+    """Who is present for a node, by rising nodes."""
+    known = [(numbers[name], holder) for name, holder in holders.items() if name in numbers]
+    return tuple(sorted(Presence(number, holder.life, holder.promise) for number, holder in known))
 
 
 def seen_of(found: Found, end: Promise, name: str, numbers: Mapping[str, int], is_up: Callable[[int], bool]) -> Seen:
@@ -14,10 +27,9 @@ def seen_of(found: Found, end: Promise, name: str, numbers: Mapping[str, int], i
     is_frozen = found.is_frozen(end)
     up = [each for each, number in numbers.items() if is_up(number)] if is_frozen else []
     presences = frozen(found, name, up) if is_frozen else found.presences
-    known = [(numbers[each], holder) for each, holder in presences.items() if each in numbers]
-    there = sorted(Presence(number, holder.life, holder.promise) for number, holder in known)
+    there = presences_of(presences, numbers)
     has_strangers, is_wished = is_frozen or len(there) < len(presences), found.wish is not None and not is_frozen
-    return Seen(found.epoch, tuple(there), has_strangers, is_wished)
+    return Seen(found.epoch, there, has_strangers, is_wished)
 
 
 def frozen(found: Found, name: str, up: Iterable[str]) -> dict[str, Holder]:

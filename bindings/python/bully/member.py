@@ -252,7 +252,9 @@ class Core(Learned):
     # What it does next.
 
     def next(self, now: int) -> Step:
-        """What is to be done now: by the first of the rules that applies. It is noted that this is done."""
+        """What is to be done now: by the first of the rules that applies. It is noted that this is done. As long as
+        what was asked for isn't answered it asks for nothing else: it is a Stop or a Rest. So of a request whose answer
+        is lost `answered` is to be told."""
         raw = self._filled(STRUCTURES['bully_step'](), 'next', _moment(now))
         return _STEPS[raw.kind](raw)
 
@@ -268,6 +270,19 @@ class Core(Learned):
 
         Raises OutOfMemory."""
         return owned_of(self._partitions, self._function('owned'))
+
+    def owned_of(self, presence: Presence) -> Owned | None:
+        """What who is present so owns, by a plan behind what that life has promised of this epoch: its process may work
+        on that.
+
+        Raises BadNode, OutOfMemory."""
+        raw = _raw_presence(presence)
+        return owned_of(self._partitions, self._function('owned_of'), ctypes.byref(raw))
+
+    def rests(self, now: int) -> bool:
+        """Whether the group rests for it, by its last look, so that nothing is to be done but to work: among those who
+        are up in the log, or have stayed long enough by now."""
+        return bool(self._filled(ctypes.c_uint32(), 'rests', _moment(now)).value)
 
     # What is told to it.
 

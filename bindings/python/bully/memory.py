@@ -31,6 +31,7 @@ class MemoryLog:
         self.leases: dict[str, Lease] = {}
         self.wish: Opening | None = None
         self.orders = Orders()
+        self.failing: dict[str, bool] = {}
         self._openings = {opening.epoch: opening}
         self._rows: dict[int, list[str]] = {opening.epoch: []}
         self._times: dict[int, dict[int, int | None]] = {opening.epoch: {}}
@@ -156,7 +157,7 @@ class MemoryLog:
         with self._changed:
             see_end('the log', self._end(), Promise(epoch, place))
             rows = self.rows[place:] if epoch == self.epoch else []
-            found = Found(self.epoch, rows, self.presences, self.wish, self.orders)
+            found = Found(self.epoch, rows, self.presences, self.wish, self.orders, dict(self.failing))
             self._seen.wanted, self._seen.idle = found.wanted, (self._end(), found.idle(self._end()))
             return found
 
@@ -201,6 +202,19 @@ class MemoryLog:
             if done:
                 self.orders = orders
                 self._changed.notify_all()
+            return done
+
+    def note(self, name: str, gave_up: bool | None) -> None:
+        with self._changed:
+            self.failing.pop(name, None)
+            if gave_up is not None:
+                self.failing[name] = gave_up
+
+    def give_up(self, name: str, heir: str, life: Life) -> bool:
+        with self._changed:
+            done = self._holds(heir, life) and heir not in self.failing
+            if done:
+                self.failing[name] = True
             return done
 
     def close(self) -> None:

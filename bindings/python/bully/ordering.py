@@ -44,13 +44,16 @@ def drain(log: Log, name: str, takes_last: bool) -> Orders:
 
 
 def undrain(log: Log, name: str) -> Orders:
-    """The node isn't drained any more. Raises NotInGroup."""
+    """The node isn't drained any more; and tries again, if it gave up. Raises NotInGroup."""
 
     def change(opening: Opening, found: Found) -> Orders:
         node_number(opening, name)
         return replace(found.orders, drained=found.orders.drained - {name})
 
-    return order(log, change)
+    after = order(log, change)
+    if found_in(log).failing.get(name):
+        log.note(name, None)
+    return after
 
 
 def pause(log: Log) -> Orders:

@@ -8,18 +8,21 @@ import html
 import json
 import logging
 import socket
+import socketserver
 import sys
 import threading
 import time
-from collections.abc import Callable
+from collections.abc import Callable, Iterable
 from contextlib import suppress
+from email.message import Message
 from http.server import BaseHTTPRequestHandler, ThreadingHTTPServer
-from typing import Any
-from urllib.parse import parse_qs, urlsplit
+from typing import Any, NamedTuple
+from urllib.parse import parse_qs
 
 from .clocks import seconds_of_boot
 from .faults import BullyError
-from .logs import LogError
+from .hosts import BadRequest, Hosts, Target
+from .logs import LogError, Unanswered
 from .running import Member
 from .values import Status
 from .view import GroupView, LogView, NodeView
@@ -30,9 +33,15 @@ _logger = logging.getLogger('bully')
 POLL_SECONDS = 25.0  # how long a request waits for news at most
 POLLS_MAX = 64  # requests that wait at one time
 LOOK_SECONDS = 0.1  # the log is looked at no more often, however many ask
+LOOK_MAX = 2.0  # seconds for which a request waits until another one has looked
 CONNECTIONS_MAX = 100  # at one time; of more the longest silent one is closed, or the new one, if all have asked
 ASK_SECONDS = 10.0  # that a connection may say nothing, or take nothing
-LOOPBACK = ('127.0.0.1', '::1', 'localhost')  # names of another machine that lead here are refused
+REST_SECONDS, REST_MAX = 1.0, 1_000_000  # for how long, and how many bytes, of a request are read which nobody wants
+METHODS = 'GET, HEAD, OPTIONS'
+PARTITION = '/partitions/'  # and a number
+STATUSES = ('/livez', '/readyz', '/healthz', '/leader')  # what counts of these, and of a partition, is their status
+SHOWN = ('/', '/group', '/assignment')  # these tell how the log stands now
+PATHS = (*STATUSES, *SHOWN, '/metrics', '*')
 
 STYLE = """
 body { font: 15px/1.45 system-ui, sans-serif; margin: 1.5rem auto; max-width: 72rem; padding: 0 1rem; }
@@ -74,6 +83,20 @@ SOURCES = f"default-src 'none'; style-src 'unsafe-inline'; script-src 'sha256-{S
 POLICY = f"{SOURCES}; frame-ancestors 'none'"
 
 Answer = tuple[int, str, str]  # the status, the kind and the text
+
+
+class Known(NamedTuple):
+    """What is known of a group, if anything is; how many seconds ago it was read; and whether the store answered when
+    it was asked last."""
+
+    group: GroupView | None
+    age: float
+    is_answered: bool
+
+
+def told(status: int, text: str) -> Answer:
+    """An answer of one line."""
+    return status, 'text/plain', f'{text}\n'
 
 
 def page_of(name: str, group: GroupView, told_worker: str) -> str:
@@ -130,27 +153,50 @@ def labels(name: str) -> str:
     return f'{{node="{escaped}"}}'
 
 
-def metrics_of(group: GroupView, name: str, sure_seconds: float, workers: Workers) -> str:
-    """The group and the member, for Prometheus."""
-    lines: list[str] = []
+class Metrics:
+    """Lines for Prometheus."""
 
-    def tell(metric: str, about: str, values: list[tuple[str, float]], kind: str = 'gauge') -> None:
-        lines.extend([f'# HELP {metric} {about}', f'# TYPE {metric} {kind}'])
-        lines.extend(f'{metric}{node} {value:{"d" if isinstance(value, int) else ".3f"}}' for node, value in values)
+    def __init__(self) -> None:
+        self.lines: list[str] = []
+
+    def tell(self, metric: str, about: str, values: list[tuple[str, float]], kind: str = 'gauge') -> None:
+        """A metric, with its values by their labels."""
+        self.lines.extend([f'# HELP {metric} {about}', f'# TYPE {metric} {kind}'])
+        for node, value in values:
+            self.lines.append(f'{metric}{node} {value:{"d" if isinstance(value, int) else ".3f"}}')
+
+
+def metrics_of(known: Known, name: str, sure_seconds: float, workers: Workers | None) -> str:
+    """The member, and the group as far as it is known, for Prometheus."""
+    metrics, mine = Metrics(), labels(name)
+    tell = metrics.tell
+    tell('bully_store_up', 'Whether the store answered when it was asked last.', [('', known.is_answered)])
+    tell('bully_sure_seconds', 'For how long what this member owns is sure.', [(mine, sure_seconds)])
+    if workers is not None:
+        stopping, rest = [(mine, workers.stopping_seconds)], [(mine, workers.rest_seconds)]
+        tell('bully_stopping_seconds', 'For how long its worker has been told to stop, and has not.', stopping)
+        tell('bully_worker_rest_seconds', 'For how long its worker still rests, since it failed.', rest)
+    if known.group is not None:
+        tell('bully_group_age_seconds', 'How long ago what is told of the group was read.', [('', known.age)])
+        tell_group(tell, known.group)
+    return '\n'.join(metrics.lines) + '\n'
+
+
+def tell_group(tell: Callable[..., None], group: GroupView) -> None:
+    """The group, for Prometheus."""
 
     def nodes(value: Callable[[NodeView], float]) -> list[tuple[str, float]]:
         return [(labels(node.name), value(node)) for node in group.nodes]
 
-    mine, names = labels(name), dict.fromkeys([*(node.name for node in group.nodes), *group.behind])
+    names = dict.fromkeys([*(node.name for node in group.nodes), *group.behind])
     tell('bully_epoch', 'The current epoch.', [('', group.epoch)])
     tell('bully_events_total', 'Events of the current epoch.', [('', group.events)], 'counter')
     tell('bully_token', 'The token of the last plan; 0: there is none.', [('', group.token or 0)])
-    tell('bully_sure_seconds', 'For how long what this member owns is sure.', [(mine, sure_seconds)])
-    stopping, rest = workers.stopping_seconds, workers.rest_seconds
-    tell('bully_stopping_seconds', 'For how long its worker has been told to stop, and has not.', [(mine, stopping)])
-    tell('bully_worker_rest_seconds', 'For how long its worker still rests, since it failed.', [(mine, rest)])
     tell('bully_node_present', 'Whether the node holds a presence.', nodes(lambda node: node.is_present))
     tell('bully_drained', 'Whether the node is drained.', nodes(lambda node: node.is_drained))
+    fails, gave_up = nodes(lambda node: node.is_failing), nodes(lambda node: node.gave_up)
+    tell('bully_worker_failing', 'Whether the worker of the node fails: it owns something, or gave up.', fails)
+    tell('bully_gave_up', 'Whether the node gave up what it owned, since its worker fails.', gave_up)
     tell('bully_paused', 'Whether the group is paused.', [('', group.is_paused)])
     tell('bully_node_normal', 'Whether the node is Normal.', nodes(lambda node: node.status is Status.NORMAL))
     tell('bully_node_leads', 'Whether the node is the coordinator.', nodes(lambda node: node.name == group.coordinator))
@@ -158,13 +204,12 @@ def metrics_of(group: GroupView, name: str, sure_seconds: float, workers: Worker
     behind = [(labels(each), group.behind.get(each, 0.0)) for each in names]
     tell('bully_idle_behind_seconds', 'For how long the others wait until the node is idle.', behind)
     tell('bully_partitions_free', 'Partitions that nobody may work on now.', [('', group.owners.count(None))])
-    return '\n'.join(lines) + '\n'
 
 
 def asked_number(asked: dict[str, list[str]], name: str) -> int | None:
     """The number that a query has by this name, if it has one of less than 10 digits."""
     word = asked.get(name, [''])[0]
-    return int(word) if word.isdecimal() and len(word) < 10 else None
+    return int(word) if word.isascii() and word.isdecimal() and len(word) < 10 else None
 
 
 class Reader:
@@ -172,32 +217,57 @@ class Reader:
 
     def __init__(self, view: LogView) -> None:
         self._view, self._lock = view, threading.Lock()
-        self._known: GroupView | None = None
-        self._last: GroupView | LogError | BullyError = LogError('nobody has looked yet')
-        self._next = 0.0  # when it looks again
+        self._known: tuple[GroupView, float] | None = None  # the last one, and when it was read
+        self._failure: LogError | BullyError | None = None  # of the last look
+        self._next = float('-inf')  # when it looks again
+        self._is_closed = False
+        self._look()  # so that something is known
 
     def show(self) -> GroupView:
-        """The group by the last look. Raises what that raised."""
-        with self._lock:
+        """The group by the last look. Raises what that raised; Unanswered, if one takes too long."""
+        if not self._lock.acquire(timeout=LOOK_MAX):
+            raise Unanswered(f'a look at the log takes longer than {LOOK_MAX:g} s')
+        try:
+            if self._is_closed:
+                raise Unanswered('the member ends')
             if seconds_of_boot() >= self._next:
-                try:
-                    self._last = self._known = self._view.show()
-                except (LogError, BullyError) as error:
-                    self._last = error
+                self._look()
                 self._next = seconds_of_boot() + LOOK_SECONDS
-            last = self._last
-        if isinstance(last, GroupView):
-            return last
-        raise last
+            if self._failure is not None or self._known is None:
+                raise self._failure or Unanswered('nobody has looked yet')
+            return self._known[0]
+        finally:
+            self._lock.release()
 
-    def known(self) -> GroupView:
+    def _look(self) -> None:
+        """What fails is told by the member alone, once: it may name servers and files."""
+        begun = seconds_of_boot()
+        try:
+            self._known, self._failure = (self._view.show(), begun), None
+        except (LogError, BullyError) as failure:
+            if self._failure is None:
+                _logger.warning('page: %s', failure)
+            self._failure = failure
+
+    def known(self) -> Known:
         """The same; or what was known of the group before, if the log can't be read."""
         try:
-            return self.show()
+            self.show()
+            is_answered = True
         except (LogError, BullyError):
-            if self._known is None:
-                raise
-            return self._known
+            is_answered = False
+        if self._known is None:
+            return Known(None, 0.0, is_answered)
+        group, read = self._known
+        return Known(group, seconds_of_boot() - read, is_answered)
+
+    def close(self) -> None:
+        """Nobody looks any more, and the view is closed unless a look hangs."""
+        is_free = self._lock.acquire(timeout=LOOK_MAX)
+        self._is_closed = True
+        if is_free:
+            self._view.close()
+            self._lock.release()
 
 
 class Server(ThreadingHTTPServer):
@@ -212,6 +282,11 @@ class Server(ThreadingHTTPServer):
         self._open: dict[Any, bool] = {}  # connections, the oldest first, and whether they have asked
         self._lock = threading.Lock()
         super().__init__(address, handler)
+
+    def server_bind(self) -> None:
+        """Without a look-up of its name, which may take long."""
+        socketserver.TCPServer.server_bind(self)
+        self.server_name, self.server_port = str(self.server_address[0]), int(self.server_address[1])
 
     def process_request(self, request: Any, client_address: Any) -> None:
         with self._lock:
@@ -244,67 +319,104 @@ class Server(ThreadingHTTPServer):
             _logger.exception('a request from %s failed', client_address)
 
 
-class Page:
-    """The server of a member."""
+class Answers:
+    """What a member answers that hasn't read its log yet."""
 
-    def __init__(self, address: tuple[str, int], view: LogView, member: Member, workers: Workers) -> None:
-        """It listens at this address from now on. An OSError tells that it can't."""
+    def __init__(self, name: str) -> None:
+        """For the node of this name."""
+        self._name = name
+
+    def answer(self, target: Target) -> Answer:
+        """The answer to a GET. Raises what the log raises."""
+        plain = {'/livez': self._live, '/leader': self._leader, '/metrics': self._metrics}
+        plain.update({'/readyz': self._health, '/healthz': self._health})
+        if target.path in plain:
+            return plain[target.path]()
+        if target.path.startswith(PARTITION):
+            return self._partition(target.path[len(PARTITION) :])
+        return self._shown(target) if target.path in SHOWN else told(404, 'there is no such page')
+
+    def close(self) -> None:
+        """Nobody is answered any more."""
+
+    def _live(self) -> Answer:
+        """Whether the process goes on, whatever its store does."""
+        return told(200, 'alive')
+
+    def _health(self) -> Answer:
+        """What the member knows, whether or not the store answers."""
+        return told(503, 'not present')
+
+    def _leader(self) -> Answer:
+        """Whether its node is surely the coordinator now."""
+        return told(503, 'does not lead')
+
+    def _partition(self, word: str) -> Answer:
+        """Whether it may work on this partition now."""
+        return told(503, 'may not work on it')
+
+    def _metrics(self) -> Answer:
+        return self._measured(Known(None, 0.0, False), 0.0, None)
+
+    def _measured(self, known: Known, sure_seconds: float, workers: Workers | None) -> Answer:
+        return 200, 'text/plain; version=0.0.4', metrics_of(known, self._name, sure_seconds, workers)
+
+    def _shown(self, target: Target) -> Answer:
+        """How the log stands."""
+        raise Unanswered('the store has not answered yet')
+
+
+class MemberAnswers(Answers):
+    """What a member answers."""
+
+    def __init__(self, view: LogView, member: Member, workers: Workers) -> None:
+        super().__init__(member.name)
         self._reader = Reader(view)
         self._member, self._workers = member, workers
         self._is_closed = False
         self._polls = threading.BoundedSemaphore(POLLS_MAX)
-        self._server = Server(address, functools.partial(PageHandler, self))
-        self._hosts = LOOPBACK if address[0] in LOOPBACK else None
-
-    @property
-    def port(self) -> int:
-        return int(self._server.server_address[1])
-
-    def start(self) -> None:
-        threading.Thread(target=self._server.serve_forever, name='bully page', daemon=True).start()
 
     def close(self) -> None:
-        """Ends the server. The view isn't closed."""
         self._is_closed = True
-        self._server.shutdown()
-        self._server.server_close()
+        self._reader.close()
 
-    def answer(self, target: str, host: str) -> Answer:
-        """The answer to a GET of this target at this host."""
-        if self._hosts is not None and host.rpartition(':')[0].strip('[]') not in self._hosts:
-            return 403, 'text/plain', 'this page is for this machine alone\n'
-        try:
-            return self._answer(target)
-        except (LogError, BullyError) as error:
-            return 503, 'text/plain', f'{error}\n'
-
-    def _answer(self, target: str) -> Answer:
-        parts, name = urlsplit(target), self._member.name
-        if parts.path == '/healthz':
-            return self._health()
-        if parts.path == '/metrics':
-            metrics = metrics_of(self._reader.known(), name, self._sure_seconds(), self._workers)
-            return 200, 'text/plain; version=0.0.4', metrics
-        asked = parse_qs(parts.query)
-        events, epoch = asked_number(asked, 'after'), asked_number(asked, 'epoch')
-        if events is not None and not self._waited(events, epoch):
-            return 503, 'text/plain', 'too many requests wait at one time\n'
-        group = self._reader.show()
-        if parts.path == '/':
-            return 200, 'text/html', page_of(name, group, self._workers.about)
-        if parts.path == '/group':
-            return 200, 'application/json', json.dumps(group.document()) + '\n'
-        if parts.path == '/assignment':
-            return 200, 'application/json', json.dumps(self._assignment(group)) + '\n'
-        return 404, 'text/plain', 'there is no such page\n'
+    def _live(self) -> Answer:
+        return super()._live() if self._member.takes_steps else told(503, 'the member takes no steps')
 
     def _health(self) -> Answer:
-        """What the member knows, whether or not the store answers."""
         if self._workers.is_stuck:
-            return 503, 'text/plain', 'its worker does not end\n'
-        if self._member.is_drained:
-            return 200, 'text/plain', 'drained\n'
-        return (200, 'text/plain', 'present\n') if self._sure_seconds() > 0 else (503, 'text/plain', 'not present\n')
+            return told(503, 'its worker does not end')
+        if self._member.is_drained or self._member.gave_up:
+            return told(200, 'drained' if self._member.is_drained else 'gave up: its worker fails')
+        if self._workers.is_failing:
+            return told(503, 'its worker fails')
+        return told(200, 'present') if self._sure_seconds() > 0 else super()._health()
+
+    def _leader(self) -> Answer:
+        return told(200, 'leads') if self._member.leads else super()._leader()
+
+    def _partition(self, word: str) -> Answer:
+        partitions = self._member.opening.settings.setup.partitions
+        if not (word.isascii() and word.isdecimal() and word == str(int(word[:9])) and int(word) < partitions):
+            return told(404, 'the group has no such partition')
+        owned = self._member.assignment()
+        if owned is None or int(word) not in owned.partitions:
+            return super()._partition(word)
+        return told(200, f'may work on it by token {owned.token}')
+
+    def _metrics(self) -> Answer:
+        return self._measured(self._reader.known(), self._sure_seconds(), self._workers)
+
+    def _shown(self, target: Target) -> Answer:
+        asked = parse_qs(target.query)
+        events, epoch = asked_number(asked, 'after'), asked_number(asked, 'epoch')
+        if events is not None and not self._waited(events, epoch):
+            return told(503, 'too many requests wait at one time')
+        group = self._reader.show()
+        if target.path == '/':
+            return 200, 'text/html', page_of(self._name, group, self._workers.about)
+        document = group.document() if target.path == '/group' else self._assignment(group)
+        return 200, 'application/json', json.dumps(document) + '\n'
 
     def _waited(self, events: int, epoch: int | None) -> bool:
         """Waits for more events than these of this epoch, or of the current one; or in another. Or too many wait."""
@@ -336,10 +448,67 @@ class Page:
         return {**document, 'sure_seconds': round(self._sure_seconds(), 3) if owned else 0.0}
 
 
+class Page:
+    """The server of a member."""
+
+    def __init__(self, address: tuple[str, int], name: str, allowed: Iterable[str] = ()) -> None:
+        """It listens at this address, and answers for the node of this name, from now on. Hosts are allowed beside
+        those of `hosts`. An OSError tells that it can't."""
+        self._answers = Answers(name)
+        self._server = Server(address, functools.partial(PageHandler, self))
+        self._hosts = Hosts(address[0], str(self._server.server_address[0]), allowed)
+        threading.Thread(target=self._server.serve_forever, name='bully page', daemon=True).start()
+
+    @property
+    def port(self) -> int:
+        return int(self._server.server_address[1])
+
+    def show(self, view: LogView, member: Member, workers: Workers) -> None:
+        """It answers by these from now on, and closes the view at its end."""
+        self._answers = MemberAnswers(view, member, workers)
+
+    def close(self) -> None:
+        """Ends the server."""
+        self._server.shutdown()
+        self._server.server_close()
+        self._answers.close()
+
+    def answer(self, method: str, words: str, headers: Message) -> Answer:
+        """The answer to a request by this method for this target."""
+        try:
+            target = Target.read(words)
+            host = target.asked_host(headers.get_all('Host', []))
+            check_length(headers.get_all('Content-Length', []))
+        except BadRequest as fault:
+            return told(400, str(fault))
+        if not self._hosts.takes(host):
+            return told(403, 'this host is not allowed: --allow-host of bully-member run allows it')
+        is_status = target.path in STATUSES or target.path.startswith(PARTITION)
+        if method == 'OPTIONS' and not is_status:
+            return told(204 if target.path in PATHS else 404, '')
+        return self._answered(target)
+
+    def _answered(self, target: Target) -> Answer:
+        """What goes wrong isn't told to strangers."""
+        try:
+            return self._answers.answer(target)
+        except Unanswered:
+            return told(503, 'the store does not answer')
+        except (LogError, BullyError):
+            return told(503, 'the log can not be read')
+
+
+def check_length(told_lengths: list[str]) -> None:
+    """Raises BadRequest of a body whose length is none."""
+    if len(set(told_lengths)) > 1 or not all(each.isascii() and each.isdecimal() for each in told_lengths):
+        raise BadRequest('the length is no number')
+
+
 class PageHandler(BaseHTTPRequestHandler):
     """One connection, which has one request."""
 
     protocol_version = 'HTTP/1.1'
+    default_request_version = 'HTTP/1.0'
     server_version = 'bully-member'
     sys_version = ''
     timeout = ASK_SECONDS
@@ -347,29 +516,62 @@ class PageHandler(BaseHTTPRequestHandler):
 
     def __init__(self, page: Page, *arguments: Any) -> None:
         self.page = page
+        self._has_rest = False  # whether something of the request isn't read
         super().__init__(*arguments)
+
+    def parse_request(self) -> bool:
+        """Before HTTP/1.0 answers have no status, so that isn't answered."""
+        is_request = super().parse_request()
+        if is_request and self.request_version.startswith('HTTP/0'):
+            self.send_error(400)
+            return False
+        return is_request
 
     def do_GET(self) -> None:
         self.server.asks(self.connection)
-        self.send(*self.page.answer(self.path, self.headers.get('Host', '')))
+        self._has_rest = 'Content-Length' in self.headers or 'Transfer-Encoding' in self.headers
+        self.send(*self.page.answer(self.command, self.path, self.headers))
 
-    def refuse(self) -> None:
-        self.send(405, 'text/plain', 'only GET is answered\n', ('Allow', 'GET'))
+    do_HEAD = do_OPTIONS = do_GET
 
-    do_POST = do_PUT = do_DELETE = do_PATCH = do_OPTIONS = do_HEAD = do_TRACE = do_CONNECT = refuse
+    def send_error(self, code: int, message: str | None = None, explain: str | None = None) -> None:
+        """A request that is none, or whose method isn't known."""
+        self._has_rest, self.request_version = True, self.default_request_version
+        status = {501: 405, 505: 400}.get(code, code)
+        self.send(*told(status, f'only {METHODS} are answered' if status == 405 else 'this is no request'))
 
-    def send(self, status: int, kind: str, text: str, *headers: tuple[str, str]) -> None:
-        content = text.encode('utf-8', 'replace')
-        all_headers = [
-            ('Content-Type', kind if 'version' in kind else f'{kind}; charset=utf-8'),
-            ('Content-Length', str(len(content))), ('Connection', 'close'), ('Cache-Control', 'no-store'),
-            ('X-Content-Type-Options', 'nosniff'), ('Content-Security-Policy', POLICY), *headers,
+    def send(self, status: int, kind: str, text: str) -> None:
+        content = b'' if self.command == 'OPTIONS' else text.encode('utf-8', 'replace')
+        headers = [
+            ('Connection', 'close'), ('Cache-Control', 'no-store'), ('X-Content-Type-Options', 'nosniff'),
+            ('Content-Security-Policy', POLICY),
         ]  # fmt: skip
+        if status == 405 or self.command == 'OPTIONS':
+            headers.append(('Allow', METHODS))
+        if status != 204:
+            headers.append(('Content-Type', kind if 'version' in kind else f'{kind}; charset=utf-8'))
+            headers.append(('Content-Length', str(len(content))))
         self.send_response(status)
-        for header, value in all_headers:
+        for header, value in headers:
             self.send_header(header, value)
         self.end_headers()
-        self.wfile.write(content)
+        if self.command != 'HEAD':
+            self.wfile.write(content)
+
+    def finish(self) -> None:
+        """What isn't read of the request is taken and left: else the answer may be lost with it."""
+        super().finish()
+        with suppress(OSError):
+            if self._has_rest:
+                self.connection.shutdown(socket.SHUT_WR)
+                self._take_rest(seconds_of_boot() + REST_SECONDS)
+
+    def _take_rest(self, end: float) -> None:
+        left, count = REST_SECONDS, REST_MAX
+        while left > 0 and count > 0:
+            self.connection.settimeout(left)
+            part = self.connection.recv(min(count, 65_536))
+            left, count = end - seconds_of_boot(), count - len(part) if part else 0
 
     def log_message(self, format: str, *args: object) -> None:
         """Nothing is said of requests."""

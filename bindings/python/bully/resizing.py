@@ -9,6 +9,7 @@ import dataclasses
 import logging
 import secrets
 import threading
+from contextlib import suppress
 
 from .clocks import SECOND, seconds_of_boot, sleep_until_ready
 from .epochs import Opening
@@ -91,7 +92,8 @@ class Pruning(threading.Thread):
 
     def close(self) -> None:
         self._ends.set()
-        self.join()
+        with suppress(RuntimeError):  # it hasn't begun, if a signal comes now
+            self.join()
         self._log.close()
 
 

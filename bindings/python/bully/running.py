@@ -15,11 +15,11 @@ from typing import TypeVar
 from .asks import Asker
 from .clocks import SECOND, nanoseconds_of_boot, seconds_of_boot, sleep_until_ready
 from .epochs import Opening, Token
-from .logs import DamagedLog, Found, Log, Unanswered, found_in, openings_of
-from .looks import awaited, seen_of
+from .failing import Failures, GivingUp
+from .logs import DamagedLog, Found, Log, LogError, Unanswered, found_in, openings_of
+from .looks import awaited, core_opening_of, seen_of
 from .member import (
-    Ask, Begin, Core, End, Ending, Life, Opening as CoreOpening, Promise, Request, Rest, Seen, Step, Stop, StoreAnswer,
-    Until, Wait,
+    Ask, Begin, Core, End, Ending, Life, Promise, Request, Rest, Seen, Step, Stop, StoreAnswer, Until, Wait,
 )  # fmt: skip
 from .settings import Settings, shown_name
 from .values import Status
@@ -43,6 +43,7 @@ class Assignment:
     until: float = field(default=float('-inf'), compare=False)
 
 
+NOTHING = None, 0.0, False  # what is shown of a member that has no presence
 Callback = Callable[[Assignment], None]
 Call = tuple[bool, Assignment]  # whether to stop
 _Answered = TypeVar('_Answered')
@@ -73,11 +74,6 @@ def node_number(opening: Opening, node: int | str) -> int:
     return opening.names.index(node) + 1
 
 
-def core_opening_of(opening: Opening, node: int) -> CoreOpening:
-    """What the epoch begins with for this node."""
-    return CoreOpening(opening.header, opening.epoch, node, opening.limit, opening.table or None)
-
-
 class Member:
     """A process that acts for a node of a group over a log. It takes part from `run` on, until `leave` is called.
 
@@ -94,11 +90,13 @@ class Member:
     def __init__(
         self, log: Log, node: int | str, start: Callback, stop: Callback, ttl: float = 5.0,
         settings: Settings | None = None, sure: Callable[[float], None] | None = None,
+        failures: Failures | None = None,
     ) -> None:  # fmt: skip
         """A member of the log's group, for the node of this name, or of this number in the current epoch. If the
         group's settings change, it goes on by the name; `run` returns, if the group has no such node any more. With
         `settings`, which may be those of an earlier epoch, the log has to be of that group. `sure` is told, behind each
-        renewal, until when what is owned is sure, by `clocks.seconds_of_boot`.
+        renewal, until when what is owned is sure, by `clocks.seconds_of_boot`. By `failures`, which whoever works
+        counts, the log is told that work fails, and the node gives up.
 
         Raises OtherGroup, NotInGroup, BadHeader, BadNode, BadTtl, OutOfMemory, and what the log raises."""
         self.log = log
@@ -112,6 +110,8 @@ class Member:
         self._take_part(opening, node_number(opening, node))
         self.name = opening.names[self.core.node - 1]
         self.is_drained = False  # whether its node is drained, so that it does nothing
+        self.gave_up = False  # whether its node gave up, since its work fails, so that it does nothing for a while
+        self._giving_up = GivingUp(log, self.name, ttl, failures)
         self._start_work, self._stop_work, self._sure = start, stop, sure
         self._is_leaving = False
         self._is_stuck = False  # whether work may go on for good
@@ -124,7 +124,7 @@ class Member:
         self._wakes: socket.socket | None = None  # while it runs
         self._ended = threading.Event()
         self._ended.set()
-        self._shown: tuple[Assignment | None, float] = (None, 0.0)
+        self._shown: tuple[Assignment | None, float, bool] = NOTHING
         self.stepped = 0.0  # when it took its last step, by `clocks.seconds_of_boot`
 
     def _take_part(self, opening: Opening, number: int) -> None:
@@ -143,8 +143,19 @@ class Member:
 
     def assignment(self) -> Assignment | None:
         """What the node owns, and until when that is sure; nothing, if that isn't sure now, or has to be stopped."""
-        work, until = self._shown
+        work, until, _ = self._shown
         return dataclasses.replace(work, until=until) if work is not None and seconds_of_boot() < until else None
+
+    @property
+    def leads(self) -> bool:
+        """Whether its node is surely the coordinator now. No two members of a group are at one moment."""
+        _, until, leads = self._shown
+        return leads and seconds_of_boot() < until
+
+    @property
+    def takes_steps(self) -> bool:
+        """Whether it goes on, or hasn't begun: a step is due each quarter of the ttl; a call takes a fifth at most."""
+        return not self.stepped or seconds_of_boot() < self.stepped + self.ttl
 
     @property
     def node(self) -> int:
@@ -203,7 +214,7 @@ class Member:
             try:
                 self._go_on()
             finally:
-                self._shown = (None, 0.0)
+                self._shown = NOTHING
                 if self._work is not None and not self._is_stopping:  # whatever it ended by
                     self._to_call.put((True, self._work))
                 self._to_call.put(None)
@@ -229,37 +240,48 @@ class Member:
             self.stepped = seconds_of_boot()
             step = self.core.next(nanoseconds_of_boot())
             if not isinstance(step, End):
+                self._show()  # before it promises, or releases, that by which it leads
                 self._do(step)
                 self._show()
             elif not self._comes_back(step.ending):
                 return
 
     def _comes_back(self, ending: Ending) -> bool:
-        """It has ended. Whether it takes part again: if its node was drained, and isn't before it is told to end."""
-        self.is_drained = ending is Ending.LEFT and not self._is_leaving
-        level = logging.WARNING if ending is Ending.NOT_THERE else logging.INFO
-        why = 'it is drained, and does nothing' if self.is_drained else ENDINGS[ending]
-        _logger.log(level, 'node %s: %s', shown_name(self.name), why)
+        """It has ended. Whether it takes part again: if its node was drained or gave up, and that is over before it is
+        told to end."""
+        is_away = ending is Ending.LEFT and not self._is_leaving
+        self.gave_up, self.is_drained = is_away and self.gave_up, is_away and not self.gave_up
+        if not self.gave_up:  # which is told already
+            level = logging.WARNING if ending is Ending.NOT_THERE else logging.INFO
+            why = 'it is drained, and does nothing' if self.is_drained else ENDINGS[ending]
+            _logger.log(level, 'node %s: %s', shown_name(self.name), why)
         if ending is Ending.BROKEN:
             self.failure = self.failure or self.core.fault or DamagedLog('the log has a row that is no event')
         self._show()
-        while self.is_drained and not self._is_leaving:
-            opening, before = self._answer(self._undrained), self.core
+        while is_away and not self._is_leaving:
+            opening, before = self._answer(self._returned), self.core
             if opening is not None:
                 self._take_part(opening, node_number(opening, self.name))
                 before.close()
-                self.is_drained = False
+                self.is_drained = self.gave_up = False
                 return True
             sleep_until_ready(self.ttl / 4, self._woken.fileno())
             self._hear()
             self.stepped = seconds_of_boot()
+        with suppress(LogError):
+            self._giving_up.take_back()
         return False
 
-    def _undrained(self) -> Opening | None:
-        """With what the current epoch began, if its node isn't drained. Raises NotInGroup."""
+    def _returned(self) -> Opening | None:
+        """With what the current epoch began, if its node isn't drained, and tries again if it gave up. Raises
+        NotInGroup."""
         opening = self.log.opening()
         node_number(opening, self.name)
-        return None if self.name in found_in(self.log).orders.drained else opening
+        found = found_in(self.log)
+        self.is_drained = self.name in found.orders.drained
+        if self.is_drained or self.gave_up and not self._giving_up.comes_back(found, opening.names):
+            return None
+        return opening
 
     def _hear(self) -> None:
         """Tells the core what came meanwhile."""
@@ -278,7 +300,15 @@ class Member:
 
     def _show(self) -> None:
         shown = None if self._is_stopping else self._work
-        self._shown = shown, self.core.sure_until / SECOND
+        self._shown = shown, self.core.sure_until / SECOND, not self._is_stopping and self._is_coordinator(shown)
+
+    def _is_coordinator(self, work: Assignment | None) -> bool:
+        """Whether its node planned what it works by; or, if it owns nothing, the plan behind all that it promised."""
+        if work is not None:
+            return work.settings.name(work.coordinator) == self.name
+        core = self.core
+        is_last = core.planner == core.node and (core.token or 0) > core.promised and core.ending is None
+        return is_last and core.state(core.node).status is Status.NORMAL and core.owned() is None
 
     # Its steps.
 
@@ -305,13 +335,30 @@ class Member:
         self._to_call.put((is_stop, work))
 
     def _wait(self, step: Wait) -> None:
-        """Waits for what is new in the log, or until it hears something."""
+        """Waits for what is new in the log, or until it hears something; unless something is to be noted there."""
+        if self._notes():
+            self.core.woke()
+            return
         found, epoch, place = self._found, self.opening.epoch, self.core.place
         rests = step.until is Until.ANY_IDLE or self.core.life is None or found.orders.is_paused
         self.behind.see(Promise(epoch, place), found.presences, rests)
         until, seconds = awaited(step.until, self._seen), step.at_most / SECOND
         self._answer(lambda: self.log.wait(epoch, place, found.lives, until, seconds, self._woken.fileno()))
         self.core.woke()
+
+    def _notes(self) -> bool:
+        """Whether it asked the log to note how its work goes. Its node may have given up by that."""
+        if self.core.sure_until <= nanoseconds_of_boot() or self.core.ending is not None:
+            return False
+        leads = self.core.planner == self.core.node
+        asked = self._giving_up.due(self._found, self._numbers.keys(), leads)
+        if asked is not None and self._answer(asked):
+            self.gave_up = True
+            self.core.leave()
+            who, seconds = shown_name(self.name), self._giving_up.go_away()
+            said = 'node %s: its worker keeps failing: it gives up what it owns, and tries again in %.1f s'
+            _logger.warning(said, who, seconds)
+        return asked is not None
 
     def _ask(self, ask: Ask) -> None:
         """Asks the log, and tells the core what came of it."""
@@ -339,6 +386,7 @@ class Member:
     def _looked(self, found: Found) -> None:
         """What a look found."""
         self._found = found
+        self._giving_up.see(found)
         self._see_other(found.lives.get(self.name))
         self.core.learn(found.rows)
         self._seen = seen_of(found, Promise(self.opening.epoch, self.core.place), self.name, self._numbers, self._is_up)

@@ -29,21 +29,18 @@ class Service(threading.Thread):
             return
         self._tell('READY=1')
         while not self._ends.wait(self._beat):
-            leaves, goes_on = self._member.is_leaving, self._goes_on()
+            leaves, goes_on = self._member.is_leaving, self._member.takes_steps
             more = ['STOPPING=1'] * leaves + ['WATCHDOG=1'] * goes_on
             self._tell(f'STATUS={self._stands()}', *more)
         self._tell('STOPPING=1')
 
-    def _goes_on(self) -> bool:
-        """Whether the member takes its steps: one is due each quarter of the ttl; a call takes a fifth at most."""
-        return seconds_of_boot() < self._member.stepped + self._member.ttl
-
     def _stands(self) -> str:
         owned = self._member.assignment()
         if owned is not None:
-            return f'works on {len(owned.partitions)} partitions by token {owned.token}{self._workers.about}'
-        if self._member.is_drained:
-            return 'drained'
+            does = 'owns' if self._workers.is_failing else 'works on'
+            return f'{does} {len(owned.partitions)} partitions by token {owned.token}{self._workers.about}'
+        if self._member.is_drained or self._member.gave_up:
+            return 'drained' if self._member.is_drained else 'gave up: its worker fails'
         return ('present' if seconds_of_boot() < self._member.sure_until else 'not present') + self._workers.about
 
     def _tell(self, *words: str) -> None:
@@ -52,4 +49,5 @@ class Service(threading.Thread):
 
     def close(self) -> None:
         self._ends.set()
-        self.join()
+        with suppress(RuntimeError):  # it hasn't begun, if a signal comes now
+            self.join()

@@ -2,6 +2,7 @@
 from __future__ import annotations
 
 import json
+import re
 from collections.abc import Iterator
 from dataclasses import dataclass
 
@@ -17,6 +18,11 @@ class ConfigFault(Exception):
 def shown_name(name: str | None) -> str:
     """A name for a terminal: what can't be printed, and marks of direction, are shown as `?`."""
     return ''.join(each if each.isprintable() else '?' for each in name or '-')
+
+
+def shown_address(address: str) -> str:
+    """An address for people: without a user and a password, which it may not have."""
+    return shown_name(re.sub(r'^(\w+://)?.*@', r'\1..@', address, flags=re.DOTALL))
 
 
 @dataclass(frozen=True)

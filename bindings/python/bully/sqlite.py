@@ -9,20 +9,21 @@ from __future__ import annotations
 import os
 import re
 import sqlite3
-import stat
 import time
 from collections.abc import Iterator, Sequence
-from contextlib import closing, contextmanager, suppress
-from pathlib import Path
+from contextlib import closing, contextmanager
 from typing import NamedTuple
 from urllib.parse import quote
 
+from .boots import boot_name, machine_boot, moments
 from .clocks import SECOND, nanoseconds_of_boot, sleep_until_ready, wall_clock
 from .epochs import Opening
-from .guard import is_stopped, writer_of
+from .files import (
+    NEW, OWNER_ALONE, beside, identity, keep_name, make, remove, see_alone, see_disk, told_holder, told_owner,
+)  # fmt: skip
 from .logs import (
-    BadPresence, DamagedLog, DiskFull, ForeignLog, Found, Holder, Lives, LogBusy, LogExists, NoLog, OtherLog,
-    ReadOnlyLog, Unanswered, are_idle,
+    BadPresence, DamagedLog, DiskFull, ForeignLog, Found, Holder, Lives, LogBusy, LogExists, OtherLog, ReadOnlyLog,
+    Unanswered, are_idle,
 )  # fmt: skip
 from .member import Life, Promise, Until
 from .orders import Orders
@@ -40,8 +41,9 @@ PRUNED_AT_ONCE = 100  # appends
 NEVER = 2**63 - 1
 
 # `changes` has the name of the log and its orders, too, and `boots` which boots of the machine have used it, one behind
-# the other: an earlier one is over. A record of the log has the rows of one append, each with its line end, the place
-# that these stand behind, and when that was done. Of an epoch that was taken away the opening is left, without a count.
+# the other: an earlier one is over, but for other time namespaces of the same one, which may come again. A record of
+# the log has the rows of one append, each with its line end, the place that these stand behind, and when that was done.
+# Of an epoch that was taken away the opening is left, without a count.
 TABLES = """
 create table epochs (epoch integer primary key, opening text not null, wish text, count integer);
 create table log (epoch integer, place integer, rows text not null, time integer, primary key (epoch, place));
@@ -52,6 +54,9 @@ create table presence (
 create table changes (name text not null, lives integer not null, promises integer not null, orders text not null);
 create table boots (number integer primary key, boot text not null unique);
 """
+# Of nodes whose work fails. It is made with the first note: a log that an older version made has none before that.
+FAILING = 'create table if not exists failing (name text primary key, gave_up integer not null)'
+OTHER_CLOCK = 'another time namespace holds presences: its members have to share one, /proc/self/ns/time'
 OTHER_BOOT = 'another boot uses it behind this one: its members have to see one /proc/sys/kernel/random/boot_id'
 
 # What SQLite says, by a part of its message, and what that means. The first that fits counts.
@@ -59,11 +64,6 @@ MEANINGS = (
     ('not a database', ForeignLog), ('malformed|no such|decode', DamagedLog), ('read-?only', ReadOnlyLog),
     ('locked|busy', LogBusy), ('is full', DiskFull), ('unable to open', ReadOnlyLog),
 )  # fmt: skip
-
-
-def boot_name() -> str:
-    """Which boot of the machine this is. The presences of an earlier one are over."""
-    return Path('/proc/sys/kernel/random/boot_id').read_text(encoding='ascii').strip()
 
 
 def connection(path: str, patience: float, mode: str = 'rw') -> sqlite3.Connection:
@@ -77,54 +77,6 @@ def open_epoch(file: sqlite3.Connection, opening: Opening) -> None:
     file.execute('insert into epochs values (?, ?, null, 0)', (opening.epoch, opening.text()))
 
 
-def remove(path: str) -> None:
-    """Removes a file of SQLite, with those beside it."""
-    for end in ('', '-wal', '-shm', '-journal'):
-        with suppress(OSError):
-            os.remove(path + end)
-
-
-def identity(path: str) -> tuple[int, int]:
-    """Which file this is, whatever its name. Raises NoLog, ForeignLog."""
-    try:
-        found = os.stat(path)
-    except OSError as error:
-        raise NoLog(f'{path}: {error.strerror}; bully-member init makes a log') from error
-    if not stat.S_ISREG(found.st_mode):
-        raise ForeignLog(f'{path}: it is no file')
-    return found.st_dev, found.st_ino
-
-
-def beside(path: str) -> list[tuple[int, int]]:
-    """Which files are beside this one while it is used, as far as they are there."""
-    found = []
-    for end in ('-wal', '-shm'):
-        with suppress(OSError):
-            there = os.stat(path + end)
-            found.append((there.st_dev, there.st_ino))
-    return found
-
-
-def see_alone(path: str) -> None:
-    """Raises ForeignLog, if the file may be reached by another path: who does that has other files beside it."""
-    if os.stat(path).st_nlink > 1:
-        others = 'by which others would have another log of what is written'
-        raise ForeignLog(f'{path}: it has another name, a hard link, {others}')
-    if mount_of(path) != mount_of(os.path.dirname(os.path.realpath(path))):
-        others = 'so that others have another log of what is written; mount its folder'
-        raise ForeignLog(f'{path}: it is mounted alone, {others}')
-
-
-def mount_of(path: str) -> str:
-    """The mount in which a path is. (To open a file of SQLite's otherwise, and to close it, would lose its locks.)"""
-    descriptor = os.open(path, os.O_PATH)
-    try:
-        lines = Path(f'/proc/self/fdinfo/{descriptor}').read_text(encoding='ascii').splitlines()
-        return next(line for line in lines if 'mnt_id' in line)
-    finally:
-        os.close(descriptor)
-
-
 @contextmanager
 def calls(path: str) -> Iterator[None]:
     """Calls of SQLite on this file. Their errors are told as what they mean."""
@@ -134,15 +86,8 @@ def calls(path: str) -> Iterator[None]:
         said = str(error)
         meaning = next((meaning for part, meaning in MEANINGS if re.search(part, said)), Unanswered)
         more = told_holder(f'{os.path.realpath(path)}-shm') if meaning is LogBusy else ''
+        more = told_owner(path) if meaning is ReadOnlyLog else more
         raise meaning(f'{path}: {said}{more}') from error
-
-
-def told_holder(file: str) -> str:
-    """Which process has the lock of this file of SQLite's, if that can be told."""
-    process = writer_of(file)
-    if process is None:
-        return ''
-    return f' by process {process}' + (', which is stopped' if is_stopped(process) else '')
 
 
 def form_of(path: str, file: sqlite3.Connection) -> int:
@@ -198,6 +143,7 @@ class SqliteLog:
         self._present: dict[str, Life] = {}  # who was present when that was looked at last
         self._seen_wanted: tuple[str | None, str] = None, ''
         self._seen_idle: tuple[Promise, frozenset[str]] = (Promise(), frozenset())
+        self._has_notes = False  # whether there is a table of nodes whose work fails
         self._lives = -1  # the count of changes then
         self._earliest = 0  # before then none of these presences ends
         self._version = self._promises = -1  # of what a wait saw last
@@ -211,17 +157,21 @@ class SqliteLog:
             raise
 
     @staticmethod
-    def create(path: os.PathLike[str] | str, opening: Opening) -> SqliteLog:
-        """Makes the file, with a log that begins so. The log. Raises LogExists, ReadOnlyLog, DiskFull, Unanswered."""
+    def create(path: os.PathLike[str] | str, opening: Opening, mode: int = OWNER_ALONE) -> SqliteLog:
+        """Makes the file, of this mode, with a log that begins so. The log. If that is killed there is all of it, or
+        none. Raises LogExists, ForeignLog, ReadOnlyLog, DiskFull, Unanswered."""
         name = os.fspath(path)
-        room = f'{name}.{log_name()}.new'  # processes of two containers may have one number
+        room = f'{name}.{log_name()}{NEW}'  # processes of two containers may have one number
         try:
-            with calls(room), closing(connection(room, 1.0, 'rwc')) as file:
+            see_disk(os.path.dirname(name) or '.')
+            make(room, mode)
+            with calls(name), closing(connection(room, 1.0)) as file:
                 kind = f'pragma application_id = {APPLICATION}; pragma user_version = {FORM}'
                 file.executescript(f'pragma journal_mode = wal; {kind}; {TABLES}')
                 file.execute("insert into changes values (?, 0, 0, '')", (log_name(),))
                 open_epoch(file, opening)
             os.link(room, name)
+            keep_name(name)
         except FileExistsError:
             raise LogExists(f'{name}: something is there already') from None
         except OSError as error:
@@ -237,7 +187,9 @@ class SqliteLog:
                 version, more = ('an older', BY_HISTORY) if form < FORM else ('another', '')
                 by = f'{form}, by {version} version'
                 raise ForeignLog(f'{self.path}: a log of form {by}, and not of form {FORM}{more}')
-            self._file.execute('pragma journal_mode = wal')
+            mode = self._file.execute('pragma journal_mode = wal').fetchone()[0]
+            if mode != 'wal':
+                raise ForeignLog(f'{self.path}: SQLite keeps a journal of mode {mode} here, and cannot keep a -wal')
             self._file.execute('pragma synchronous = normal')
         with self._transaction(kind) as standing:
             self._name = standing.name
@@ -286,6 +238,22 @@ class SqliteLog:
             self._file.execute('update changes set orders = ?', (orders.text(),))
         return True
 
+    def note(self, name: str, gave_up: bool | None) -> None:
+        with self._transaction():
+            self._file.execute(FAILING)
+            self._file.execute('delete from failing where name = ?', (name,))
+            if gave_up is not None:
+                self._file.execute('insert into failing values (?, ?)', (name, gave_up))
+
+    def give_up(self, name: str, heir: str, life: Life) -> bool:
+        with self._transaction():
+            self._file.execute(FAILING)
+            noted = self._one('select count(*) from failing where name = ?', heir)
+            if noted or self._promised(heir, life, nanoseconds_of_boot()) is None:
+                return False
+            self._file.execute('insert or replace into failing values (?, ?)', (name, True))
+        return True
+
     def prune(self, first: int) -> None:
         """The epochs are gone at once. Their rows are so a part at a time, so that nobody waits for long."""
         with self._transaction() as standing:
@@ -305,22 +273,37 @@ class SqliteLog:
             if promise != standing.end or self._one(asked, name, self._boot, now):
                 return False
             if standing.boot != self._boot:
-                self._enter_boot(now)
+                self._enter_boot(standing, now)
             held = name, life_text(life), promise.epoch, promise.place, self._boot, now, now + ttl
             self._file.execute('insert or replace into presence values (?, ?, ?, ?, ?, ?, ?)', held)
             self._file.execute('update changes set lives = lives + 1')
         return True
 
-    def _enter_boot(self, now: int) -> None:
-        """This boot uses the log from now on. Raises LogBusy, if a presence of another one may still be held."""
-        if self._are_elsewhere(now):
-            raise LogBusy(f'{self.path}: another boot may still hold presences')
+    def _enter_boot(self, standing: Standing, now: int) -> None:
+        """This boot uses the log from now on. Raises LogBusy, ForeignLog, if another one may still hold presences."""
+        self._see_others(standing, now)
+        # A version that doesn't know of time namespaces finds its boot there, and another one behind it.
+        self._file.execute('insert or ignore into boots (boot) values (?)', (machine_boot(self._boot),))
+        self._file.execute('delete from boots where boot = ?', (self._boot,))
         self._file.execute('insert into boots (boot) values (?)', (self._boot,))
+
+    def _see_others(self, standing: Standing, now: int) -> None:
+        """Raises LogBusy, if another boot may hold presences; ForeignLog, if another time namespace of this one does."""
+        if standing.boot != self._boot and self._are_elsewhere(now):
+            if self._is_same_boot(standing):
+                raise ForeignLog(f'{self.path}: {OTHER_CLOCK}')
+            raise LogBusy(f'{self.path}: another boot may still hold presences')
+
+    def _is_same_boot(self, standing: Standing) -> bool:
+        """Whether the log was used last in this boot of the machine, though maybe in another time namespace."""
+        return machine_boot(standing.boot or '') == machine_boot(self._boot)
 
     def _are_elsewhere(self, now: int) -> bool:
         """Whether another boot may hold presences, by this clock: those of earlier boots are mostly of other times."""
-        asked = 'select count(*) from presence where boot != ? and since <= ? and until > ?'
-        return self._one(asked, self._boot, now, now) > 0
+        others = self._file.execute('select distinct boot from presence where boot != ?', (self._boot,)).fetchall()
+        asked = 'select count(*) from presence where boot = ? and since <= ? and until > ?'
+        there = [(boot, moment) for boot, in others for moment in moments(now, self._boot, str(boot))]
+        return any(self._one(asked, boot, moment, moment) for boot, moment in there)
 
     def renew(self, name: str, life: Life, ttl: int) -> bool:
         with self._transaction():
@@ -431,18 +414,26 @@ class SqliteLog:
             see_end(self.path, end, Promise(epoch, place))
             rows = self._rows(epoch, place, end.place) if epoch == end.epoch else Rows('')
             wish, orders = wish_of(self.path, end.epoch, standing.wish), orders_of(self.path, standing.orders)
-            found = Found(end.epoch, rows, self._look_around(standing), wish, orders)
+            found = Found(end.epoch, rows, self._look_around(standing), wish, orders, self._failing())
         self._seen_wanted, self._seen_idle = standing.wanted, (end, found.idle(end))
         return found
 
     def _look_around(self, standing: Standing) -> dict[str, Holder]:
         """Who is present. It is noted."""
+        now = nanoseconds_of_boot()
+        self._see_others(standing, now)
         asked = 'select name, life, epoch, place, until from presence where boot = ? and until > ?'
-        found = self._file.execute(asked, (self._boot, nanoseconds_of_boot())).fetchall()
+        found = self._file.execute(asked, (self._boot, now)).fetchall()
         presences = {name: holder_of(self.path, name, *told) for name, *told in found}
         self._present = {name: holder.life for name, holder in presences.items()}
         self._lives, self._earliest = standing.lives, min((until for *_, until in found), default=NEVER)
         return presences
+
+    def _failing(self) -> dict[str, bool]:
+        """Of which nodes it is noted that their work fails, and whether they have given up."""
+        self._has_notes = self._has_notes or self._one("select count(*) from sqlite_master where name = 'failing'") > 0
+        found = self._file.execute('select name, gave_up from failing').fetchall() if self._has_notes else []
+        return {name: bool(gave_up) for name, gave_up in found}
 
     def wait(self, epoch: int, place: int, lives: Lives, until: Until, seconds: float, wake: int | None = None) -> None:
         """Without news the next wait goes on at the pace of this one: what comes is often soon followed by more."""
@@ -482,15 +473,17 @@ class SqliteLog:
     # What is asked of SQLite.
 
     def _standing(self) -> Standing:
+        """It is one statement: what others do between two, out of a transaction, would be taken for another boot's."""
         boot = '(select boot from boots order by number desc limit 1)'
-        asked = f'select epoch, count, wish, orders, name, {boot}, lives, promises from epochs, changes'
-        found = self._file.execute(f'{asked} order by epoch desc limit 1').fetchone()
-        if found is None or not all(isinstance(number, int) for number in (*found[:2], *found[-2:])):
+        used = '(select count(*) from boots where boot = ?)'
+        asked = f'select epoch, count, wish, orders, name, {boot}, lives, promises, {used} from epochs, changes'
+        found = self._file.execute(f'{asked} order by epoch desc limit 1', (self._boot,)).fetchone()
+        if found is None or not all(isinstance(number, int) for number in (*found[:2], *found[-3:])):
             raise DamagedLog(f'{self.path}: the log has no opening, or no end')
-        standing = Standing(Promise(*found[:2]), *found[2:])
+        standing, is_used = Standing(Promise(*found[:2]), *found[2:-1]), bool(found[-1])
         if standing.name != self._name and self._name:
             raise OtherLog(f'{self.path}: another log is in its place')
-        if standing.boot != self._boot and self._one('select count(*) from boots where boot = ?', self._boot):
+        if standing.boot != self._boot and is_used and not self._is_same_boot(standing):
             raise ForeignLog(f'{self.path}: {OTHER_BOOT}')
         return standing
 

@@ -3,12 +3,15 @@ from __future__ import annotations
 
 import argparse
 import os
+import stat
 from collections.abc import Sequence
 from dataclasses import dataclass, field
 from typing import TYPE_CHECKING
 
 from .epochs import Opening
+from .files import ITS_GROUP, OWNER_ALONE, see_group, told_readers
 from .logs import Log, LogError
+from .settings import shown_address
 from .sqlite import SqliteLog
 
 if TYPE_CHECKING:
@@ -17,9 +20,10 @@ if TYPE_CHECKING:
     from .repairing import Repairable
 
 PASSWORD = 'BULLY_ETCD_PASSWORD'  # of the environment
+LOG = 'BULLY_LOG'  # of the environment, as what OF_ETCD has
 KINDS = 'sqlite:FILE or etcd://HOST:PORT,HOST:PORT/PREFIX'
 
-# Words of a log in etcd alone.
+# Words of a log in etcd alone. What none says of them the environment does, as BULLY_CACERT.
 OF_ETCD = (
     ('--cacert', 'FILE', 'who has to have signed the certificates of the servers, if not an authority of the machine'),
     ('--cert', 'FILE', 'the certificate that is shown to the servers'), ('--key', 'FILE', 'its key'),
@@ -34,9 +38,20 @@ class BadWords(Exception):
 
 def add_words(command: argparse.ArgumentParser) -> None:
     """The command takes the words that name a store."""
-    command.add_argument('--log', required=True, metavar='STORE', help=f'{KINDS}; over TLS etcds://..')
+    where = f'{KINDS}; over TLS etcds://.. (default: {LOG} of the environment)'
+    command.add_argument('--log', default=os.environ.get(LOG), metavar='STORE', help=where)
     for word, kind, told in OF_ETCD:
-        command.add_argument(word, metavar=kind, help=told)
+        command.add_argument(word, metavar=kind, help=f'{told} (default: {variable_of(word)})')
+
+
+def name_of(word: str) -> str:
+    """The name that the value of a word has: `password_file`."""
+    return word[2:].replace('-', '_')
+
+
+def variable_of(word: str) -> str:
+    """What of the environment says the same as a word: `BULLY_PASSWORD_FILE`."""
+    return f'BULLY_{name_of(word).upper()}'
 
 
 @dataclass(frozen=True)
@@ -44,10 +59,18 @@ class FileStore:
     """A file of SQLite."""
 
     path: str
+    is_shared: bool = False  # whether one that is made is for the group of its folder, too
 
     def create(self, opening: Opening) -> Log:
         """A new log."""
-        return SqliteLog.create(self.path, opening)
+        if self.is_shared:
+            see_group(self.path)
+        return SqliteLog.create(self.path, opening, ITS_GROUP if self.is_shared else OWNER_ALONE)
+
+    @property
+    def told_readers(self) -> str:
+        """Who else may read the file, if anybody may."""
+        return told_readers(self.path)
 
     def open(self, patience: float = 1.0, reads: bool = False) -> Repairable:
         """The log that is there."""
@@ -68,11 +91,14 @@ class EtcdStore:
     tls: ssl.SSLContext | None
     user: str
     password: str = field(repr=False)
+    told_readers = ''  # etcd's own rules say that
 
     def create(self, opening: Opening) -> Log:
-        """A new log."""
+        """A new log. Raises BadWords of a prefix below another log's notes: an older version took such a one."""
         from .etcd import EtcdLog
 
+        if 'failing' in self.address.split('/'):
+            raise BadWords(f'--log is {self.address}, and no part of a new prefix may be `failing`')
         return EtcdLog.create(self.address, opening, 1.0, self.tls, self.user, self.password)
 
     def open(self, patience: float = 1.0, reads: bool = False) -> Repairable:
@@ -89,22 +115,32 @@ class EtcdStore:
 
 
 def store_of(options: argparse.Namespace) -> FileStore | EtcdStore:
-    """The store that these words name. Raises BadWords, LogError."""
+    """The store that these words name, and the environment. The password doesn't stay there, of whatever store it is:
+    no worker needs it. Raises BadWords, LogError."""
+    password = os.environ.pop(PASSWORD, None)
+    if not options.log:
+        raise BadWords(f'--log, or {LOG} of the environment, has to be {KINDS}')
     kind, _, path = options.log.partition(':')
-    words = [word for word, _, _ in OF_ETCD if getattr(options, word[2:].replace('-', '_'))]
+    is_shared = bool(getattr(options, 'group_access', False))
+    words = [word for word, _, _ in OF_ETCD if getattr(options, name_of(word))]
     if kind in ('etcd', 'etcds'):
-        return etcd_of(options)
+        if is_shared:
+            raise BadWords('--group-access is for a log in a file')
+        return etcd_of(options, password)
     if kind != 'sqlite' or not path:
-        raise BadWords(f'--log is {options.log}, and has to be {KINDS}')
+        raise BadWords(f'--log is {shown_address(options.log)}, and has to be {KINDS}')
     if words:
         raise BadWords(f'{words[0]} is for a log in etcd')
-    return FileStore(path)
+    return FileStore(path, is_shared)
 
 
-def etcd_of(options: argparse.Namespace) -> EtcdStore:
-    """The same, of words that name a store in etcd."""
+def etcd_of(options: argparse.Namespace, password: str | None) -> EtcdStore:
+    """The same, of words that name a store in etcd, and with the password of the environment."""
     from .gateway import read_address
 
+    for word, _, _ in OF_ETCD:
+        if not getattr(options, name_of(word)):
+            setattr(options, name_of(word), os.environ.get(variable_of(word)))
     try:
         is_secure = read_address(options.log).is_secure
     except ValueError as fault:
@@ -115,8 +151,8 @@ def etcd_of(options: argparse.Namespace) -> EtcdStore:
         raise BadWords('--cert and --key go together')
     if options.password_file and not options.user:
         raise BadWords('--password-file goes with --user')
-    password = password_of(options.password_file) if options.user else ''
-    return EtcdStore(options.log, tls_of(options) if is_secure else None, options.user or '', password)
+    known = password_of(options.password_file, password) if options.user else ''
+    return EtcdStore(options.log, tls_of(options) if is_secure else None, options.user or '', known)
 
 
 def tls_of(options: argparse.Namespace) -> ssl.SSLContext:
@@ -133,11 +169,27 @@ def tls_of(options: argparse.Namespace) -> ssl.SSLContext:
     return tls
 
 
-def password_of(path: str | None) -> str:
-    """The password in this file, or else in the environment, where it doesn't stay: a worker doesn't need it."""
+def password_of(path: str | None, told: str | None) -> str:
+    """The password in this file, or else the one of the environment."""
     if path is not None:
-        with open(path, encoding='utf-8') as file:
-            return file.readline().rstrip('\r\n')
-    if PASSWORD not in os.environ:
+        return password_in(path)
+    if told is None:
         raise BadWords(f'--user goes with {PASSWORD} in the environment, or with --password-file')
-    return os.environ.pop(PASSWORD)
+    return told
+
+
+def password_in(path: str) -> str:
+    """The password in this file. Raises BadWords, if others may read it; LogError."""
+    try:
+        with open(path, 'rb') as file:
+            found, line = os.fstat(file.fileno()), file.readline()
+    except OSError as error:
+        raise LogError(f'{path}: {error.strerror}') from error
+    of_group = stat.S_IWGRP | stat.S_IXGRP if found.st_uid == 0 else stat.S_IRWXG  # as libpq has it
+    if stat.S_ISREG(found.st_mode) and found.st_mode & (stat.S_IRWXO | of_group):
+        mode = f'{stat.S_IMODE(found.st_mode):04o}'
+        raise BadWords(f'--password-file {path}: others may read it (mode {mode}): chmod 600, or 640 if root owns it')
+    try:
+        return line.decode().rstrip('\r\n')
+    except UnicodeDecodeError:
+        raise BadWords(f'--password-file {path}: its first line is no UTF-8') from None

@@ -3,15 +3,15 @@ from __future__ import annotations
 
 import collections
 import threading
-from collections.abc import Mapping
+from collections.abc import Mapping, Sequence
 from dataclasses import dataclass
 from typing import Any, Deque
 
 from .clocks import seconds_of_boot
-from .epochs import SETTLEMENT, Token
+from .epochs import TTL, Token
 from .logs import Found, Holder, Log
 from .member import Life, Promise
-from .replica import Replica
+from .observing import Observer
 from .settings import shown_name
 from .values import Status
 
@@ -33,6 +33,12 @@ class Behind:
         self._end, self._since = end, since
         return {name: now - moment for (name, _), moment in since.items()}
 
+    def seen(self, end: Promise, presences: Mapping[str, Holder]) -> dict[str, float]:
+        """The same as it was seen last, if the log still ends there: of those who still aren't idle."""
+        known, now = self._since if end == self._end else {}, seconds_of_boot()
+        late = {(name, holder.life) for name, holder in presences.items() if holder.promise != end}
+        return {each[0]: now - moment for each, moment in known.items() if each in late}
+
 
 @dataclass(frozen=True)
 class NodeView:
@@ -44,18 +50,22 @@ class NodeView:
     coordinator: str | None
     is_present: bool
     is_drained: bool
+    is_failing: bool  # whether its worker fails, and it owns something, or gave up
+    gave_up: bool  # whether it let go of what it owned for that
     partitions: tuple[int, ...]
 
     @property
     def told_present(self) -> str:
-        """Whether it is present, and drained, for people."""
-        return ('yes' if self.is_present else 'no') + (', drained' if self.is_drained else '')
+        """Whether it is present, and drained, and whether its worker fails, for people."""
+        drained = ', drained' * self.is_drained + ', gave up' * self.gave_up
+        return ('yes' if self.is_present else 'no') + drained + ', its worker fails' * self.is_failing
 
     def document(self) -> dict[str, Any]:
         """The same for JSON."""
         return {
             'node': self.node, 'name': self.name, 'status': str(self.status), 'coordinator': self.coordinator,
-            'present': self.is_present, 'drained': self.is_drained, 'partitions': list(self.partitions),
+            'present': self.is_present, 'drained': self.is_drained, 'failing': self.is_failing,
+            'gave_up': self.gave_up, 'partitions': list(self.partitions),
         }  # fmt: skip
 
 
@@ -70,15 +80,15 @@ class GroupView:
     coordinator: str | None  # of the nodes that are Normal
     owners: tuple[str | None, ...]  # of the partitions; none, while nobody may work on one
     nodes: tuple[NodeView, ...]
-    is_at_rest: bool  # whether nothing is to be done but to work
+    is_at_rest: bool  # whether nothing is to be done but to work: among those who count
     is_paused: bool
     behind: dict[str, float]  # who isn't idle up to the end, though the group isn't at rest, and for how many seconds
     last: tuple[tuple[int, str], ...]  # the last rows, with their numbers in the trace
 
     @property
     def is_well(self) -> bool:
-        """Whether each partition may be worked on."""
-        return self.is_at_rest and None not in self.owners
+        """Whether each partition may be worked on, and no worker fails."""
+        return self.is_at_rest and None not in self.owners and not any(node.is_failing for node in self.nodes)
 
     @property
     def told_more(self) -> str:
@@ -101,81 +111,74 @@ class GroupView:
 class LogView:
     """Reads a log, and shows what it comes to, in the current epoch. Threads may share it."""
 
-    def __init__(self, log: Log, behind: Behind | None = None) -> None:
-        """A member in this process may tell who is behind, since it looks whenever something changes.
+    def __init__(self, log: Log, behind: Behind | None = None, ttl: float | None = None) -> None:
+        """A member in this process may tell who is behind, since it looks whenever something changes. The ttl is that
+        of members, if the log has none.
 
-        Raises NotLearned, BadHeader, and what the log raises."""
-        self._log = log
-        self._behind = behind or Behind()
+        Raises what the log raises."""
+        self._log, self._ttl = log, ttl or TTL
+        self._told, self._behind = behind or Behind(), Behind()
         self._last: Deque[tuple[int, str]] = collections.deque(maxlen=LAST_ROWS)
         self._lock = threading.Lock()
         self._enter()
-        self._read()
 
     def show(self) -> GroupView:
-        """Reads on, and shows the group."""
+        """Reads on, and shows the group. Raises NotLearned, OutOfMemory, and what the log raises."""
         with self._lock:
             return self._shown(self._read())
 
     def close(self) -> None:
         with self._lock:
-            self._replica.close()
+            self._observer.close()
             self._log.close()
 
     def _enter(self) -> None:
         """It shows the current epoch from now on."""
         opening = self._log.opening()
-        self._opening, self._replica = opening, Replica(opening.header)
+        self._opening, self._observer = opening, Observer(opening, opening.ttl or self._ttl)
         self._last.clear()
 
     def _read(self) -> Found:
         """Reads up to the end of the current epoch."""
         while True:
-            found = self._log.look(self._opening.epoch, self._replica.rows)
+            found = self._log.look(self._opening.epoch, self._observer.rows)
             if found.epoch == self._opening.epoch:
                 break
-            before = self._replica
+            before = self._observer
             self._enter()
             before.close()
-        self._replica.learn(found.rows)
+        self._observer.see(found)
         last = found.rows[-LAST_ROWS:]
-        self._last.extend(enumerate(last, self._replica.rows + 2 - len(last)))
+        self._last.extend(enumerate(last, self._observer.rows + 2 - len(last)))
         return found
 
     def _shown(self, found: Found) -> GroupView:
-        replica, opening = self._replica, self._opening
-        nodes = tuple(self._node(node, found) for node in range(1, replica.nodes + 1))
-        owners: list[str | None] = [None] * replica.partitions
-        for node in nodes:
-            for partition in node.partitions:
-                owners[partition] = node.name
+        observer, opening, is_paused = self._observer, self._opening, found.orders.is_paused
+        table = observer.last_table or ()
+        nodes = tuple(self._node(node, table, found) for node in range(1, observer.nodes + 1))
         coordinator = next((node.coordinator for node in nodes if node.status is Status.NORMAL), None)
-        token = None if replica.token is None else Token.of(opening.epoch, replica.token)
-        rests, is_paused = self._is_at_rest(found, nodes), found.orders.is_paused
-        behind = self._behind.see(Promise(opening.epoch, replica.rows), found.presences, rests or is_paused)
+        token = None if observer.token is None else Token.of(opening.epoch, observer.token)
+        end = Promise(opening.epoch, observer.place)
+        told = {} if is_paused else self._told.seen(end, found.presences)
+        rests = observer.is_at_rest and not told
+        behind = {**self._behind.see(end, found.presences, rests or is_paused), **told}
         return GroupView(
-            opening.epoch, replica.rows, replica.events, token, coordinator, tuple(owners), nodes, rests, is_paused,
-            behind, tuple(self._last),
+            opening.epoch, observer.rows, observer.events, token, coordinator, observer.owners(found), nodes, rests,
+            is_paused, behind, tuple(self._last),
         )  # fmt: skip
 
-    def _is_at_rest(self, found: Found, nodes: tuple[NodeView, ...]) -> bool:
-        """Whether nothing is to be done but to work. In a pause who came, and what is wished for, waits for its end."""
-        is_paused = found.orders.is_paused
-        here = [node for node in nodes if node.is_present and not (is_paused and node.status is Status.DOWN)]
-        counted = {node.name: node.node for node in here}
-        promises = [holder.promise for name, holder in found.presences.items() if name in counted or not is_paused]
-        idle = max((promise.place for promise in promises if promise.epoch == found.epoch), default=0)
-        has_room = self._replica.rows + SETTLEMENT * len(nodes) <= self._opening.limit
-        return self._replica.is_at_rest(list(counted.values()), idle) and has_room and (is_paused or found.wish is None)
-
-    def _node(self, node: int, found: Found) -> NodeView:
-        state = self._replica.state(node)
+    def _node(self, node: int, table: Sequence[int], found: Found) -> NodeView:
+        """How the node stands, and what the last table gives it, by which each goes that is Normal."""
+        state = self._observer.state(node)
         is_normal = state.status is Status.NORMAL
-        task = self._replica.task(node) or () if is_normal else ()
-        partitions = tuple(partition for partition, owner in enumerate(task) if owner == node)
+        partitions = tuple(partition for partition, owner in enumerate(table) if owner == node and is_normal)
         coordinator, name = None if state.coordinator is None else self._name(state.coordinator), self._name(node)
         is_present, is_drained = name in found.presences, name in found.orders.drained
-        return NodeView(node, name, state.status, coordinator, is_present, is_drained, partitions)
+        gave_up = found.failing.get(name, False) and not is_present
+        fails = gave_up or name in found.failing and bool(partitions)
+        return NodeView(
+            node, name, state.status, coordinator, is_present, is_drained, fails, gave_up, partitions
+        )  # fmt: skip
 
     def _name(self, node: int) -> str:
         return self._opening.names[node - 1]

@@ -12,26 +12,34 @@ import threading
 from collections.abc import Sequence
 from contextlib import suppress
 from pathlib import Path
+from typing import BinaryIO
 
+from .boots import see_one_clock
 from .clocks import SECOND, seconds_of_boot, sleep_until_ready
-from .guard import BEATS, adopt, children, end_children, may_kill
+from .failing import Failures
+from .guard import BEATS, adopt, children, end_children, held_back, may_kill
 from .running import Assignment, Member
 
 GUARD = str(Path(__file__).with_name('guard.py'))
 SILENT = 2  # looks, a twentieth of the ttl from one to the next, at a guard that is silent, behind which it is killed
 STARTS = 5.0  # seconds that a guard takes to begin, at most
-REST_MAX = 60.0  # seconds that a worker rests at most which fails again and again
 STOP_WAIT = 0.1  # seconds for which it waits at once for a worker to stop
 PART_MAX = 100_000  # bytes of a part of what the guard is told: all sockets have room for so many
+SETTINGS_MAX = (1 << 17) - len('BULLY_SETTINGS=') - 1  # bytes: more no variable of an environment can have
 SURVIVORS_TOLD = (
     'these processes may work on, since SIGKILL has not ended them; until they are gone nothing is begun here: %s'
 )
+UNLISTED = 'the kernel does not list the children of a process, so what a worker begins could not be ended'
 
 _logger = logging.getLogger('bully')
 
 
 class GuardLost(Exception):
     """The guard died, or was killed since it was silent."""
+
+
+class ChildrenUnlisted(Exception):
+    """The kernel doesn't list the children of a process, by which what a worker begins is found and ended."""
 
 
 class WorkerStuck(Exception):
@@ -46,24 +54,35 @@ class WorkerEnded(Exception):
         self.status = status
 
 
+def listed_children() -> set[int]:
+    """The children of this process. Raises ChildrenUnlisted."""
+    try:
+        return children()
+    except OSError as fault:
+        raise ChildrenUnlisted(f'{UNLISTED}: {fault} (the kernel needs CONFIG_PROC_CHILDREN)') from fault
+
+
 class Workers:
     """The callbacks of a member whose worker is a process, which begins and stops by a guard beside the member."""
 
-    def __init__(self, words: Sequence[str], node: str, patience: float, talks: bool = False) -> None:
-        """The words of its command, the name of its node, how long it may take to stop, and whether it stays over
-        changes and is told of them by lines."""
+    def __init__(
+        self, words: Sequence[str], node: str, patience: float, talks: bool = False, failures: Failures | None = None
+    ) -> None:
+        """The words of its command, the name of its node, how long it may take to stop, whether it stays over changes
+        and is told of them by lines, and what counts its failures."""
         self._words, self._node, self._patience, self._talks = words, node, patience, talks
+        self._failures = failures or Failures()
         # Since `begin`:
         self._member: Member
         self._others: set[int]  # the children that this process had before
         self._guard: subprocess.Popen[bytes]
         self._channel: socket.socket  # to the guard
+        self._settings: BinaryIO  # in which the worker finds them
         self._listener: threading.Thread  # hears what the guard says
         self._assignment: Assignment | None = None
         self._stopped: queue.SimpleQueue[None] = queue.SimpleQueue()
         self._until = 0  # in nanoseconds of CLOCK_BOOTTIME
         self._begun = 0.0  # when the worker was told to begin
-        self._rest = self._rest_end = 0.0  # how long and until when it rests since it failed
         self._may_work = False  # whether the worker was told to begin, and may be at work
         self._is_unheard = False  # whether the guard hasn't answered that yet
         self._stop_begun: float | None = None  # when the worker was told to stop, if it hasn't yet
@@ -73,14 +92,17 @@ class Workers:
 
     def begin(self, member: Member, file: str = '') -> None:
         """The guard begins, before the member does. If its log is a file, the guard kills this process, too, if that
-        stays stopped in the middle of a write. What a guard that died leaves is this process's to kill."""
-        self._member, self._others = member, children()
+        stays stopped in the middle of a write. What a guard that died leaves is this process's to kill. Raises
+        ForeignLog and ChildrenUnlisted."""
+        see_one_clock()
+        self._member, self._others, self._failures.ttl = member, listed_children(), member.ttl
         adopt()
+        self._settings = os.fdopen(os.memfd_create('settings'), 'wb')
         self._channel, given = socket.socketpair(socket.AF_UNIX, socket.SOCK_SEQPACKET)
         more = ['talks' if self._talks else 'ends', f'{os.path.realpath(file)}-shm' if file else '', str(member.ttl)]
         command = [sys.executable, '-I', '-S', GUARD, str(given.fileno()), str(self._patience), *more, *self._words]
         environment = {**os.environ, 'BULLY_NODE': self._node}
-        with given:
+        with given, held_back():  # else a guard would die by them that hasn't come to its first line
             self._guard = subprocess.Popen(
                 command, env=environment, stdin=subprocess.DEVNULL, pass_fds=[given.fileno()], start_new_session=True
             )
@@ -90,7 +112,7 @@ class Workers:
     def start(self, assignment: Assignment) -> None:
         """The worker begins, or goes on, for this assignment; or its rest does."""
         self._assignment, self._begun = assignment, seconds_of_boot()
-        if self._begun < self._rest_end:
+        if self.rest_seconds:
             self._begin_later(assignment)
             return
         settings = assignment.settings.text(self._member.ttl, self._member.margin)
@@ -99,12 +121,21 @@ class Workers:
             document = {'begin': assignment.token, 'partitions': assignment.partitions, 'coordinator': coordinator}
             words = json.dumps({**document, 'settings': json.loads(settings)})
         else:
-            named = {'TOKEN': str(assignment.token), 'SETTINGS': settings, 'COORDINATOR': coordinator}
-            named['PARTITIONS'] = ' '.join(map(str, assignment.partitions))
+            partitions = ' '.join(map(str, assignment.partitions))
+            named = {'TOKEN': str(assignment.token), 'COORDINATOR': coordinator, 'PARTITIONS': partitions}
+            named.update(self._kept(settings))
             words = '\0'.join(f'BULLY_{name}={value}' for name, value in named.items())
         self._may_work = self._is_unheard = True
+        self._failures.began(self._begun)
         self._tell(f'until {self._until}')
         self._tell_begin(words.encode('utf-8', 'surrogateescape'))
+
+    def _kept(self, settings: str) -> dict[str, str]:
+        """By which variables a worker finds the settings: in a file, and in the environment, if that has room."""
+        file = Path(f'/proc/{os.getpid()}/fd/{self._settings.fileno()}')
+        text = settings.encode('utf-8', 'surrogateescape')
+        file.write_bytes(text)
+        return {'SETTINGS_FILE': str(file), **({'SETTINGS': settings} if len(text) <= SETTINGS_MAX else {})}
 
     def stop(self, assignment: Assignment) -> None:
         """Returns once nothing is worked on any more. Raises WorkerStuck."""
@@ -138,12 +169,18 @@ class Workers:
         return bool(self._survivors) and self.stopping_seconds > self._patience + self._member.ttl
 
     @property
+    def is_failing(self) -> bool:
+        """Whether its node owns what the worker doesn't work on: it failed, and hasn't stayed for a ttl since."""
+        return self._assignment is not None and self._failures.is_failing(seconds_of_boot())
+
+    @property
     def about(self) -> str:
-        """For people: that it stops, or rests."""
+        """For people: that it stops, or rests since it failed, or was begun again since."""
         if self._stop_begun is not None:
             return f'; its worker has not stopped for {self.stopping_seconds:.1f} s'
         rests = self.rest_seconds
-        return f'; its worker failed, and rests for {rests:.1f} s' if rests else ''
+        fails = '; its worker failed' if self.is_failing else ''
+        return f'; its worker failed, and rests for {rests:.1f} s' if rests else fails
 
     def hear_until(self, until: float) -> None:
         """The worker may go on until then, in seconds of CLOCK_BOOTTIME."""
@@ -162,6 +199,7 @@ class Workers:
         self._end_all()
         self._listener.join()
         self._channel.close()
+        self._settings.close()
 
     def _tell_begin(self, words: bytes) -> None:
         """In parts, for each of which a message has room."""
@@ -187,6 +225,8 @@ class Workers:
                 self._tell_survivors(list(map(int, said[1:])))
                 continue
             self._survivors, self._may_work = [], False
+            if said[0] != b'ended':
+                self._failures.ceased(seconds_of_boot())
             if said[0] == b'stopped':
                 self._stopped.put(None)
             elif said[0] == b'ended':
@@ -199,29 +239,26 @@ class Workers:
             self._stopped.put(None)
 
     def _ended(self, status: int, now: float) -> None:
-        """The worker ended by itself. If it failed within a ttl it is begun again, later and later, and its node keeps
-        what it owns; else its member ends, too."""
-        ttl = self._member.ttl
-        if status == 0 or now >= self._begun + ttl:
+        """The worker ended by itself. If it failed it is begun again, later and later, and its node keeps what it owns,
+        unless it gives up; else its member ends, too."""
+        if status == 0:
             self._member.end_with(WorkerEnded(status))
             return
-        fails_again = self._rest and self._begun < self._rest_end + ttl
-        self._rest = min(2 * self._rest, REST_MAX) if fails_again else ttl / 5
-        self._rest_end = now + self._rest
-        _logger.warning('the worker failed, with status %d, and is begun again in %.1f s', status, self._rest)
+        rest = self._failures.failed(now)
+        _logger.warning('the worker failed, with status %d, and is begun again in %.1f s', status, rest)
         if self._assignment is not None:
             self._begin_later(self._assignment)
 
     def _begin_later(self, assignment: Assignment) -> None:
         """Once the rest is over this assignment's work is lost, and so begun again, if the node still owns it."""
-        later = threading.Timer(max(0.0, self._rest_end - seconds_of_boot()), self._member.lose, [assignment])
+        later = threading.Timer(self.rest_seconds, self._member.lose, [assignment])
         later.daemon = True
         later.start()
 
     @property
     def rest_seconds(self) -> float:
         """For how long the worker still rests, since it failed."""
-        return max(0.0, self._rest_end - seconds_of_boot())
+        return self._failures.rest_seconds(seconds_of_boot())
 
     def _hear(self) -> bytes:
         """What the guard says; nothing, if it died. One that is silent is killed."""
@@ -250,10 +287,11 @@ class Workers:
     def _end_all(self) -> None:
         """Returns once nothing is left of the guard, and of what it began."""
         with self._ending:
+            self._guard.kill()
             end_children(self._others, self._member.ttl / BEATS, self._tell_survivors)
             self._guard.wait()
             self._survivors = []
 
     def _tell_survivors(self, processes: list[int]) -> None:
         self._survivors = processes
-        _logger.error(SURVIVORS_TOLD, processes)
+        _logger.error(SURVIVORS_TOLD, processes or 'they are not listed')

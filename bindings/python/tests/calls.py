@@ -28,7 +28,7 @@ class Calls:
 
     def __init__(self, choice: random.Random, memory: MemoryLog) -> None:
         self.choice, self.memory = choice, memory
-        self.done = dict.fromkeys(('take', 'promise', 'append', 'finish', 'ask', 'order'), 0)
+        self.done = dict.fromkeys(('take', 'promise', 'append', 'finish', 'ask', 'order', 'give_up'), 0)
 
     def choose(self) -> tuple[str, Callable[[Log], object]]:
         """The name of a call, and the call."""
@@ -60,6 +60,8 @@ class Calls:
             Orders(frozenset(choice.sample('abc', 1)), choice.choice([None, {'a': life}])) for _ in range(2)
         )
         known = choice.choice([memory.orders, memory.orders, before, None])
+        gave_up, other = choice.choice([None, None, None, None, False, True]), choice.choice([*memory.presences, name])
+        its = memory.presences[other].life if other in memory.presences else life
         many, some = 8, 4
         asked: list[tuple[int, str, Callable[[Log], object]]] = [
             (some, f'take {name} {life} {promise}', lambda log: log.take(name, life, promise, self.TTL)),
@@ -68,11 +70,13 @@ class Calls:
             (some, f'promise {name} {life} {promise}', lambda log: log.promise(name, life, promise)),
             (many, f'append {promise} {rows}', lambda log: log.append(epoch, place, rows)),
             (some, f'finish {promise} {opening}', lambda log: log.finish(epoch, place, opening)),
-            (some, f'look {promise}', lambda log: looked(log, epoch, place)),
+            (some, f'look {promise}', lambda log: (looked(log, epoch, place), dict(log.look(0, 0).failing))),
             (1, f'read {promise}', lambda log: list(log.read(epoch, place))),
             (1, f'ask {wish} {epoch}', lambda log: log.ask(wish, epoch)),
             (1, f'cancel {epoch}', lambda log: log.cancel(epoch)),
             (2, f'order {orders} {known}', lambda log: log.order(orders, known)),
+            (some, f'note {name} {gave_up}', lambda log: log.note(name, gave_up)),
+            (some, f'give_up {name} {other} {its}', lambda log: log.give_up(name, other, its)),
             (1, f'times {epoch}', lambda log: sorted(log.times(epoch))), (1, 'epochs', lambda log: log.epochs()),
             (1, f'opening {epoch}', lambda log: log.opening(epoch)), (1, 'opening', lambda log: log.opening()),
             (1, f'prune {epoch - 1}', lambda log: log.prune(epoch - 1)),

@@ -1,9 +1,9 @@
 """Counts what is tried, and ends a test that hangs."""
 from __future__ import annotations
 
+import os
 import signal
 import sys
-import time
 import unittest
 from types import ModuleType
 
@@ -14,6 +14,12 @@ IDLE_MAX, LEAST_USED = (
 CLEANUP_MAX = 5  # seconds for each clean-up of a test that hung
 
 
+def used() -> float:
+    """How many seconds of a processor this process took, with those that it began and has waited for."""
+    times = os.times()
+    return times.user + times.system + times.children_user + times.children_system
+
+
 class CountingResult(unittest.TextTestResult):
     """Counts what was tried: each part of a test by itself, and the rest of the test as one more. A test that hangs
     fails, and is the last one of its module: what it hangs by others may hang by, too."""
@@ -22,14 +28,14 @@ class CountingResult(unittest.TextTestResult):
 
     def startTest(self, test: unittest.TestCase) -> None:
         super().startTest(test)
-        self.used = time.process_time()
+        self.used = used()
         signal.signal(signal.SIGALRM, self.look)
         signal.setitimer(signal.ITIMER_REAL, IDLE_MAX, IDLE_MAX)
 
     def look(self, number: int, frame: object) -> None:
         """Ends a test, or its clean-up, that only waits. The traceback tells for what."""
-        used, self.used = time.process_time() - self.used, time.process_time()
-        if used < LEAST_USED or self.shouldStop:
+        before, self.used = self.used, used()
+        if self.used - before < LEAST_USED or self.shouldStop:
             self.stop()
             signal.setitimer(signal.ITIMER_REAL, CLEANUP_MAX, CLEANUP_MAX)
             raise AssertionError(f'it does not end, and only waits, for {IDLE_MAX} s')

@@ -325,6 +325,46 @@ class Laws(Tests):
         self.assertEqual(other.look(2, 0).orders, Orders())
         self.assertTrue(other.order(two, Orders()))
 
+    def test_notes(self) -> None:
+        """Of whose work fails: they belong to no epoch, and are those that were made last."""
+        log, other = self.pair()
+        self.assertEqual(log.look(1, 0).failing, {})
+        log.note('a', None)
+        names = ['a', 'a/b', 'größer', "'", ' ', 'x' * 200]
+        for number, name in enumerate(names):
+            (log, other)[number % 2].note(name, number % 3 == 0)
+        noted = {name: number % 3 == 0 for number, name in enumerate(names)}
+        self.assertEqual((log.look(1, 0).failing, other.look(1, 0).failing), (noted, noted))
+        self.assertTrue(log.take('a', A, EMPTY, self.LONG))
+        self.assertTrue(log.finish(1, 0, OPENING.next(None, ())))
+        other.note('a', False)
+        for name in names[1:]:
+            log.note(name, None)
+        self.assertEqual((log.look(2, 0).failing, self.handle(log).look(2, 0).failing), ({'a': False}, {'a': False}))
+
+    def test_give_up(self) -> None:
+        """For an heir that is there by this life just then, and doesn't fail: so two can't give up for each other."""
+        log, other = self.pair()
+        self.assertFalse(log.give_up('a', 'b', B), 'it is not there')
+        self.assertTrue(log.take('a', A, EMPTY, self.LONG) and log.take('b', B, EMPTY, self.LONG))
+        self.assertFalse(other.give_up('a', 'b', C), 'it is another life')
+        for gave_up in (False, True):
+            log.note('b', gave_up)
+            self.assertFalse(other.give_up('a', 'b', B), 'it fails, too')
+        self.assertEqual(log.look(1, 0).failing, {'b': True})
+        log.note('b', None)
+        log.note('a', False)
+        self.assertTrue(other.give_up('a', 'b', B))
+        self.assertFalse(log.give_up('b', 'a', A))
+        self.assertEqual((log.look(1, 0).failing, set(present(other))), ({'a': True}, {'a', 'b'}))
+        self.assertTrue(log.take('c', C, EMPTY, self.TTL) and log.give_up('b', 'c', C))
+        log.note('a', None)
+        log.release('a', A)
+        log.release('b', B)
+        self.pass_end(other)
+        self.assertFalse(other.give_up('a', 'c', C), 'its presence has ended')
+        self.assertEqual(other.look(1, 0).failing, {'b': True})
+
     def test_times(self) -> None:
         """When each append was done, by the wall clock, which may be set back."""
         log, other = self.pair()

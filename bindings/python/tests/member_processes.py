@@ -4,24 +4,31 @@ from __future__ import annotations
 import contextlib
 import io
 import json
+import logging
+import os
+import re
 import subprocess
 import sys
-from collections.abc import Sequence
+from collections.abc import Callable, Sequence
 from pathlib import Path
 from typing import Any, BinaryIO
 from unittest import mock
 
 from bully import command
-from .places import environment
+from bully.logs import Holder
+from .configurations import TOP, toml
+from .folders import InFolder
+from .places import ROOT, environment
 from .processes import children, is_running
 from .waiting import PATIENCE, wait_until
 
 
 def call(*words: str) -> tuple[int, str, str]:
-    """The status of a command, and what it said. What signals do to this process stays."""
+    """The status of a command, and what it said. What signals do to this process stays, and no command before it
+    decides where its messages go."""
     with contextlib.redirect_stdout(io.StringIO()) as said, contextlib.redirect_stderr(
         io.StringIO()
-    ) as told, mock.patch('signal.signal'):
+    ) as told, mock.patch('signal.signal'), mock.patch.object(logging.getLogger(), 'handlers', []):
         try:
             status = command.main(list(words))
         except SystemExit as ended:
@@ -58,7 +65,7 @@ class MemberProcess:
     ) -> None:
         """By these words and those of the worker."""
         self.folder = folder
-        self.words = [sys.executable, '-W', 'error', '-m', 'bully.command', 'run', *words, '--', *worker]
+        self.words = [sys.executable, '-W', 'error', '-m', 'bully_member', 'run', *words, '--', *worker]
         self.process = started(folder, self.words, said, **more)
 
     def begin_again(self) -> None:
@@ -101,3 +108,47 @@ class MemberProcess:
         self.process.kill()
         self.process.wait(PATIENCE)
         wait_until(lambda: not any(map(is_running, guards)))
+
+
+class WithMember(InFolder):
+    """Tests of a member for the only node of a group, over a log in a file."""
+
+    def begin(
+        self, worker: str, writer: Callable[[], None] | None = None, *more: str, said: BinaryIO | None = None
+    ) -> MemberProcess:  # fmt: skip
+        """A member for the only node of a group, with a worker in shell; once the writer, if any, has the file's
+        lock."""
+        config = self.folder / 'group.toml'
+        config.write_bytes(toml({**TOP, 'nodes': 1, 'names': ['the only'], 'weights': [3]}))
+        self.assertEqual(command.main(['init', '--config', str(config), '--log', f'sqlite:{self.path}']), 0)
+        if writer is not None:
+            writer()
+        words = ['--config', str(config), '--log', f'sqlite:{self.path}', '--node', 'the only', '--ttl', '2', *more]
+        member = MemberProcess(self.folder, words, ['sh', '-c', worker], said)
+        self.words = member.words
+        self.addCleanup(member.kill)
+        return member
+
+    def left(self) -> tuple[str, dict[str, Holder]]:
+        """The last row of the current log, and who is present."""
+        log = self.opened()
+        found = log.look(log.epochs()[-1], 0)
+        return found.rows[-1], dict(found.presences)
+
+    def container(self, port: int) -> tuple[list[str], dict[str, str]]:
+        """By which words a container begins such a member, which listens on this port; and what more is in its
+        environment. The log is there."""
+        lines = (ROOT / 'examples' / 'members' / 'Containerfile').read_text()
+        begun = re.search('^ENTRYPOINT (.*)$', lines.replace('\\\n', ''), re.MULTILINE)
+        assert begun is not None
+        program = self.folder / 'bully-member'
+        program.write_text(f'#!/bin/sh\nexec {sys.executable} -m bully_member "$@"\n')
+        program.chmod(0o755)
+        self.begin(BEGINS).kill()
+        words = [word.replace('8081', str(port)) for word in json.loads(begun[1])]
+        more = {
+            'PATH': f'{self.folder}:{os.environ["PATH"]}',
+            'BULLY_NODE_NAME': 'the only',
+            'BULLY_LOG': f'sqlite:{self.path}',
+        }
+        return [*words, 'sleep', '1000'], more

@@ -4,6 +4,7 @@ from __future__ import annotations
 import contextlib
 import ctypes
 import os
+import re
 import signal
 import unittest
 from pathlib import Path
@@ -56,6 +57,17 @@ def has_stopped(process: int) -> bool:
     """Whether all of the process is stopped by a signal."""
     stats = Path(f'/proc/{process}/task').glob('*/stat')
     return all(stat.read_text().rsplit(')', 1)[1].split()[0] == 'T' for stat in stats)
+
+
+def waits_for(process: int, number: int) -> bool:
+    """Whether the process holds the signal back, or hears it."""
+    masks = re.findall(r'^Sig(?:Blk|Cgt):\t([0-9a-f]+)$', Path(f'/proc/{process}/status').read_text(), re.MULTILINE)
+    return any(int(mask, 16) >> number - 1 & 1 for mask in masks)
+
+
+def has_loaded(process: int, name: str) -> bool:
+    """Whether the process has loaded a file whose name has these words."""
+    return name in Path(f'/proc/{process}/maps').read_text()
 
 
 def parent_of(process: int) -> int:

@@ -7,9 +7,10 @@ import sqlite3
 import threading
 import time
 from collections.abc import Callable
+from pathlib import Path
 from unittest import mock
 
-from bully import command, stores
+from bully import command, configs, stores
 from bully.clocks import SECOND
 from bully.logs import Log
 from bully.member import Life, Promise
@@ -46,6 +47,24 @@ class Commands(InFolder):
         self.assertIn('b     election  no', said)
         self.assertEqual(json.loads(self.of_log('status', '--json')[1])['nodes'][1]['status'], 'election')
 
+    def test_who_may_use_a_file(self) -> None:
+        """Its owner alone, if the group of its folder isn't let in, too. Of a file that is there it is said who may."""
+        init = ['init', '--config', str(self.config)]
+        self.folder.chmod(0o700)
+        status, _, told = self.of_log(*init, '--group-access')
+        self.assertEqual((status, self.path.exists()), (4, False))
+        self.assertIn(f'chmod g+rwxs {self.folder}', told)
+        for mode, words in ((0o600, ()), (0o660, ('--group-access',))):
+            self.folder.chmod(0o2770)
+            self.assertEqual(self.of_log(*init, *words), (0, '', ''))
+            self.assertEqual(self.path.stat().st_mode & 0o7777, mode)
+            self.assertEqual(self.of_log('status')[2], '')
+            self.path.chmod(0o604)
+            self.assertIn(f'{self.path}: of mode 0604, so each user who reaches', self.of_log('status')[2])
+            self.path.unlink()
+        etcd = ['--log', 'etcd://127.0.0.1:1/group', '--group-access']
+        self.assertEqual(call(*init, *etcd), (2, '', 'bully-member: --group-access is for a log in a file\n'))
+
     def test_epochs(self) -> None:
         """A group is resized twice, and what is old is taken away."""
         self.of_log('init', '--config', str(self.config))
@@ -75,11 +94,10 @@ class Commands(InFolder):
         self.assertTrue(self.of_log('status')[1].startswith('epoch 7, events 0, token -, coordinator -\n'))
         put(self.opened(), 'recover,2')
         self.assertEqual(self.of_log('history', '--epoch', '7'), (0, f'{HEADER}\nrecover,2\n', ''))
-        new = self.folder / 'new.toml'
-        new.write_bytes(toml({**TOP, 'partitions': 4}))
+        new = self.wished()
         self.assertEqual(self.of_log('resize', '--config', str(new))[1], 'epoch 8: 3 nodes, 4 partitions\n')
         self.assertEqual(self.of_log('prune', '--keep', '1'), (0, 'epoch 8 is there\n', ''))
-        with Member(self.opened(), 'b', print, print, settings=command.settings_of(str(self.config))) as member:
+        with Member(self.opened(), 'b', print, print, settings=configs.settings_in(str(self.config))) as member:
             self.assertEqual(member.node, 2)
         for epoch in ('0', 'x', '4000000001'):
             self.assertEqual(self.of_log('init', '--config', str(self.config), '--epoch', epoch)[0], 2)
@@ -232,8 +250,7 @@ class Commands(InFolder):
         self.assertEqual(
             self.of_log('drain', 'b'), (0, 'b is drained, and leaves once the group is not paused any more\n', '')
         )
-        new = self.folder / 'new.toml'
-        new.write_bytes(toml({**TOP, 'partitions': 4}))
+        new = self.wished()
         paused = 'bully-member: the group is paused, so no epoch ends; bully-member resume has it go on\n'
         self.assertEqual(self.of_log('resize', '--config', str(new)), (1, '', paused))
         for _ in range(2):
@@ -257,7 +274,7 @@ class Commands(InFolder):
         status, _, said = self.of_log(*resize)
         self.assertEqual((status, log.look(1, 0).wish), (3, None))
         self.assertEqual(
-            said, 'bully-member: config: none of those present (a, b) is in it, so all would end; --all-new takes it\n'
+            said, f'bully-member: {new}: none of those present (a, b) is in it, so all would end; --all-new takes it\n'
         )
         self.assertEqual(
             (self.of_log(*resize, '--all-new')[0], log.epochs()[-1]), (1, 1), 'these never promise anything'
@@ -316,18 +333,30 @@ class Commands(InFolder):
         wait_until(member.assignment)
         status, said, _ = self.of_log('status', '--json')
         self.assertEqual((status, json.loads(said)['at_rest']), (0, True))
-        self.take(self.opened(), 'c')
+        log, end = self.opened(), Promise(1, len(self.opened().read(1, 0)))
+        for number in (1, 2):  # a process that comes again and again
+            self.assertTrue(log.take('c', Life(8, number), end, LONG))
+            status, said, _ = self.of_log('status')
+            self.assertEqual(status, 0, said)
+            self.assertRegex(said, 'coordinator b\n')
+            log.release('c', Life(8, number))
+        self.assertEqual(self.of_log('resize', '--config', str(self.wished()), '--seconds', '0.01')[0], 1)
         status, said, _ = self.of_log('status')
         self.assertEqual(status, 1)
         self.assertRegex(said, 'coordinator b; not idle yet: b for [0-9.]+ s\n')
+
+    def wished(self) -> Path:
+        """A configuration of other settings."""
+        new = self.folder / 'new.toml'
+        new.write_bytes(toml({**TOP, 'partitions': 4}))
+        return new
 
     def test_one_ttl(self) -> None:
         """That of the log is all members', over all epochs."""
         self.of_log('init', '--config', str(self.config), '--ttl', '3')
         words = ['run', '--log', f'sqlite:{self.path}', '--node', 'a', '--ttl', '2', '--', 'true']
         self.assertEqual(call(*words), (2, '', 'bully-member: --ttl is 2, and the log has 3 for all members\n'))
-        new = self.folder / 'new.toml'
-        new.write_bytes(toml({**TOP, 'partitions': 4}))
+        new = self.wished()
         self.assertEqual(self.of_log('resize', '--config', str(new))[0], 0)
         store = stores.FileStore(str(self.path))
         self.assertEqual(
@@ -354,7 +383,7 @@ class Commands(InFolder):
         self.of_log('resize', '--config', str(new))
         log.prune(2)
         for path, name in ((self.config, 'c'), (new, 'd')):
-            with Member(self.opened(), name, print, print, settings=command.settings_of(str(path))) as member:
+            with Member(self.opened(), name, print, print, settings=configs.settings_in(str(path))) as member:
                 self.assertEqual(member.node, ('c', 'd').index(name) + 1)
         words = ['run', '--log', f'sqlite:{self.path}', '--config', str(self.config), '--node', 'a', '--', 'true']
         self.assertEqual(call(*words), (5, '', 'bully-member: the group has no node a in epoch 2, but c, d\n'))
@@ -365,11 +394,14 @@ class Commands(InFolder):
         self.assertEqual(call('status', '--log', log)[0], 4)
         self.of_log('init', '--config', config)
         calls: list[tuple[list[str], int]] = [
-            (['init', '--config', config, '--log', log], 4),
+            (['init', '--config', config, '--log', log], 7),
             (['init', '--config', str(self.folder / 'none'), '--log', log], 4), (['status', '--log', 'etcd:x'], 2),
+            (['init', '--config', config, '--log', 'etcd://127.0.0.1/x/failing/y'], 2),
             ([], 2), (['start'], 2), ([*run, '--node', 'd', '--', 'true'], 2), ([*run, '--node', 'a'], 2),
             ([*run, '--node', 'a', '--ttl', '0', '--', 'true'], 2),
             ([*run, '--node', 'a', '--listen', 'x', '--', 'true'], 2),
+            ([*run, '--node', 'a', '--give-up', '-1', '--', 'true'], 2),
+            ([*run, '--node', 'a', '--give-up', 'never', '--', 'true'], 2),
         ]  # fmt: skip
         for words, wanted in calls:
             with self.subTest(words=words):
@@ -379,7 +411,9 @@ class Commands(InFolder):
         self.config.write_bytes(toml({**TOP, 'partitions': 7}))
         self.assertEqual(call(*run, '--node', 'a', '--', 'true')[0], 3)
         self.config.write_bytes(b'nodes = 1')
-        self.assertEqual(call(*run, '--node', 'a', '--', 'true'), (3, '', 'bully-member: config: Missing partitions\n'))
+        self.assertEqual(
+            call(*run, '--node', 'a', '--', 'true'), (3, '', f'bully-member: {config}: Missing partitions\n')
+        )
 
     def test_odd_names(self) -> None:
         self.config.write_bytes(toml({**TOP, 'names': ['a\x1b[2J\nb', 'c\u202ed', '\u00e4 z']}))
@@ -392,5 +426,5 @@ class Commands(InFolder):
             'run', '--log', f'sqlite:{self.path}', '--config', str(self.config), '--node', 'b', '--', 'true'
         )
         self.assertEqual(
-            (status, told), (3, 'bully-member: config: a name has a zero character, which no environment holds\n')
+            (status, told), (3, f'bully-member: {self.config}: a name has a zero character, which no environment holds\n')
         )

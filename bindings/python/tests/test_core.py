@@ -218,6 +218,59 @@ class Stories(unittest.TestCase):
         self.assertEqual((core.life, core.promised, core.work, core.sure_until), (Unknown(SECOND), 6, None, 0))
         self.ask(310_080, Request.RELEASE, SECOND)
 
+    def test_one_request_at_a_time(self) -> None:
+        """Until it is answered nothing else is asked for, and work stops that may not go on: its presence is sure up to
+        800,010."""
+        core = self.core
+        self.begin()
+        core.woke()
+        self.ask(100, Request.LOOK)
+        self.assertEqual(
+            [core.next(now) for now in (110, 260_010, 800_010, 800_020)],
+            [Rest(799_900), Rest(540_000), Stop(), Rest(TTL_MIN)],
+        )
+        core.stopped()
+        self.assertEqual(core.next(800_030), Rest(TTL_MIN))
+        core.answered(800_040, StoreAnswer.UNANSWERED)
+        self.assertEqual(core.next(800_040), Rest(50_000))
+        self.ask(850_040, Request.RENEW, FIRST)
+
+    def test_who_owns(self) -> None:
+        """By a plan behind what its life has promised of this epoch."""
+        self.begin()
+        for promise, owned in (
+            (Promise(7, 4), Owned(5, (0,))), (Promise(7, 5), None), (Promise(6, 5), Owned(5, (0,))),
+        ):  # fmt: skip
+            self.assertEqual(self.core.owned_of(Presence(1, FIRST, promise)), owned)
+        for node in (0, 2):
+            with self.assertRaises(bully.BadNode):
+                self.core.owned_of(Presence(node, FIRST, Promise(7, 0)))
+
+    def test_rests(self) -> None:
+        """Who comes to a group at rest counts once it has stayed: for 10,000; and if another life came for its node not
+        long before, four times as long."""
+        with Replica('bully,1,2,1') as replica:
+            rows = replica.settle([1])
+        works, idle, epoch = Presence(1, Life(3, 1), Promise(1, 0)), Promise(1, len(rows)), replace(ONE, epoch=1)
+        with Core(replace(epoch, header='bully,1,2,1', rows_max=44), 5, TTL_MIN) as core:
+            self.assertFalse(core.rests(0), 'there is no plan')
+
+            def look(now: int, *presences: Presence, is_wished: bool = False) -> bool:
+                core.woke()
+                self.assertEqual(core.next(now), Ask(Request.LOOK))
+                core.learn(rows[core.place :])
+                core.looked(now, Seen(1, presences, False, is_wished))
+                return core.rests(now)
+
+            self.assertTrue(look(10, works))
+            self.assertFalse(look(20, works, is_wished=True))
+            self.assertFalse(look(30), 'a node is up, and nobody is present for it')
+            self.assertFalse(look(40, replace(works, promise=idle)), 'it is idle up to the end of the log')
+            self.assertTrue(look(50, works, Presence(2, Life(4, 1), idle)))
+            self.assertEqual([core.rests(now) for now in (10_049, 10_050)], [True, False])
+            self.assertTrue(look(20_000, works, Presence(2, Life(4, 2), idle)))
+            self.assertEqual([core.rests(now) for now in (59_999, 60_000)], [True, False])
+
     def test_its_work_ends_outside(self) -> None:
         self.begin()
         self.core.lost(4)

@@ -143,7 +143,7 @@ class Commands(OverEtcd):
         self.assertEqual(call('init', '--log', self.address, '--config', self.config), (0, '', ''))
         self.assertEqual(
             self.of_log('init', '--config', self.config),
-            (4, '', f'bully-member: {self.address}: there is a log already\n'),
+            (7, '', f'bully-member: {self.address}: there is a log already\n'),
         )
         put(self.opened(), 'recover,2')
         self.assertEqual(self.of_log('history'), (0, f'{HEADER}\nrecover,2\n', ''))
@@ -189,6 +189,7 @@ class Commands(OverEtcd):
         assert isinstance(store, stores.EtcdStore)
         self.assertEqual(store.password, ' a b ')
         (self.folder / 'password').write_text(' c d \r\nmore')
+        (self.folder / 'password').chmod(0o600)
         options.password_file = str(self.folder / 'password')
         store = stores.store_of(options)
         assert isinstance(store, stores.EtcdStore)
@@ -207,10 +208,10 @@ class Commands(OverEtcd):
             ['run', '--quiet', '--node', 'a', '--', 'true'],
         ):
             with self.subTest(words=words):
-                self.assertEqual(self.of_log(*words), (4, '', f'bully-member: {self.address}: {form}\n'))
+                self.assertEqual(self.of_log(*words), (6, '', f'bully-member: {self.address}: {form}\n'))
         self.assertEqual(
             self.of_log('init', '--config', self.config),
-            (4, '', f'bully-member: {self.address}: there is a log already\n'),
+            (7, '', f'bully-member: {self.address}: there is a log already\n'),
         )
         for epoch, rows in OLDER.items():
             self.assertEqual(
@@ -279,6 +280,7 @@ class Runs(OverEtcd):
         right, wrong, empty = (self.folder / name for name in ('right', 'wrong', 'empty'))
         for file, password in ((right, 'member password\n'), (wrong, 'x\n'), (empty, '\n')):
             file.write_text(password)
+            file.chmod(0o600)
         user = ['--user', 'member', '--ttl', '10']  # since to log in takes long
         self.make(user='member', password='member password')
         cases: list[tuple[list[str], dict[str, str]]] = [

@@ -14,21 +14,25 @@ from types import SimpleNamespace
 from typing import Any, cast
 from unittest import mock
 
-from bully import clocks, guard
-from bully.running import Member
-from bully.worker import GuardLost, WorkerEnded, WorkerStuck, Workers
+from bully import Setup, clocks, guard
+from bully.epochs import Token
+from bully.running import Assignment, Member
+from bully.settings import Settings
+from bully.worker import ChildrenUnlisted, GuardLost, WorkerEnded, WorkerStuck, Workers
 from .below import Below, assigned
 from .places import environment
 from .processes import children, freeze, is_running, name_of, thaw
+from .unlisted import unlisted_from
 from .waiting import PATIENCE, wait_until
 
-# A worker that is `stubborn`, or is `done` at once; with something that it started.
+# A worker that is `stubborn`, or is `done` at once; with something that it started, which is in its process group if it
+# is `whole`.
 WORKER = """
 import os, signal, subprocess, sys, time
 folder, way = sys.argv[1:]
 if way == 'stubborn':
     signal.signal(signal.SIGTERM, signal.SIG_IGN)
-child = subprocess.Popen(['sleep', '1000'], start_new_session=True)
+child = subprocess.Popen(['sleep', '1000'], start_new_session=way != 'whole')
 with open(f'{folder}/new', 'w') as file:
     file.write(f'{os.getpid()} {child.pid} {os.environ["BULLY_TOKEN"]} {os.environ["BULLY_PARTITIONS"]}')
 os.rename(f'{folder}/new', f'{folder}/begun')
@@ -139,6 +143,31 @@ class Guards(Below):
                 self.assertEqual((self.failures, self.lost), ([], []))
                 (self.folder / 'begun').unlink()
 
+    def test_settings(self) -> None:
+        """They are in a file, and in the environment, too, if that has room: a variable has 128 KiB with its name and
+        its end."""
+        line = 'env > $0/env; cat "$BULLY_SETTINGS_FILE" > $0/new; mv $0/new $0/settings; exec sleep 1000'
+        workers = self.made(['sh', '-c', line, str(self.folder)])
+        short = len(Settings(Setup(2, 1), ('', 'b')).text(4.0, 0.8))
+        most = (1 << 17) - len('BULLY_SETTINGS=') - 1 - short
+        wide = Settings(Setup(1024, 4096), tuple(f'{number:0130}' for number in range(1024)))
+        for settings, is_there in (
+            (Settings(Setup(2, 1), ('a' * most, 'b')), True),
+            (Settings(Setup(2, 1), ('a' * (most + 1), 'b')), False),
+            (wide, False),
+        ):
+            with self.subTest(nodes=settings.setup.nodes, is_there=is_there):
+                workers.start(Assignment(Token.of(4, 2), 2, tuple(range(settings.setup.partitions)), settings))
+                wait_until((self.folder / 'settings').exists)
+                text = settings.text(4.0, 0.8)
+                self.assertEqual((self.folder / 'settings').read_text(), text)
+                told = dict(line.split('=', 1) for line in (self.folder / 'env').read_text().splitlines())
+                self.assertEqual(told.get('BULLY_SETTINGS'), text if is_there else None)
+                self.assertEqual(len(told['BULLY_PARTITIONS'].split()), settings.setup.partitions)
+                workers.stop(assigned(0))
+                (self.folder / 'settings').unlink()
+        self.assertEqual((self.failures, self.lost), ([], []))
+
     def test_stop_at_once(self) -> None:
         """A worker that is stopped before it has begun hears it, too."""
         workers = self.made(['sleep', '1000'], 3600.0, 3600.0)
@@ -196,18 +225,29 @@ class Guards(Below):
             self.assertEqual((workers._hear(), workers._hear()), (b'stopped', b''))
 
     def test_ends_by_itself(self) -> None:
-        """Once it is done, or if it fails behind a ttl, its member ends."""
-        done = self.begin('done')
+        """Once it is done its member ends."""
+        workers = self.begin('done')
         wait_until(lambda: self.failures)
         self.assertTrue(self.are_gone())
-        late = self.made(['sh', '-c', 'sleep 0.2; exit 7'], ttl=0.1)
-        late.start(self.assignment)
-        wait_until(lambda: len(self.failures) == 2)
-        for workers, failure, status in zip((done, late), self.failures, (0, 7)):
-            self.assertIsInstance(failure, WorkerEnded)
-            self.assertEqual(getattr(failure, 'status'), status)
-            workers.stop(assigned(0))
+        (failure,) = self.failures
+        self.assertIsInstance(failure, WorkerEnded)
+        self.assertEqual(getattr(failure, 'status'), 0)
+        workers.stop(assigned(0))
         self.assertEqual(self.lost, [])
+
+    def test_fails_late(self) -> None:
+        """It is begun again, and its member doesn't end: at first after a fifth of the ttl, and later if it has failed
+        since, unless it has worked for five ttls."""
+        workers = self.made(['sh', '-c', '. $0', str(self.folder / 'span')], ttl=0.5)
+        with self.assertLogs('bully', 'WARNING') as said:
+            for count, (span, rest) in enumerate(((0.6, 0.1), (0.6, 0.2), (2.6, 0.1)), 1):
+                (self.folder / 'span').write_text(f'sleep {span}; exit 7')
+                workers.start(self.assignment)
+                wait_until(lambda: len(said.output) == count)
+                self.assertIn(f'failed, with status 7, and is begun again in {rest:.1f} s', said.output[-1])
+                wait_until(lambda: len(self.lost) == count)
+                workers.stop(assigned(0))
+        self.assertEqual(self.failures, [])
 
     def test_fails_at_once(self) -> None:
         """It is begun again, each time twice as late, and its member doesn't end. A change of what it owns is no reason
@@ -276,13 +316,17 @@ class Guards(Below):
         self.assertEqual([type(failure) for failure in self.failures], [GuardLost])
 
     def test_guard_is_told_to_end(self) -> None:
-        """A signal that all processes get is for the member."""
-        workers = self.begin('mild')
-        for number in (signal.SIGTERM, signal.SIGINT, signal.SIGHUP):
-            os.kill(workers._guard.pid, number)
-        workers.stop(assigned(0))
-        self.assertTrue(self.are_gone())
-        self.assertEqual((self.failures, self.lost, workers._guard.poll()), ([], [], None))
+        """A signal that all processes get is for the member, also as the guard begins."""
+        for number in guard.ENDS:
+            with self.subTest(signal=number.name):
+                workers = self.made([sys.executable, '-c', WORKER, str(self.folder), 'mild'])
+                os.kill(workers._guard.pid, number)
+                self.begin_again(workers)
+                os.kill(workers._guard.pid, number)
+                workers.stop(assigned(0))
+                self.assertTrue(self.are_gone())
+                self.assertEqual((self.failures, self.lost, workers._guard.poll()), ([], [], None))
+                (self.folder / 'begun').unlink()
 
     def test_stopped_guard(self) -> None:
         """One that doesn't kill the worker at its moment, or doesn't tell that it has stopped, is killed with all that
@@ -307,6 +351,51 @@ class Guards(Below):
         wait_until(lambda: self.failures)
         workers.stop(assigned(0))
         self.assertIsInstance(self.failures[0], GuardLost)
+
+    def begin_unlisted(self, way: str) -> Workers:
+        """A worker that has begun, and whose guard isn't told any more what is below it."""
+        since = self.folder / 'since'
+        with mock.patch.dict(os.environ, unlisted_from(self, self.folder, since)):
+            workers = self.made([sys.executable, '-c', WORKER, str(self.folder), way], 0.1, ttl=1.0)
+        self.begin_again(workers)
+        since.touch()
+        return workers
+
+    def test_unlisted(self) -> None:
+        """Whatever the kernel lists, a worker is killed with its process group, and has stopped then."""
+        workers = self.begin_unlisted('whole')
+        workers.stop(assigned(0))
+        self.assertTrue(self.are_gone())
+        (self.folder / 'begun').unlink()
+        self.begin_again(workers)
+        workers.hear_until(clocks.seconds_of_boot())
+        wait_until(lambda: self.lost)
+        self.assertTrue(self.are_gone())
+        workers.stop(assigned(0))
+        self.assertEqual((self.failures, self.lost), ([], [self.assignment]))
+
+    def test_unlisted_and_left(self) -> None:
+        """What the worker left is not said to be gone by a guard to which it isn't listed: its member kills both."""
+        for is_told in (True, False):
+            with self.subTest(is_told=is_told):
+                workers = self.begin_unlisted('stubborn')
+                with self.assertLogs('bully', 'ERROR') as said:
+                    if not is_told:
+                        workers.hear_until(clocks.seconds_of_boot())
+                        wait_until(lambda: not is_running(self.worker))
+                    workers.stop(assigned(0))
+                self.assertTrue(self.are_gone())
+                self.assertTrue(said.output[0].endswith('nothing is begun here: they are not listed'), said.output)
+                self.assertEqual([type(failure) for failure in self.failures], [GuardLost])
+                self.assertEqual(self.lost, [])
+                self.failures.clear()
+                for name in ('begun', 'since'):
+                    (self.folder / name).unlink()
+
+    def test_unlisted_at_the_start(self) -> None:
+        """Then nothing begins, and why is said."""
+        with mock.patch.object(Path, 'read_text', side_effect=FileNotFoundError(2, 'No such file')):
+            self.assertRaisesRegex(ChildrenUnlisted, 'needs CONFIG_PROC_CHILDREN', self.made, ['true'])
 
     def test_stopped_guard_at_an_end(self) -> None:
         """A member that ends doesn't wait for a guard that is stopped."""
@@ -395,7 +484,7 @@ class Guards(Below):
         wait_until(lambda: [name_of(each) for each in children(workers._guard.pid)] == ['sleep'])
         status = Path(f'/proc/{children(workers._guard.pid)[0]}/status').read_text().splitlines()
         masks = {line.split()[0]: int(line.split()[1], 16) for line in status if line.startswith(('SigIgn', 'SigBlk'))}
-        for number in (signal.SIGTERM, signal.SIGINT, signal.SIGHUP, signal.SIGPIPE, signal.SIGXFSZ):
+        for number in (*guard.ENDS, signal.SIGPIPE, signal.SIGXFSZ):
             self.assertEqual([mask >> number - 1 & 1 for mask in masks.values()], [0, 0], number)
         workers.stop(assigned(0))
 
@@ -426,8 +515,12 @@ class Guards(Below):
         workers = self.made(['sh', '-c', 'for each in 1 2 3; do (true &); done; exec sleep 1000'])
         workers.start(self.assignment)
         wait_until(lambda: len(children(workers._guard.pid)) == 4)
-        workers.hear_until(clocks.seconds_of_boot() + 1000.0)
-        wait_until(lambda: len(children(workers._guard.pid)) == 1)
+
+        def has_waited() -> bool:
+            workers.hear_until(clocks.seconds_of_boot() + 1000.0)  # as each renewal is; one of them may end later
+            return len(children(workers._guard.pid)) == 1
+
+        wait_until(has_waited)
         workers.stop(assigned(0))
         self.assertEqual((self.failures, self.lost), ([], []))
 

@@ -135,7 +135,7 @@ class Loading(unittest.TestCase):
         name = 'import bully; print(bully.status_name(0))'
         for library, program in (
             (folder, name),
-            (os.path.join(folder, 'libbully.so'), name),
+            (os.path.join(folder, 'lib'), name), (os.path.join(folder, 'lib', 'libbully.so'), name),
             (None, f'import bully; bully.load({folder!r}); print(bully.status_name(0))'),
             ('/nowhere', f'import bully, pathlib; bully.load(pathlib.Path({folder!r})); print(bully.status_name(0))'),
         ):
@@ -147,7 +147,7 @@ class Loading(unittest.TestCase):
             with self.subTest(library=library):
                 ran = self.run_with(library, 'import bully; bully.status_name(0)')
                 self.assertEqual(ran.returncode, 1)
-                self.assertIn('OSError', ran.stderr)
+                self.assertRegex(ran.stderr, 'NoLibrary: .*bin/library.*BULLY_LIBRARY')
 
     def test_a_package_alone(self) -> None:
         """One that was copied out of its tree takes the header that lies with the library, and says so if there is

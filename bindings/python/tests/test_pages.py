@@ -2,7 +2,6 @@
 from __future__ import annotations
 
 import contextlib
-import http.client
 import io
 import json
 import os
@@ -10,58 +9,22 @@ import resource
 import socket
 import struct
 import threading
-import time
-import unittest
 from unittest import mock
 
-from bully import page, view
+from bully import page
 from bully.clocks import seconds_of_boot
-from bully.epochs import Opening, Token
-from bully.logs import Found, Holder, Unanswered
+from bully.epochs import Token
+from bully.logs import DamagedLog, Found, Holder, Unanswered
 from bully.member import Life, Promise
 from bully.orders import Orders
-from bully.running import Member
-from bully.worker import Workers
-from .steps import HEADER, LONG
+from .paged import Paged
+from .steps import LONG
 from .threads import Troubled, put
 from .waiting import PATIENCE, wait_until
 
 
-class Pages(unittest.TestCase):
+class Pages(Paged):
     """What a member tells over HTTP."""
-
-    NAMES = ('a"\\b', '<script>alert(1)</script>', 'c')
-
-    def setUp(self) -> None:
-        self.make(2.0)
-
-    def make(self, ttl: float) -> None:
-        """A member, and its page."""
-        self.log = Troubled(Opening.first(HEADER, self.NAMES))
-        self.member = Member(self.log, 2, lambda assignment: None, lambda assignment: None, ttl)
-        shown = view.LogView(self.log, self.member.behind)
-        self.addCleanup(shown.close)
-        self.workers = Workers(['true'], self.NAMES[1], 0.0)
-        self.page = page.Page(('127.0.0.1', 0), shown, self.member, self.workers)
-        self.page.start()
-        self.addCleanup(self.page.close)
-
-    def get(self, target: str, method: str = 'GET', **headers: str) -> tuple[int, str, str]:
-        """The status, the kind and the text of an answer."""
-        connection = http.client.HTTPConnection('127.0.0.1', self.page.port, timeout=PATIENCE)
-        connection.request(method, target, headers=headers)
-        answer = connection.getresponse()
-        text = answer.read().decode()
-        connection.close()
-        return answer.status, answer.getheader('Content-Type') or '', text
-
-    def begin(self) -> None:
-        """The member takes part, until the test is over."""
-        thread = threading.Thread(target=self.member.run)
-        thread.start()
-        self.addCleanup(thread.join)
-        self.addCleanup(self.member.leave)
-        wait_until(self.member.assignment)
 
     def test_before(self) -> None:
         self.assertEqual(self.get('/healthz')[0], 503)
@@ -120,10 +83,17 @@ class Pages(unittest.TestCase):
             told = json.loads(self.get('/group?after=2')[2])
             answers.append((told['epoch'], told['events']))
 
+        looked: list[int] = []
+
+        def look(epoch: int, place: int) -> Found:
+            looked.append(place)
+            return Troubled.look(self.log, epoch, place)
+
         put(self.log, 'recover,1', 'crash,1')
+        setattr(self.log, 'look', look)
         thread = threading.Thread(target=poll)
         thread.start()
-        time.sleep(0.2)
+        wait_until(lambda: len(looked) > 1)  # so it waits
         life, here = Life(1, 1), Promise(1, 2)
         self.assertTrue(
             self.log.take('stranger', life, here, LONG) and self.log.finish(1, 2, self.log.opening().next(None, ()))
@@ -132,10 +102,6 @@ class Pages(unittest.TestCase):
         thread.join()
         self.assertEqual(answers, [(2, 0)])
         self.assertEqual(json.loads(self.get('/group?after=2&epoch=1')[2])['epoch'], 2)
-
-    def client(self) -> socket.socket:
-        """A connection that hasn't asked."""
-        return socket.create_connection(('127.0.0.1', self.page.port), PATIENCE)
 
     def test_a_silent_connection(self) -> None:
         """It is closed by itself, also one that has asked in part."""
@@ -196,7 +162,7 @@ class Pages(unittest.TestCase):
         ]
         for thread in threads:
             thread.start()
-        wait_until(lambda: self.page._polls._value == 0)
+        wait_until(lambda: vars(self.page._answers)['_polls']._value == 0)
         self.assertEqual(self.get('/group?after=0')[0], 503)
         begun, before = seconds_of_boot(), len(looked)
         wait_until(lambda: len(looked) > before + 5)
@@ -209,7 +175,7 @@ class Pages(unittest.TestCase):
 
     def test_a_silent_store(self) -> None:
         """Health, and what is measured of the member, are told all the same."""
-        self.make(1000.0)
+        self.make(100.0)
         self.begin()
         wait_until(lambda: f'bully_node_present{page.labels(self.NAMES[1])} 1' in self.get('/metrics')[2])
         self.log.is_silent = True
@@ -217,7 +183,60 @@ class Pages(unittest.TestCase):
         wait_until(lambda: self.get('/group')[0] == 503)
         self.assertEqual(self.get('/healthz')[::2], (200, 'present\n'))
         told = dict(line.rsplit(' ', 1) for line in self.get('/metrics')[2].splitlines() if not line.startswith('#'))
-        self.assertGreater(float(told[f'bully_sure_seconds{page.labels(self.NAMES[1])}']), 700.0)
+        self.assertGreater(float(told[f'bully_sure_seconds{page.labels(self.NAMES[1])}']), 60.0)
+
+    def test_the_last_known(self) -> None:
+        """A store that is silent before anybody asked: what was known last is measured all the same, and how old it is
+        and that the store is silent are, too."""
+        self.assertTrue(self.log.order(Orders(frozenset('c'), None), None))
+        self.make(1000.0, self.log)
+        self.log.is_silent = True
+        first = self.measured()
+        named = page.labels('c')
+        self.assertEqual([first['bully_store_up'], first[f'bully_drained{named}'], first['bully_epoch']], [0, 1, 1])
+        wait_until(lambda: self.measured()['bully_group_age_seconds'] > first['bully_group_age_seconds'])
+        self.log.is_silent = False
+        wait_until(lambda: self.measured()['bully_store_up'] == 1)
+        with mock.patch.object(page, 'seconds_of_boot', lambda: seconds_of_boot() + 5.0):
+            self.log.is_silent = True
+            self.assertGreaterEqual(self.measured()['bully_group_age_seconds'], 5.0)
+
+    def test_a_store_that_hangs(self) -> None:
+        """Who asks while a look hangs waits for a bounded time."""
+        hangs, goes_on = threading.Event(), threading.Event()
+
+        def look(epoch: int, place: int) -> Found:
+            hangs.set()
+            goes_on.wait()
+            return Troubled.look(self.log, epoch, place)
+
+        self.addCleanup(goes_on.set)
+        with mock.patch.object(page, 'LOOK_MAX', 0.1):
+            setattr(self.log, 'look', look)
+            first = threading.Thread(target=self.get, args=['/group'])
+            first.start()
+            hangs.wait()
+            told = self.measured()
+            self.assertEqual((told['bully_store_up'], told['bully_epoch']), (0, 1))
+            self.assertEqual(self.get('/group')[::2], (503, 'the store does not answer\n'))
+            goes_on.set()
+            first.join()
+        self.assertEqual(self.status('/group'), 200)
+
+    def test_what_strangers_hear(self) -> None:
+        """The servers of a store, or its files, are named to the member's own log alone, once."""
+        cases = (
+            (Unanswered('10.0.0.1:2379: timed out'), 'the store does not answer\n'),
+            (DamagedLog('/srv/group.db: no row'), 'the log can not be read\n'),
+        )
+        for failure, told in cases:
+            with self.subTest(failure), mock.patch.object(page, 'LOOK_SECONDS', 0.0):
+                with mock.patch.object(self.log, 'look', side_effect=failure), self.assertLogs('bully') as logged:
+                    for target in ('/', '/group', '/assignment', '/group?after=7'):
+                        self.assertEqual(self.get(target), (503, 'text/plain; charset=utf-8', told))
+                    self.assertNotIn(str(failure), self.get('/metrics')[2])
+                self.assertEqual([record.getMessage() for record in logged.records], [f'page: {failure}'])
+                self.assertEqual(self.status('/group'), 200)
 
     def test_a_worker_that_does_not_end(self) -> None:
         self.begin()
@@ -241,7 +260,8 @@ class Pages(unittest.TestCase):
             self.log, 'opening', side_effect=Unanswered('silent')
         ) as asked:
             for _ in range(2):
-                self.assertEqual((self.get('/group')[0], self.get('/group')[2]), (503, 'silent\n'))
+                told = 503, 'the store does not answer\n'
+                self.assertEqual((self.get('/group')[0], self.get('/group')[2]), told)
         self.assertEqual(asked.call_count, 4)
         self.assertEqual(json.loads(self.get('/group')[2])['epoch'], 2)
 
@@ -296,7 +316,7 @@ class Pages(unittest.TestCase):
         self.assertGreaterEqual(float(told[0].split()[1]), behind[name])
 
     def test_refused(self) -> None:
-        for method in ('POST', 'PUT', 'DELETE', 'HEAD', 'OPTIONS'):
+        for method in ('POST', 'PUT', 'DELETE', 'PATCH', 'TRACE', 'PROPFIND'):
             self.assertEqual(self.get('/', method)[0], 405)
         self.assertEqual(self.get('/nothing')[0], 404)
         self.assertEqual(self.get('/group', Host=f'elsewhere.example:{self.page.port}')[0], 403)

@@ -11,8 +11,8 @@ import sqlite3
 import subprocess
 import sys
 import time
+import urllib.error
 import urllib.request
-from collections.abc import Callable
 from pathlib import Path
 from typing import BinaryIO
 from unittest import mock
@@ -20,42 +20,20 @@ from unittest import mock
 from bully import clocks, command
 from bully.clocks import SECOND
 from bully.epochs import Token
-from bully.logs import Holder
 from bully.sqlite import SqliteLog
 from bully.view import LogView
 from .configurations import TOP, toml
-from .folders import InFolder
-from .member_processes import BEGINS, STARTS, TALKS, MemberProcess, started
+from .member_processes import BEGINS, STARTS, TALKS, MemberProcess, WithMember, started
 from .places import ROOT, environment
 from .processes import children, end, freeze, full_pipe, has_stopped, is_running, parent_of, thaw
+from .unlisted import unlisted_from
 from .waiting import PATIENCE, wait_until
 
 UNTIL = 'select max(until) from presence'
 
 
-class Processes(InFolder):
+class Processes(WithMember):
     """`bully-member run`."""
-
-    def begin(
-        self, worker: str, writer: Callable[[], None] | None = None, *more: str, said: BinaryIO | None = None
-    ) -> MemberProcess:  # fmt: skip
-        """A member for the only node of a group, with a worker in shell; once the writer, if any, has the file's
-        lock."""
-        config = self.folder / 'group.toml'
-        config.write_bytes(toml({**TOP, 'nodes': 1, 'names': ['the only'], 'weights': [3]}))
-        self.assertEqual(command.main(['init', '--config', str(config), '--log', f'sqlite:{self.path}']), 0)
-        if writer is not None:
-            writer()
-        words = ['--config', str(config), '--log', f'sqlite:{self.path}', '--node', 'the only', '--ttl', '2', *more]
-        member = MemberProcess(self.folder, words, ['sh', '-c', worker], said)
-        self.addCleanup(member.kill)
-        return member
-
-    def left(self) -> tuple[str, dict[str, Holder]]:
-        """The last row of the current log, and who is present."""
-        log = self.opened()
-        found = log.look(log.epochs()[-1], 0)
-        return found.rows[-1], dict(found.presences)
 
     def test_in_order(self) -> None:
         member = self.begin(BEGINS)
@@ -376,24 +354,40 @@ os.kill(os.getpid(), signal.SIGSTOP)
         self.assertEqual(member.end(), 0)
         self.assertEqual(log.epochs(), range(3, 5))
 
-    def test_a_container(self) -> None:
-        """What a container begins listens on all its addresses."""
-        lines = (ROOT / 'examples' / 'members' / 'Containerfile').read_text()
-        begun = re.search('^ENTRYPOINT (.*)$', lines, re.MULTILINE)
-        assert begun is not None
+    def test_a_store_that_is_silent_at_first(self) -> None:
+        """The process is alive before it has heard of its store, and isn't ready. It ends in order."""
         with socket.create_server(('127.0.0.1', 0)) as free:
             port = free.getsockname()[1]
-        program = self.folder / 'bully-member'
-        program.write_text(f'#!/bin/sh\nexec {sys.executable} -m bully.command "$@"\n')
-        program.chmod(0o755)
-        self.begin(BEGINS).kill()
-        words = [word.replace('8081', str(port)) for word in json.loads(begun[1])]
-        more = {
-            'PATH': f'{self.folder}:{os.environ["PATH"]}',
-            'BULLY_NODE_NAME': 'the only',
-            'BULLY_LOG': f'sqlite:{self.path}',
-        }
-        member = started(self.folder, [*words, 'sleep', '1000'], None, **more)
+
+        def status(target: str) -> int:
+            try:
+                with urllib.request.urlopen(f'http://127.0.0.1:{port}{target}', timeout=PATIENCE) as answer:
+                    return int(answer.status)
+            except urllib.error.HTTPError as refused:
+                return refused.code
+            except OSError:
+                return 0
+
+        with socket.create_server(('127.0.0.1', 0)) as silent:  # which answers nothing
+            server = f'127.0.0.1:{silent.getsockname()[1]}'
+            words = ['--log', f'etcd://{server}/group', '--node', 'b', '--listen', str(port)]
+            member = MemberProcess(self.folder, words, ['sh', '-c', BEGINS])
+            self.addCleanup(member.kill)
+            silent.accept()[0].close()
+            wait_until(lambda: status('/livez') == 200)
+            self.assertEqual(
+                [status(target) for target in ('/readyz', '/healthz', '/leader', '/partitions/0', '/', '/metrics')],
+                [503] * 5 + [200],
+            )
+            wait_until(lambda: server in member.said)
+            self.assertEqual((member.end(), status('/livez')), (0, 0))
+
+    def test_a_container(self) -> None:
+        """What a container begins listens on all its addresses."""
+        with socket.create_server(('127.0.0.1', 0)) as free:
+            port = free.getsockname()[1]
+        words, more = self.container(port)
+        member = started(self.folder, words, None, **more)
         self.addCleanup(member.kill)
 
         def is_well() -> bool:
@@ -475,6 +469,31 @@ os.kill(os.getpid(), signal.SIGSTOP)
         self.kill_both(member, guard)
         wait_until(lambda: not any(map(is_running, (first, worker, child))))
         self.assertEqual(container.wait(PATIENCE), 7)
+
+    def test_killed_while_its_guard_is_stopped(self) -> None:
+        """The guard goes on at its member's end, and ends the worker, also if nobody continues it."""
+        member = self.begin(STARTS)
+        worker = member.worker()
+        guard, child = parent_of(worker), int((self.folder / 'child').read_text())
+        for process in (child, worker):
+            self.addCleanup(end, process)
+        self.addCleanup(end, guard)
+        os.kill(guard, signal.SIGSTOP)
+        wait_until(lambda: has_stopped(guard))
+        member.process.kill()
+        self.assertEqual(member.wait(), -signal.SIGKILL)
+        wait_until(lambda: not any(map(is_running, (guard, worker, child))))
+
+    def test_children_that_the_kernel_does_not_list(self) -> None:
+        """Nothing could end all that a worker begins: so its member says so at once, and takes no part."""
+        unlisted = unlisted_from(self, self.folder, self.folder)
+        with mock.patch.dict(os.environ, unlisted):
+            member = self.begin(BEGINS)
+        self.assertEqual(member.wait(), 6)
+        self.assertIn('bully-member: the kernel does not list the children of a process, so what a worker', member.said)
+        self.assertIn('/children', member.said)
+        self.assertFalse((self.folder / 'begun').exists())
+        self.assertEqual(self.opened().look(1, 0).presences, {})
 
     def test_stopped(self) -> None:
         """The worker is killed while its member is stopped, and another one begins once that goes on."""

@@ -6,16 +6,28 @@ import threading
 from typing import cast
 from unittest import mock
 
-from bully import NotLearned, Setup, check, running, settings, view
-from bully.clocks import seconds_of_boot
+from bully import NotLearned, Replica, Setup, check, running, settings, view
+from bully.clocks import SECOND, seconds_of_boot
 from bully.epochs import Opening
 from bully.logs import Holder
-from bully.member import Life, Promise
+from bully.member import TTL_MIN, Life, Promise
 from bully.memory import MemoryLog
 from bully.running import Assignment, Member, OtherGroup
 from .steps import HEADER, LONG, OPENING
 from .threads import Noting, Slow, Threads, Troubled
 from .waiting import wait_until
+
+
+DAY = 86_400.0
+
+
+def settled_without(log: MemoryLog, *absent: str) -> None:
+    """The others are present, have settled the group, and may work."""
+    names = [name for name in OPENING.names if name not in absent]
+    for name in names:
+        assert log.take(name, Life(9, int(name)), Promise(1, 0), LONG)
+    with Replica(HEADER) as replica:
+        assert log.append(1, 0, replica.settle(map(int, names)))
 
 
 class Running(Threads):
@@ -143,9 +155,9 @@ class Running(Threads):
         self.assertTrue(
             member.sure_until > seconds_of_boot() and member.assignment() is None, 'it is present, and may not work'
         )
-        shown = view.LogView(log)
+        shown = view.LogView(log, ttl=1.0)
         self.addCleanup(shown.close)
-        self.assertEqual(list(shown.show().behind), ['1'])
+        wait_until(lambda: list(shown.show().behind) == ['1'])
         is_over.set()
         wait_until(lambda: shown.show().coordinator == '3')
         self.assertEqual(shown.show().behind, {})
@@ -243,16 +255,66 @@ class Running(Threads):
 
     def test_a_full_log_waits(self) -> None:
         """So is who works where the log has room for no other settlement: 11 rows for each of three nodes."""
-        full = MemoryLog(OPENING)
-        member, _, _ = self.begin(full, 1)
-        wait_until(member.assignment)
+        rows: list[str] = []
+        with Replica(HEADER) as replica:
+            while len(rows) < 66:
+                rows += replica.settle([1])
+                replica.learn(rows[replica.rows :])
         for room, behind in ((33, []), (32, ['1'])):
-            log = MemoryLog(Opening(1, HEADER, OPENING.names, len(full.rows) + room))
+            log = MemoryLog(Opening(1, HEADER, OPENING.names, len(rows) + room))
             self.assertTrue(log.take('1', Life(9, 1), Promise(1, 0), LONG))
-            log.rows.extend(full.rows)
+            log.rows.extend(rows)
             shown = view.LogView(log)
             self.addCleanup(shown.close)
             self.assertEqual(list(shown.show().behind), behind, room)
+
+    def test_who_comes_again_and_again(self) -> None:
+        """Its node is Down in the log, and it counts only once it has stayed, so that the others work on meanwhile. Who
+        looked before knows for how long each life has to stay; one look doesn't."""
+        log = MemoryLog(OPENING)
+        settled_without(log, '3')
+        kept = view.LogView(log, ttl=DAY)
+        self.addCleanup(kept.close)
+        for number in range(1, 8):
+            self.assertTrue(log.take('3', Life(8, number), Promise(1, len(log.rows)), LONG))
+            fresh = view.LogView(log, ttl=DAY)
+            self.addCleanup(fresh.close)
+            for shown in (kept.show(), fresh.show()):
+                self.assertEqual((shown.is_well, shown.is_at_rest, shown.behind), (True, True, {}))
+                self.assertEqual([node.is_present for node in shown.nodes], [True] * 3)
+            log.release('3', Life(8, number))
+
+    def test_who_has_come_to_stay(self) -> None:
+        """Once it counts the others stop their work for it, and are told to be behind, up to when they are idle."""
+        log = MemoryLog(OPENING)
+        settled_without(log, '3')
+        shown = view.LogView(log, ttl=TTL_MIN / SECOND)
+        self.addCleanup(shown.close)
+        end = Promise(1, len(log.rows))
+        self.assertTrue(shown.show().is_well and log.take('3', Life(8, 1), end, LONG))
+        wait_until(lambda: not shown.show().is_at_rest)
+        group = shown.show()
+        self.assertEqual((group.is_well, list(group.behind)), (False, ['1', '2']))
+        self.assertTrue(log.promise('1', Life(9, 1), end))
+        group = shown.show()
+        self.assertEqual(list(group.behind), ['2'])
+        self.assertEqual(set(group.owners), {None, '2'}, 'the idle one may not work by that plan any more')
+
+    def test_who_may_work(self) -> None:
+        """Whom the last plan gives a partition, while that one is present, and has promised nothing behind the plan."""
+        log = MemoryLog(OPENING)
+        settled_without(log, '3')
+        shown = view.LogView(log)
+        self.addCleanup(shown.close)
+        group = shown.show()
+        self.assertEqual((set(group.owners), group.is_well), ({'1', '2'}, True))
+        log.release('1', Life(9, 1))
+        group = shown.show()
+        self.assertEqual((set(group.owners), group.is_well), ({None, '2'}, False))
+        self.assertEqual(group.owners.count(None), len(group.nodes[0].partitions), 'its plan stands still')
+        self.assertTrue(log.take('1', Life(8, 1), Promise(1, len(log.rows)), LONG))
+        group = shown.show()
+        self.assertEqual((set(group.owners), group.is_well, list(group.behind)), ({None, '2'}, False, ['2']))
 
     def test_a_second_process(self) -> None:
         """Who waits until its node's presence is free doesn't know whether others rest, and names nobody as behind."""

@@ -412,6 +412,17 @@ impl MemberHandle {
         })
     }
 
+    pub(crate) fn owned_of(
+        &self,
+        presence: &bully_presence,
+    ) -> Result<Option<Owned>, bully_status> {
+        owned_of(|token, room, count| {
+            let (at, partitions, size) = (self.0.get(), room.as_mut_ptr(), room.len());
+            // SAFETY: the handle is open, and no other call of it is under way. The room is as long as is said.
+            unsafe { raw::bully_member_owned_of(at, presence, token, partitions, size, count) }
+        })
+    }
+
     texts! {
         settlement(): bully_member_settlement;
     }
@@ -421,6 +432,7 @@ impl MemberHandle {
     }
 
     structs! {
+        rests(now: u64): bully_member_rests, u32;
         show(now: u64): bully_member_show, bully_member_state;
         node(node: u16): bully_member_node, bully_state;
         group(): bully_member_group, bully_group;

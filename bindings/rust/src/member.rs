@@ -230,7 +230,8 @@ impl Member {
         Ok(Member { handle })
     }
 
-    /// What it does now: the first of its rules that applies. It notes that, so what it says is to be done.
+    /// What it does now: the first of its rules that applies. It notes that, so what it says is to be done. As long as a request is awaited
+    /// it asks for nothing else: it stops its work, or rests. So of one whose answer is lost [`Member::answered`] is to be told.
     pub fn next(&mut self, now: u64) -> Step {
         let step = self.handle.next(now);
         Step::of(&step.unwrap_or_else(|status| unexpected(status)))
@@ -313,6 +314,19 @@ impl Member {
     /// What its node owns, by a plan behind all that its life has promised, if anything.
     pub fn owned(&self) -> Result<Option<Owned>, OutOfMemory> {
         self.handle.owned().map_err(OutOfMemory::told)
+    }
+
+    /// What who is present so owns, by a plan behind what that life has promised of this epoch, if anything: its process may work on that.
+    pub fn owned_of(&self, presence: &Presence) -> Result<Option<Owned>, SeenError> {
+        let owned = self.handle.owned_of(&presence.raw());
+        owned.map_err(SeenError::told)
+    }
+
+    /// Whether the group rests for it, by its last look, so that nothing is to be done but to work: among those who are up in the log, or
+    /// have stayed long enough by now. A member that takes no presence may observe a group so.
+    pub fn rests(&self, now: u64) -> bool {
+        let rests = self.handle.rests(now);
+        rests.unwrap_or_else(|status| unexpected(status)) != 0
     }
 
     /// How it stands now.

@@ -168,6 +168,37 @@ fn a_member_works_and_stops() {
 }
 
 #[test]
+fn one_request_is_under_way_at_a_time() {
+    let mut member = worker();
+    member.woke();
+    assert_eq!(member.next(100), Step::Ask(Request::Look));
+    assert_eq!(member.next(260_010), Step::Rest(540_000));
+    assert_eq!(member.next(800_010), Step::Stop);
+    assert_eq!(member.next(800_020), Step::Rest(TTL_MIN));
+    member.stopped();
+    member.answered(800_030, StoreAnswer::Unanswered);
+    assert_eq!(member.next(850_030), Step::Ask(Request::Renew(LIFE)));
+}
+
+#[test]
+fn a_member_observes_its_group() {
+    let member = worker();
+    let owned = |presence: Presence| {
+        let owned = member.owned_of(&presence).expect("a node of the group");
+        owned.map(|owned| (owned.token, owned.partitions))
+    };
+    assert_eq!(owned(own(4)), Some((5, vec![0])));
+    assert_eq!(owned(own(5)), None);
+    let promise = Promise { epoch: 6, place: 5 };
+    assert!(owned(Presence { promise, ..own(0) }).is_some());
+    let third = Presence { node: 3, ..own(0) };
+    let no_node = SeenError::Node(NodeFault::BadNode);
+    assert_eq!(member.owned_of(&third).err(), Some(no_node));
+    assert!(member.rests(100));
+    assert!(!Member::open(&opening(), 5, TTL_MIN).unwrap().rests(100));
+}
+
+#[test]
 fn a_member_leaves() {
     let mut member = worker();
     member.lost(4);

@@ -1,0 +1,102 @@
+"""The configuration of a group of members, from its file. What it has is docs/FORMATS.md's, but that members need neither
+`events` nor `turns`; and a fault is told with its file, and with its line where one has it."""
+from __future__ import annotations
+
+import codecs
+import re
+from collections.abc import Sequence
+
+from .logs import LogError
+from .settings import ConfigFault, Settings, read_settings
+
+SUPPLIED = {'events': 1_000_000, 'turns': 1_000_000}  # the most that there may be: a group of members uses neither
+TOP_KEYS = frozenset('nodes partitions events turns period names weights keep fault'.split())
+FAULT_KEYS = frozenset('at node kind'.split())
+KEY = re.compile(rb'\s*(?:"([^"\\]*)"|\'([^\']*)\'|([\w-]+))\s*=')  # with which a line begins
+TABLE = re.compile(rb'\s*\[\[?\s*[^\]]+\]')
+LINES_MAX = 1000  # of a document that is looked through for the one that is no TOML
+
+
+def settings_in(path: str) -> Settings:
+    """The settings in this file. Raises LogError, if it can't be read; ConfigFault."""
+    try:
+        with open(path, 'rb') as file:
+            text = file.read()
+    except OSError as error:
+        raise LogError(f'{path}: {error.strerror}') from error
+    try:
+        settings = read_supplied(text)
+    except ConfigFault as fault:
+        raise ConfigFault(f'{path}{place_of(text, str(fault))}') from fault
+    if any('\0' in name for name in settings.names):
+        raise ConfigFault(f'{path}: a name has a zero character, which no environment holds')
+    return settings
+
+
+def read_supplied(text: bytes) -> Settings:
+    """The settings of this document, also if it lacks what members don't use. Raises ConfigFault."""
+    left, mark = dict(SUPPLIED), text[: len(codecs.BOM_UTF8) if text.startswith(codecs.BOM_UTF8) else 0]
+    while True:
+        try:
+            return read_settings(text)
+        except ConfigFault as fault:
+            kind, _, key = str(fault).partition(' ')
+            if kind != 'Missing' or key not in left:
+                raise
+            text = mark + f'{key} = {left.pop(key)}\n'.encode() + text[len(mark) :]
+
+
+def fault_of(lines: Sequence[bytes]) -> str:
+    """The first fault of these lines, if they have one."""
+    try:
+        read_supplied(b'\n'.join(lines))
+    except ConfigFault as fault:
+        return str(fault)
+    return ''
+
+
+# ---- In which line a fault is
+
+
+def place_of(text: bytes, fault: str) -> str:
+    """A fault for people, behind the line that has it, if that can be told. A key that is missing has none."""
+    lines = text.split(b'\n')
+    kind, _, key = fault.partition(' ')
+    if kind == 'Missing':
+        return f': {fault}'
+    if kind == 'Toml':
+        line = line_of_form(lines)
+        return f':{line}: {fault}' if line else f': {fault}'
+    found = candidates(lines, 'names' if kind == 'DoubleName' else key)
+    numbers = [number for number, end, _ in found if fault_of(lines[:end]) == fault]
+    # (two in one table: one of them is no key, but stands in a text of many lines)
+    if not numbers or len(numbers) > 1 and table_end(lines, numbers[0]) == table_end(lines, numbers[1]):
+        return f': {fault}'
+    named = next(name for number, _, name in found if number == numbers[0])
+    return f':{numbers[0]}: {fault}' if key or kind == 'DoubleName' else f':{numbers[0]}: {fault} {named}'
+
+
+def candidates(lines: Sequence[bytes], key: str) -> list[tuple[int, int, str]]:
+    """The lines that begin with this key, or with one that is unknown there: each by its number from 1, with the number
+    of lines up to the end of its table, and with its key."""
+    found, known = [], TOP_KEYS
+    for number, line in enumerate(lines, 1):
+        if TABLE.match(line):
+            known = FAULT_KEYS
+        match = KEY.match(line)
+        name = next((each for each in match.groups() if each is not None), b'').decode('utf-8', 'replace') if match else ''
+        if match and (name == key if key else name not in known):
+            found.append((number, table_end(lines, number), name))
+    return found
+
+
+def table_end(lines: Sequence[bytes], number: int) -> int:
+    """How many lines there are up to the end of the table that has the line of this number."""
+    return next((at for at in range(number, len(lines)) if TABLE.match(lines[at])), len(lines))
+
+
+def line_of_form(lines: Sequence[bytes]) -> int | None:
+    """The first line of what is no TOML: all before it is."""
+    if len(lines) > LINES_MAX:
+        return None
+    return max(count for count in range(len(lines)) if fault_of(lines[:count]) != 'Toml') + 1
