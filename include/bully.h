@@ -442,7 +442,9 @@ typedef struct bully_step {
     uint32_t ending;  /* end: BULLY_ENDING_.. */
 } bully_step;
 
-/* What the member does now: the first of its rules that applies. It notes that, so what it says is to be done.
+/* What the member does now: the first of its rules that applies. It notes that, so what it says is to be done. As long as a request
+ * is awaited it asks for nothing else: the step is BULLY_STEP_STOP, or BULLY_STEP_REST. So of one whose answer is lost, or can't be
+ * told, `bully_member_answered` is to be told that it wasn't answered.
  * BULLY_NULL, BULLY_CLOSED. */
 bully_status bully_member_next(bully_member *member, uint64_t now, bully_step *step);
 
@@ -460,7 +462,7 @@ bully_status bully_member_answered(bully_member *member, uint64_t now, uint32_t 
 
 /* The rows that a look found behind all that was learned, before `bully_member_looked` is told of it: they are learned as
  * `bully_replica_learn` does. Unless the status is BULLY_OK, BULLY_ROW_END or BULLY_OUT_OF_MEMORY, the member ends as
- * BULLY_ENDING_BROKEN; so it does if one of the rows tells no event. The statuses are those of `bully_replica_learn`. */
+ * BULLY_ENDING_BROKEN; so it does if one of the rows tells no event. The look stays awaited. The statuses are those of `bully_replica_learn`. */
 bully_status bully_member_learn(bully_member *member, const char *rows, size_t length, size_t *taken);
 
 /* Who is present for a node: the life, and what it has promised, a place of an epoch. */
@@ -508,6 +510,18 @@ bully_status bully_member_settlement(bully_member *member, char *rows, size_t ro
 /* What the member's node owns by a plan behind all that its life has promised, as `bully_replica_owned` tells it.
  * BULLY_NULL, BULLY_CLOSED, BULLY_OUT_OF_MEMORY; BULLY_SHORT, with the token and the count. */
 bully_status bully_member_owned(bully_member *member, uint32_t *token, uint16_t *partitions, size_t room, size_t *count);
+
+/* What who is present so owns, by a plan behind what that life has promised of the member's epoch, as `bully_replica_owned` tells
+ * it: on these partitions its process may work.
+ * BULLY_NULL, BULLY_CLOSED, BULLY_BAD_NODE, BULLY_OUT_OF_MEMORY; BULLY_SHORT, with the token and the count. */
+bully_status bully_member_owned_of(bully_member *member, const bully_presence *presence, uint32_t *token, uint16_t *partitions,
+                                   size_t room, size_t *count);
+/* Whether the group rests for the member, by its last look, so that nothing is to be done but to work: it is at rest, as
+ * `bully_replica_is_at_rest` tells it, among those who are up in the log or have stayed long enough by now, behind each place that
+ * one of them has promised; by a plan behind all that the member's own life has promised; nothing else is wished for; and the log
+ * has room for one more settlement. `rests` gets 1, or else 0. A member that takes no presence may observe a group so.
+ * BULLY_NULL, BULLY_CLOSED. */
+bully_status bully_member_rests(bully_member *member, uint64_t now, uint32_t *rests);
 
 /* Whether the process has the presence of its node. */
 enum {

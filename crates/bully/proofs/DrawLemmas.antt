@@ -36,7 +36,8 @@ use Rattle.bully.proofs.KnownBytesLemmas.{keeps-same}
 pub text-picture : {S E : Type 0} (bytes : S → List ℕ) (made : Result S E) (finished : FinishedFilm) (below : List ℕ)
     → IfOk made (λ p. Begins (bytes p) (verdict_head finished.verdict))
     → ((window : WindowState) (trace : Trace) (is : IsFilmOf window finished trace)
-    → IfOk made (λ p. bytes p ≡ columns_text finished.verdict finished.setup.nodes (told_from trace.setup is.before is.shown) ++ below)) → IfOk made (λ p. Ends (bytes p) below)
+    → IfOk made (λ p. bytes p ≡ columns_text finished.verdict finished.setup.nodes (row_before finished.scenes.items) (length finished.scenes.items)
+    (told_from trace.setup is.before is.shown) ++ below)) → IfOk made (λ p. Ends (bytes p) below)
     → IfOk made (λ p. IsTextOf finished below (bytes p))
 text-picture bytes (Ok p) finished below verdict whole ends = record { verdict = verdict; whole = whole; below = ends }
 text-picture bytes (Err e) finished below verdict whole ends = tt

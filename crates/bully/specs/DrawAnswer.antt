@@ -42,12 +42,13 @@ abbrev pub IsBelow : Option Row → List ℕ → Type 0
 IsBelow None below = below ≡ []
 IsBelow (Some row) below = Begins below (line_of (row_fields row))
 
--- a picture as text: it begins with the verdict's line, and ends with this text; and it is all of the lines of the rows that change
--- something, with how each node stands behind it, and nothing else
+-- a picture as text: it begins with the verdict's line, and ends with this text; and it is which rows are shown, all of the lines of those
+-- that change something, with how each node stands behind it, and nothing else
 pub record IsTextOf (finished : FinishedFilm) (text picture : List ℕ) : Type 0 where
   pub verdict : Begins picture (verdict_head finished.verdict)
   pub whole : (window : WindowState) (trace : Trace) (is : IsFilmOf window finished trace)
-      → picture ≡ columns_text finished.verdict finished.setup.nodes (told_from trace.setup is.before is.shown) ++ text
+      → picture ≡ columns_text finished.verdict finished.setup.nodes (row_before finished.scenes.items) (length finished.scenes.items)
+      (told_from trace.setup is.before is.shown) ++ text
   pub below : Ends picture text
 
 -- a picture as SVG: a document with its head, and the title if no page stands around it, the numbers of all rows that are shown, and what

@@ -1,6 +1,6 @@
 //! Which nodes an event takes to another point.
 
-ghost use Rattle.std.specs.Prelude.{◌≡◌, ◌≤◌};
+ghost use Rattle.std.specs.Prelude.{◌≡◌, ◌≤◌, Some, false};
 ghost use Rattle.bully_calls.specs.Events.{node_of};
 ghost use Rattle.bully_account.specs.Moving.{cuts_by, cuts_off, holds_no_orphan, moves_in, own_move};
 ghost use Rattle.bully_account.specs.Remembered.{moved_by};
@@ -37,7 +37,10 @@ pub fn moves_by(world: &World, event: &Event) -> Moves
 }
 
 /// Where no node gets to another point.
-pub fn no_moves() -> Moves {
+pub fn no_moves() -> Moves
+    ensures own { result.own ≡ Some false }
+    ensures callee { result.callee ≡ false }
+{
     Moves {
         own: Some(false),
         callee: false,

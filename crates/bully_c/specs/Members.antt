@@ -4,7 +4,7 @@ use Rattle.bully_base.specs.Setup.{IsNode, Setup}
 use Rattle.bully_base.specs.declared.TheConstants.{NODES_MAX}
 use Rattle.bully_member.specs.Due.{due, noted}
 use Rattle.bully_member.specs.Learned.{RefusesTerms, after_learning, followed}
-use Rattle.bully_member.specs.Member.{AllAreDown, MemberState, Rests, new_member, place_of, replica_of}
+use Rattle.bully_member.specs.Member.{AllAreDown, MemberState, Rests, new_member, owned_of, place_of, replica_of}
 use Rattle.bully_member.specs.Opening.{RefusesMember, member_fault, terms_fault}
 use Rattle.bully_member.specs.Settlement.{settlement}
 use Rattle.bully_member.specs.Told.{answered, end_for, looked}
@@ -24,8 +24,8 @@ use Rattle.bully_c.specs.MemberShown.{step_shown}
 use Rattle.bully_c.specs.Numbers.{learn_fault_number}
 use Rattle.bully_c.specs.OldTables.{AreOld, RefusesOld, old_given}
 use Rattle.bully_c.specs.Presences.{ArePresences, RefusesPresences, presence_given}
-use Rattle.bully_c.specs.Replicas.{IsHeaderAlone, RefusesHeader, has_end, has_mark, mark_number}
-use Rattle.bully_c.specs.Settlements.{events_text}
+use Rattle.bully_c.specs.Replicas.{IsHeaderAlone, RefusesHeader, ShowsNode, has_end, has_mark, mark_number}
+use Rattle.bully_c.specs.Settlements.{IsOwnedMade, events_text}
 use Rattle.bully_c.specs.declared.member_shown.CStep.{CStep}
 use Rattle.bully_c.specs.declared.openings.MemberSession.{MemberSession}
 use Rattle.bully_c.specs.declared.openings.Opening.{Opening}
@@ -157,6 +157,20 @@ abbrev pub IsFollow : (now : ℕ) → List ℕ → TermsTold → List ℕ → Me
 IsFollow now text told old session status after =
     ((opening : Opening) × IsOpeningOf text told old opening × IsFollowOf now opening session status after)
     ⊎ (RefusesOpeningOf text told old status × (after ≡ session))
+
+-- ---- what it finds of its group
+
+-- whether the group rests for it
+pub record IsMemberRest (m : MemberState) (now told : ℕ) : Type 0 where
+  pub rests : Bool
+  pub decides : IsTrue rests ↔ Rests m now
+  pub told_is : told ≡ (if rests then 1 else 0)
+
+-- what who is present so owns, if its node is one of the group's
+abbrev pub IsOwnedOfShown : MemberState → CPresence → ℕ → List ℕ → ℕ → ℕ → ℕ → List ℕ → ℕ → Type 0
+IsOwnedOfShown m p token_before before count_before status token after count =
+    ShowsNode (replica_of m).world.setup p.node status (IsOwnedMade (owned_of m (presence_given p)) token_before before count_before status token after count)
+    ((token ≡ token_before) × (after ≡ before) × (count ≡ count_before))
 
 -- ---- what it appends
 

@@ -3,7 +3,7 @@ ghost use Rattle.std.specs.Prelude.{◌≡◌, ◌==◌, None, IfErr, IfOk, not,
 ghost use Rattle.bully_c.specs.Arguments.{IsCopied};
 ghost use Rattle.bully_c.specs.Exports.{IsClosing};
 ghost use Rattle.bully_c.specs.MemberShown.{member_shown};
-ghost use Rattle.bully_c.specs.Members.{AtMember, Becomes, IsAnswer, IsFollow, IsLook, IsMemberLearning, IsMemberOpening, IsMemberSettlement, IsNextStep, RefusesMemberSettlement, ShowsMember};
+ghost use Rattle.bully_c.specs.Members.{AtMember, Becomes, IsAnswer, IsFollow, IsLook, IsMemberLearning, IsMemberOpening, IsMemberSettlement, IsNextStep, IsOwnedOfShown, IsMemberRest, RefusesMemberSettlement, ShowsMember};
 ghost use Rattle.bully_c.specs.Replicas.{IsStateShown, IsWritten, group_shown, table_shown};
 ghost use Rattle.bully_c.specs.Settlements.{IsOwnedMade};
 ghost use Rattle.bully_c.specs.declared.status.TheConstants.{OK as OkNumber};
@@ -18,11 +18,12 @@ use crate::member_handle::MemberHandle;
 use crate::member_shown::{CMember, CStep, member_state};
 use crate::member_told::{learn, tell_answer, tell_follow, tell_look, tell_next};
 use crate::openings::{TermsTold, opened_member};
-use crate::presences::CPresence;
+use crate::presences::{CPresence, presence_at};
 use crate::replicas::{CGroup, group_of, show_node};
 use crate::settlements::{copy_owned, events_rows, status_of_settling};
 use crate::shown::{CState, copy_owners, copy_text};
 use crate::status::{CLOSED, OK, OPEN, OUT_OF_MEMORY};
+use crate::tables::node_of;
 use bully_member::Member;
 use std::alloc::Global;
 
@@ -337,6 +338,73 @@ fn write_own(
         Ok(owned) => copy_owned(&owned, token, partitions, count),
         Err(_) => OUT_OF_MEMORY,
     }
+}
+
+/// What who is present so owns: [`Member::owned_of`].
+#[unsafe(no_mangle)]
+pub extern "C" fn bully_c_member_owned_of(
+    alloc: Global,
+    member: &mut MemberHandle,
+    presence: &CPresence,
+    token: &mut u32,
+    partitions: &mut [u16],
+    count: &mut usize,
+) -> u32
+    ensures open { AtMember (ShowsMember (λ session status. IsOwnedOfShown session.member presence.now token.old partitions.old count.old status token.new partitions.new count.new)) member.old.value result member.new.value }
+    ensures closed { member.old.value ≡ None → (token.new ≡ token.old) × (partitions.new ≡ partitions.old) × (count.new ≡ count.old) }
+{
+    let Some(session) = member.take(alloc) else {
+        return CLOSED;
+    };
+    let status = write_owned_of(alloc, &session.member, presence, token, partitions, count);
+    member.put(alloc, session);
+    status
+}
+
+// Writes what who is present so owns.
+fn write_owned_of(
+    alloc: Global,
+    member: &Member,
+    presence: &CPresence,
+    token: &mut u32,
+    partitions: &mut [u16],
+    count: &mut usize,
+) -> u32
+    ensures { IsOwnedOfShown member.now presence.now token.old partitions.old count.old result token.new partitions.new count.new }
+{
+    match node_of(member.replica().world().setup(), presence.node) {
+        Ok(node) => match member.owned_of(alloc, presence_at(node, presence)) {
+            Ok(owned) => copy_owned(&owned, token, partitions, count),
+            Err(_) => OUT_OF_MEMORY,
+        },
+        Err(status) => status,
+    }
+}
+
+/// Whether the group rests for it: [`Member::rests`].
+#[unsafe(no_mangle)]
+pub extern "C" fn bully_c_member_rests(
+    alloc: Global,
+    member: &mut MemberHandle,
+    now: u64,
+    rests: &mut u32,
+) -> u32
+    ensures open { AtMember (ShowsMember (λ session status. (status ≡ OkNumber) × IsMemberRest session.member now rests.new)) member.old.value result member.new.value }
+    ensures closed { member.old.value ≡ None → rests.new ≡ rests.old }
+{
+    let Some(session) = member.take(alloc) else {
+        return CLOSED;
+    };
+    *rests = rest_told(&session.member, now);
+    member.put(alloc, session);
+    OK
+}
+
+// Whether the group rests for the member, as C is told it.
+fn rest_told(member: &Member, now: u64) -> u32
+    ensures { IsMemberRest member.now now result }
+{
+    u32::from(member.rests(now))
 }
 
 /// How it stands now.

@@ -66,7 +66,15 @@ fn presence_of(told: &CPresence) -> Option<Presence>
     ensures { IfSome result (λ presence. presence ≡ presence_given told.now) }
 {
     let node = Node::new(told.node)?;
-    Some(Presence {
+    Some(presence_at(node, told))
+}
+
+/// The presence, of which this is the node.
+pub fn presence_at(node: Node, told: &CPresence) -> Presence
+    requires { node ≡ told.now.node }
+    ensures { result ≡ presence_given told.now }
+{
+    Presence {
         node,
         life: LifeId {
             process: told.process,
@@ -76,5 +84,5 @@ fn presence_of(told: &CPresence) -> Option<Presence>
             epoch: told.epoch,
             place: told.place,
         },
-    })
+    }
 }

@@ -6,11 +6,52 @@ pub const VERSION: &str = "0.5.0\n\
     Each promise of its README was proved for this version.\n\
     Proved with rattle-kit-13f logic dac8208d650f15bf";
 
+// What help says of a command that reads a trace: these words, the faults that it has for that, and further faults and the rest.
+macro_rules! reads_trace {
+    ($words:literal, $rest:literal) => {
+        concat!(
+            $words,
+            "\n\nFaults, each one line on standard error. 'bully explain' says more of the first\n\
+            three: the text of the row, and what may stand there.\n  \
+            bully: trace row 1: BadHeader  the first row is no header, or there is none\n  \
+            bully: trace row N: BadRow     row N is none of the rows that a trace may have\n  \
+            bully: trace row N: TooManyRows  more than 1,000,000 rows follow the header\n  \
+            bully: FILE: REASON            FILE can't be opened; the reason is the system's\n  \
+            bully: Read                    the input can't be read\n  \
+            bully: Write                   not all of the output could be written\n  \
+            bully: OutOfMemory             an allocation failed\n",
+            $rest
+        )
+    };
+}
+
+// The same of one that reads a configuration alone.
+macro_rules! reads_config {
+    ($words:literal, $rest:literal) => {
+        concat!(
+            $words,
+            "\n\nFaults, each one line on standard error. Of those of the configuration\n\
+            'bully explain --config=CONFIG' says more: the value, and what may stand there.\n  \
+            bully: config: Toml            it is no UTF-8 text, or no TOML document\n  \
+            bully: config: Missing KEY     a required key isn't there\n  \
+            bully: config: Kind KEY        its value, or a member of it, is of another kind\n  \
+            bully: config: Range KEY       its value is out of its range\n  \
+            bully: config: DoubleName      two names are equal\n  \
+            bully: config: UnknownKey      a key stands where none of this name may\n  \
+            bully: Read                    the configuration can't be read\n  \
+            bully: Write                   not all of the output could be written\n  \
+            bully: OutOfMemory             an allocation failed\n",
+            $rest
+        )
+    };
+}
+
 /// What help tells of the program.
 pub const PROGRAM: &str = "\
     A command reads a trace in FILE or on standard input, or the configuration at a\n\
     path. It writes the result on standard output, and a fault as one line on\n\
-    standard error.\n\
+    standard error. Help of a command says what each line means; 'bully explain'\n\
+    says more of a fault of form, and of a trace that is refused or differs.\n\
     \n\
     Statuses: 0 done, 1 the trace is refused or differs, 2 bad words, 3 a fault of\n\
     form in a trace or a configuration, or a trace too long to annotate, 4 something\n\
@@ -19,115 +60,148 @@ pub const PROGRAM: &str = "\
     Example: bully play examples/two_nodes.toml | bully check";
 
 /// What help tells of `check`.
-pub const CHECK: &str = "\
-    Reads a trace in FILE or on standard input. Once all rows are read, writes its\n\
-    verdict on standard output: 'lawful', the number of events and a line for each\n\
-    node; or 'refused', the row and the cause; or 'differs' and the row. With --json\n\
-    it writes the same as one object.\n\
-    \n\
-    Statuses: 0 lawful, 1 refused or differs, 3 a fault of the trace's form, 4 FILE\n\
-    can't be opened, Read, Write or OutOfMemory.\n\
-    \n\
-    Example: bully check examples/alone.csv";
+pub const CHECK: &str = reads_trace!(
+    "\
+        Reads a trace in FILE or on standard input. Once all rows are read, writes its\n\
+        verdict on standard output: 'lawful', the number of events and a line for each\n\
+        node; or 'refused', the row and the cause; or 'differs' and the row. With --json\n\
+        it writes the same as one object.\n\
+        \n\
+        Statuses: 0 lawful, 1 refused or differs, 3 a fault of the trace's form, 4 FILE\n\
+        can't be opened, Read, Write or OutOfMemory.",
+    "\
+        \n\
+        Example: bully check examples/alone.csv"
+);
 
 /// What help tells of `explain`.
-pub const EXPLAIN: &str = "\
-    Reads a trace in FILE or on standard input as 'check' does, and writes on\n\
-    standard output what the rule saw at the row that decided: which rule it broke,\n\
-    where the node stood, what was in its slot, what it could have done, and its last\n\
-    rows. For a fault of form it says on standard error what may stand there. With\n\
-    --json it writes an object. With --config it reads a configuration, and does the\n\
-    same for its first fault: then it takes neither FILE nor --json.\n\
-    \n\
-    Statuses: 0 lawful, or no fault in the configuration, 1 refused or differs, 3 a\n\
-    fault of form, 4 FILE can't be opened, Read, Write or OutOfMemory.\n\
-    \n\
-    Example: bully explain examples/orphan_ready.csv";
+pub const EXPLAIN: &str = reads_trace!(
+    "\
+        Reads a trace in FILE or on standard input as 'check' does, and writes on\n\
+        standard output what the rule saw at the row that decided: which rule it broke,\n\
+        where the node stood, what was in its slot, what it could have done, and its last\n\
+        rows. For a fault of form it says on standard error what may stand there. With\n\
+        --json it writes an object. With --config it reads a configuration, and does the\n\
+        same for its first fault: then it takes neither FILE nor --json.\n\
+        \n\
+        Statuses: 0 lawful, or no fault in the configuration, 1 refused or differs, 3 a\n\
+        fault of form, 4 FILE can't be opened, Read, Write or OutOfMemory.",
+    "  bully: config: ..              with --config: 'bully help play' lists these\n\
+        \n\
+        Example: bully explain examples/orphan_ready.csv"
+);
 
 /// What help tells of `follow`.
-pub const FOLLOW: &str = "\
-    Reads a trace on standard input, or in FILE while it grows, and judges each row\n\
-    as it comes. Writes a line on standard output for each change of a node's status,\n\
-    coordinator or task: the time, the row, the node and what it shows now. With\n\
-    --json each line is an object. The first row that is refused or differs ends it,\n\
-    with what 'explain' says of it; the end of standard input, with what 'check' says.\n\
-    A FILE that is no pipe has no end: stop it by Ctrl-C.\n\
-    \n\
-    Statuses: 0 lawful, 1 refused or differs, 3 a fault of the trace's form, 4 FILE\n\
-    can't be opened, Read, Write or OutOfMemory.\n\
-    \n\
-    Example: bully play examples/two_nodes.toml | bully follow";
+pub const FOLLOW: &str = reads_trace!(
+    "\
+        Reads a trace on standard input, or in FILE while it grows, and judges each row\n\
+        as it comes. Writes a line on standard output for each change of a node's status,\n\
+        coordinator or task: the time, the row, the node and what it shows now. With\n\
+        --json each line is an object. The first row that is refused or differs ends it,\n\
+        with what 'explain' says of it; the end of standard input, with what 'check' says.\n\
+        A FILE that is no pipe has no end: stop it by Ctrl-C.\n\
+        \n\
+        Statuses: 0 lawful, 1 refused or differs, 3 a fault of the trace's form, 4 FILE\n\
+        can't be opened, Read, Write or OutOfMemory.",
+    "\
+        \n\
+        Example: bully play examples/two_nodes.toml | bully follow"
+);
 
 /// What help tells of `upgrade`.
-pub const UPGRADE: &str = "\
-    Reads a trace of any version in FILE or on standard input, and writes it on\n\
-    standard output as one of version 2, or of version 3 if a row says more, with the\n\
-    same rows and the same verdict. It judges nothing.\n\
-    \n\
-    Statuses: 0 written, 3 a fault of the trace's form, 4 FILE can't be opened, Read,\n\
-    Write or OutOfMemory.\n\
-    \n\
-    Example: bully upgrade examples/alone.csv | bully check";
+pub const UPGRADE: &str = reads_trace!(
+    "\
+        Reads a trace of any version in FILE or on standard input, and writes it on\n\
+        standard output as one of version 2, or of version 3 if a row says more, with the\n\
+        same rows and the same verdict. It judges nothing.\n\
+        \n\
+        Statuses: 0 written, 3 a fault of the trace's form, 4 FILE can't be opened, Read,\n\
+        Write or OutOfMemory.",
+    "\
+        \n\
+        Example: bully upgrade examples/alone.csv | bully check"
+);
 
 /// What help tells of `annotate`.
-pub const ANNOTATE: &str = "\
-    Reads a lawful trace of any version in FILE or on standard input, and writes it\n\
-    on standard output as one of version 3 that says everything: the call of each\n\
-    event, the answer to it, and behind each event the whole vector of the node that\n\
-    it changed. If the trace isn't lawful, it writes the verdict on standard error.\n\
-    \n\
-    Statuses: 0 written, 1 refused or differs, 3 a fault of the trace's form, or more\n\
-    rows than a trace may have, 4 FILE can't be opened, Read, Write or OutOfMemory.\n\
-    \n\
-    Example: bully annotate examples/alone.csv | bully check";
+pub const ANNOTATE: &str = reads_trace!(
+    "\
+        Reads a lawful trace of any version in FILE or on standard input, and writes it\n\
+        on standard output as one of version 3 that says everything: the call of each\n\
+        event, the answer to it, and behind each event the whole vector of the node that\n\
+        it changed. If the trace isn't lawful, it writes the verdict on standard error.\n\
+        \n\
+        Statuses: 0 written, 1 refused or differs, 3 a fault of the trace's form, or more\n\
+        rows than a trace may have, 4 FILE can't be opened, Read, Write or OutOfMemory.",
+    "  bully: refused N CAUSE         the trace is refused at row N\n  \
+        bully: differs N               the trace differs at row N\n  \
+        bully: annotated trace: TooManyRows  it would have more than 1,000,000 rows\n\
+        \n\
+        Example: bully annotate examples/alone.csv | bully check"
+);
 
 /// What help tells of `draw`.
-pub const DRAW: &str = "\
-    Reads a trace in FILE or on standard input as 'check' does, and writes an SVG\n\
-    picture of it on standard output: a lane for each node, and arrows for the calls.\n\
-    It shows the 200 rows that end at the verdict, or those of --rows. A row that is\n\
-    refused or differs is the last one, with a sentence below it. --html writes the\n\
-    picture as a page for a browser, with a search and what each row changes. --text\n\
-    draws for a terminal. --without-claims leaves the rows out that are no events.\n\
-    \n\
-    Statuses: 0 lawful, 1 refused or differs, 2 bad words, 3 a fault of form in the\n\
-    trace or in the configuration, 4 FILE can't be opened, Read, Write or\n\
-    OutOfMemory.\n\
-    \n\
-    Example: bully draw examples/all_up.csv > all_up.svg";
+pub const DRAW: &str = reads_trace!(
+    "\
+        Reads a trace in FILE or on standard input as 'check' does, and writes an SVG\n\
+        picture of it on standard output: a lane for each node, and arrows for the calls.\n\
+        It shows the 200 rows that end at the verdict, or those of --rows. A row that is\n\
+        refused or differs is the last one, with a sentence below it. --html writes the\n\
+        picture as a page for a browser, with a search and what each row changes. --text\n\
+        draws for a terminal. --without-claims leaves the rows out that are no events.\n\
+        \n\
+        Statuses: 0 lawful, 1 refused or differs, 2 bad words, 3 a fault of form in the\n\
+        trace or in the configuration, 4 FILE can't be opened, Read, Write or\n\
+        OutOfMemory.",
+    "  bully: config: ..              with --names: 'bully help play' lists these\n\
+        \n\
+        Example: bully draw examples/all_up.csv > all_up.svg"
+);
 
 /// What help tells of `play`.
-pub const PLAY: &str = "\
-    Reads the configuration, plays its group turn by turn on one thread, and writes\n\
-    what happened as a trace on standard output, always the same one.\n\
-    \n\
-    Statuses: 0 written, 3 a fault in the configuration, 4 Read, Write or\n\
-    OutOfMemory.\n\
-    \n\
-    Example: bully play examples/three_nodes.toml";
+pub const PLAY: &str = reads_config!(
+    "\
+        Reads the configuration, plays its group turn by turn on one thread, and writes\n\
+        what happened as a trace on standard output, always the same one.\n\
+        \n\
+        Statuses: 0 written, 3 a fault in the configuration, 4 Read, Write or\n\
+        OutOfMemory.",
+    "\
+        \n\
+        Example: bully play examples/three_nodes.toml"
+);
 
 /// What help tells of `run`.
-pub const RUN: &str = "\
-    Reads the configuration, runs its group with a thread for the operator and one\n\
-    for each node, and writes its history as a trace on standard output. Each run\n\
-    may write another history, and each history is lawful.\n\
-    \n\
-    Statuses: 0 written, 3 a fault in the configuration, 4 Read, Write, Spawn, Finish\n\
-    or OutOfMemory.\n\
-    \n\
-    Example: bully run examples/three_nodes.toml | bully check";
+pub const RUN: &str = reads_config!(
+    "\
+        Reads the configuration, runs its group with a thread for the operator and one\n\
+        for each node, and writes its history as a trace on standard output. Each run\n\
+        may write another history, and each history is lawful.\n\
+        \n\
+        Statuses: 0 written, 3 a fault in the configuration, 4 Read, Write, Spawn, Finish\n\
+        or OutOfMemory.",
+    "  bully: Spawn                   a thread can't be started\n  \
+        bully: Finish                  a thread's own log differs from the history\n\
+        \n\
+        Example: bully run examples/three_nodes.toml | bully check"
+);
 
 /// What help tells of `table`.
-pub const TABLE: &str = "\
-    Reads the configuration, and plans a table over the members that is balanced by\n\
-    their weights, with the fewest moves from the old one. Writes the owners, how\n\
-    many partitions move, and how many could stay, each on a line of standard output;\n\
-    with --json as one object.\n\
-    \n\
-    Statuses: 0 written, 2 no such member, or owners that are no table, 3 a fault in\n\
-    the configuration, 4 Read, Write or OutOfMemory.\n\
-    \n\
-    Example: bully table examples/three_nodes.toml a b --old '1 2 2 2 3'";
+pub const TABLE: &str = reads_config!(
+    "\
+        Reads the configuration, and plans a table over the members that is balanced by\n\
+        their weights, with the fewest moves from the old one. Writes the owners, how\n\
+        many partitions move, and how many could stay, each on a line of standard output;\n\
+        with --json as one object.\n\
+        \n\
+        Statuses: 0 written, 2 no such member, or owners that are no table, 3 a fault in\n\
+        the configuration, 4 Read, Write or OutOfMemory.",
+    "  bully: words: Member           a MEMBER isn't among the names\n  \
+        bully: words: Length           OWNERS are more or fewer than the partitions\n  \
+        bully: words: Owner            one of OWNERS is a number, and no node's\n  \
+        bully: words: Syntax           one of OWNERS is no number\n\
+        \n\
+        Example: bully table examples/three_nodes.toml a b --old '1 2 2 2 3'"
+);
 
 /// What help tells of `completion`.
 pub const COMPLETION: &str = "\
@@ -135,5 +209,10 @@ pub const COMPLETION: &str = "\
     and options: bash, zsh or fish.\n\
     \n\
     Statuses: 0 written, 2 another shell, 4 Write or OutOfMemory.\n\
+    \n\
+    Faults, each one line on standard error:\n  \
+    bully: words: Shell            it is another shell\n  \
+    bully: Write                   not all of the output could be written\n  \
+    bully: OutOfMemory             an allocation failed\n\
     \n\
     Example: bully completion bash > bully.bash";

@@ -144,6 +144,11 @@ has_double_in ms = has_double (names_of (items_at Key.Names ms))
 abbrev pub is_listed : List Key → List ℕ → Bool
 is_listed keys word = list_any (λ key. bytes_eq word (word_of key)) keys
 
+-- the first key of the members that isn't one of these
+abbrev pub first_unlisted : List Key → Members → Option (List ℕ)
+first_unlisted keys no_members = None
+first_unlisted keys (member word d ms) = if is_listed keys word then first_unlisted keys ms else Some word
+
 -- the members have a key that isn't one of these
 abbrev pub has_unlisted : List Key → Members → Bool
 has_unlisted keys no_members = false

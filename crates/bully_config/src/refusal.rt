@@ -1,5 +1,5 @@
 //! The refusals of a document. None of them takes memory.
-ghost use Rattle.std.specs.Prelude.{◌≡◌, ◌≤◌, map, length};
+ghost use Rattle.std.specs.Prelude.{◌≡◌, ◌≤◌, map, length, option_map, if◌then◌else◌};
 ghost use Rattle.std.specs.Fn.{FnReturnsAt};
 ghost use Rattle.std.specs.List.{list_all, list_any};
 ghost use Rattle.toml.specs.View.{view, table_view, members_view};
@@ -8,8 +8,8 @@ ghost use Rattle.bully_config.specs.Answers.{refusal_of};
 ghost use Rattle.std.specs.Str.{bytes_eq};
 ghost use Rattle.bully_config.specs.Configuration.{has_double, is_empty};
 ghost use Rattle.bully_config.specs.Document.{value_at};
-ghost use Rattle.bully_config.specs.Keys.{fault_keys};
-ghost use Rattle.bully_config.specs.Refusals.{first_failing, first_in, first_absent, missing_in, is_table, is_string, is_integer, is_weight, has_kind, first_misfit, key_in_fault, misfit_in, range_key_in, are_names, are_weights, fault_out_of_range, out_of_range_in, is_listed, has_unlisted, fault_has_unlisted, has_unlisted_in, fits};
+ghost use Rattle.bully_config.specs.Keys.{fault_keys, top_keys};
+ghost use Rattle.bully_config.specs.Refusals.{first_failing, first_in, first_absent, missing_in, is_table, is_string, is_integer, is_weight, has_kind, first_misfit, key_in_fault, misfit_in, range_key_in, are_names, are_weights, fault_out_of_range, out_of_range_in, is_listed, first_unlisted, has_unlisted, fault_has_unlisted, has_unlisted_in, fits};
 ghost use Rattle.bully_config.specs.Searches.{Computes};
 ghost use Rattle.bully_config.specs.Values.{names_of};
 
@@ -94,8 +94,20 @@ fn key_out_of_range_in(document: &Table, fault: &Table) -> Option<Key>
 }
 
 /// The first key of the table, in the order of their texts, that isn't listed: of those of a fault, or of those at the top.
-pub fn unlisted_key(table: &Table, is_fault: bool) -> Option<&str> {
-    let keys: &[Key] = if is_fault { &FAULT_KEYS } else { &TOP_KEYS };
+pub fn unlisted_key(table: &Table, is_fault: bool) -> Option<&str>
+    ensures { option_map (λ word. word.now) result ≡ first_unlisted (if is_fault then fault_keys else top_keys) (table_view table.now) }
+{
+    if is_fault {
+        first_unlisted(table, &FAULT_KEYS)
+    } else {
+        first_unlisted(table, &TOP_KEYS)
+    }
+}
+
+// The first key of the table that isn't one of these.
+fn first_unlisted<'a>(table: &'a Table, keys: &[Key]) -> Option<&'a str>
+    ensures { option_map (λ word. word.now) result ≡ first_unlisted keys.now (table_view table.now) }
+{
     for (word, _value) in table.iter() {
         if !is_listed(word.as_str(), keys) {
             return Some(word.as_str());

@@ -145,8 +145,7 @@ fn push_expected(text: &mut Draft, document: &Table, key: Key) {
 // Appends the first key of the table that may be meant for the one which isn't there.
 fn push_near(text: &mut Draft, table: &Table, key: Key) {
     if let Some(word) = near_key(table, key) {
-        text.push_str("; ");
-        text.push_shown(word);
+        push_quoted(text, "; ", word);
         text.push_between(" stands there, which is no key: ", key, " may be meant");
     }
 }
@@ -241,14 +240,14 @@ fn first_place(names: &[Value], word: &str) -> usize {
 // Appends the first key that isn't listed: at the top, or else in a fault.
 fn push_unlisted(text: &mut Draft, document: &Table) {
     if let Some(word) = unlisted_key(document, false) {
-        text.push_shown(word);
+        push_quoted(text, "", word);
         return text.push_str(
             " is no key; the keys are nodes, partitions, events, turns, period, names, weights, keep and fault",
         );
     }
     for (place, item) in items_at(document, Key::Fault).iter().enumerate() {
         if let Some(word) = unlisted_in(item) {
-            text.push_shown(word);
+            push_quoted(text, "", word);
             return text.push_between(
                 " is no key of fault ",
                 place + 1,

@@ -133,6 +133,17 @@ pub fn last_halt(notes: &[Note]) -> Option<(Node, u32)> {
     last
 }
 
+/// The first of these rows behind the one of this number that was a Halt, and the node that called it.
+pub fn first_halt_behind(notes: &[Note], number: u32) -> Option<(Node, u32)> {
+    for note in notes {
+        match note.what {
+            What::HaltedBy(node) if note.row > number => return Some((node, note.row)),
+            _ => {}
+        }
+    }
+    None
+}
+
 /// The last of these rows that moved the node to another point.
 pub fn last_move(notes: &[Note]) -> Option<u32> {
     let mut last = None;
@@ -142,6 +153,25 @@ pub fn last_move(notes: &[Note]) -> Option<u32> {
         }
     }
     last
+}
+
+/// The node that called the Halt which was the last of these rows that moved the node to another point; none if that was no Halt.
+pub fn halter_of_last_move(notes: &[Note]) -> Option<Node> {
+    let mut last = None;
+    for note in notes {
+        if note.moved {
+            last = halter_in(note);
+        }
+    }
+    last
+}
+
+// The node that called the Halt which this row was, if it was one.
+fn halter_in(note: &Note) -> Option<Node> {
+    match note.what {
+        What::HaltedBy(node) => Some(node),
+        _ => None,
+    }
 }
 
 /// Appends that a node which is down crashed, and in which row, or that it never recovered.

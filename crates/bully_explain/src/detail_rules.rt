@@ -1,7 +1,7 @@
 //! The rule that a row breaks which says something else of a call than the group has, in a sentence with what would be right:
 //! one for each part that differs.
 
-use crate::context::{DecisionContext, last_halt, last_row, push_start};
+use crate::context::{DecisionContext, first_halt_behind, last_row, push_start};
 use crate::point_words::push_point_told;
 use crate::rules::RULE;
 use crate::words::push_call;
@@ -118,7 +118,8 @@ fn status_of(context: &DecisionContext, node: Node) -> Status {
 fn push_discarded(text: &mut Draft, context: &DecisionContext, call: Call) {
     text.push_str("what an orphan brings is discarded: node ");
     text.push_between("", context.number(), " was halted");
-    if let Some((halter, row)) = last_halt(context.notes(context.node)) {
+    let start = context.started().unwrap_or(0);
+    if let Some((halter, row)) = first_halt_behind(context.notes(context.node), start) {
         text.push_between(" by node ", halter.number(), " in row ");
         text.push_value(row);
     }

@@ -1,6 +1,6 @@
 //! Points in words, and the steps of an election.
 
-use crate::context::{DecisionContext, last_halt, last_move};
+use crate::context::{DecisionContext, halter_of_last_move, last_move};
 use crate::words::push_point;
 use bully_base::Setup;
 use bully_draft::Draft;
@@ -37,12 +37,12 @@ fn push_idle(text: &mut Draft, context: &DecisionContext) {
         return text.push_between("no procedure of node ", context.number(), " runs");
     };
     text.push_between("no procedure of node ", context.number(), " has run since ");
-    match last_halt(notes) {
-        Some((halter, row)) if row == moved => {
+    match halter_of_last_move(notes) {
+        Some(halter) => {
             text.push_between("the Halt of node ", halter.number(), " in row ");
-            text.push_value(row);
+            text.push_value(moved);
         }
-        _ => text.push_behind("row ", moved),
+        None => text.push_behind("row ", moved),
     }
 }
 

@@ -4,7 +4,7 @@ use crate::context::{DecisionContext, push_down, push_start, push_up};
 use crate::point_words::{push_point_told, push_where};
 use crate::words::{push_call, push_members, push_offer};
 use bully_account::{EventKind, Note, What};
-use bully_base::Setup;
+use bully_base::{Node, Setup};
 use bully_calls::{NodeEventKind, PendingCall, Phase};
 use bully_draft::Draft;
 use bully_steps::Point;
@@ -176,6 +176,7 @@ pub fn push_callee_down(text: &mut Draft, context: &DecisionContext) {
         push_down(text, context, callee);
         text.push_between(", so this call is lost (lose,", context.number(), ")");
         text.push_behind(", or waits for a recover,", callee.number());
+        push_worked_out(text, context, callee);
     }
 }
 
@@ -183,15 +184,26 @@ pub fn push_callee_down(text: &mut Draft, context: &DecisionContext) {
 pub fn push_callee_up(text: &mut Draft, context: &DecisionContext) {
     text.push_str("a call fails only while its callee is down: ");
     if let Some(held) = context.shown.call {
-        let callee = held.call.callee.number();
-        text.push_between("node ", callee, " is up, so this call can't be lost: it ");
+        let callee = held.call.callee;
+        let number = callee.number();
+        text.push_between("node ", number, " is up, so this call can't be lost: it ");
         text.push_str(match held.phase {
             Phase::Ran(_) => "ran, and returns",
             _ => "runs, or its caller waits",
         });
-        text.push_between("; had node ", callee, " crashed, ");
-        text.push_between("a crash,", callee, " would stand above");
+        text.push_between("; had node ", number, " crashed, ");
+        text.push_between("a crash,", number, " would stand above");
+        push_worked_out(text, context, callee);
     }
+}
+
+// Appends that no row said the callee of the call, where none of the trace's version can.
+fn push_worked_out(text: &mut Draft, context: &DecisionContext, callee: Node) {
+    if context.account.version().says_more() {
+        return;
+    }
+    text.push_between("; its callee is node ", callee.number(), " as worked out: ");
+    text.push_str("rows that say it (version 3) show what the node did");
 }
 
 /// Appends over whom a plan shares the partitions out, and a table that does so.

@@ -1,5 +1,8 @@
 //! An account that notes which nodes each row changed.
 
+ghost use Rattle.std.specs.Prelude.{◌≡◌, IfOk, is_some};
+ghost use Rattle.bully_account.specs.RowsOf.{event_in};
+
 use crate::changes::{Changed, SeenBefore};
 use bully_account::{Account, TailReader};
 use bully_base::OutOfMemory;
@@ -47,7 +50,9 @@ impl<R: Read + Drop> TraceSink<TailReader<R>, ()> for Followed {
 }
 
 // What is seen before the row; nothing of a claim, which changes nothing.
-fn seen_before(account: &Account, row: &Row) -> Result<Option<SeenBefore>, OutOfMemory> {
+fn seen_before(account: &Account, row: &Row) -> Result<Option<SeenBefore>, OutOfMemory>
+    ensures { IfOk result (λ seen. is_some seen ≡ is_some (event_in row.now)) }
+{
     let (kind, node) = match row {
         Row::Event(event) => (event.kind(), event.node()),
         Row::Detailed(event) => (event.event().kind(), event.node),

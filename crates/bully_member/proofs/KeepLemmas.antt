@@ -2,10 +2,11 @@
 use Rattle.std.proofs.Common.{rules, ◌≡◌, ◌↔◌, ◌⊎◌, inl, inr, List, [], ◌∷◌, ◌&&◌, ◌||◌, ◌==◌, ◌-◌, ◌/◌, not, ℕ, Bool, true, false, Option, Some, None, if◌then◌else◌, nat_lt, arith, refl, sym, subst, ap, ◌∙◌}
 use Rattle.std.proofs.lemmas.Bool.Decides.{nat_tests}
 use Rattle.std.specs.Prelude.{IsTrue}
-use Rattle.bully_member.specs.Due.{absent_step, due, ending_step, going_step, goes_on, has_to_stop, idle_step, is_due, is_left, is_none_of, is_some_token, leaving_step, life_step, present_step, resting_step, restless_step, settling_left, step_by_work, step_of_life, step_without_life, stopping_step, taking_step, token_now}
-use Rattle.bully_member.specs.Keeping.{AsksAt, Keeps}
+use Rattle.bully_member.specs.Due.{absent_step, due, ending_step, going_step, goes_on, has_to_stop, idle_step, is_due, is_left, is_none_of, is_some_token, leaving_step, life_step, noted, present_step, resting_step, restless_step, settling_left, step_by_work, step_of_life, step_unless_awaiting, step_without_life, stopping_step, taking_step, token_now}
+use Rattle.bully_member.specs.Keeping.{AsksAt, Awaits, Keeps}
 use Rattle.bully_member.specs.Member.{MemberState, Rests, above, all_idle, are_of, others_promise, has_room, here, is_alone, is_closing, place_of, presence_of, same_promise}
 use Rattle.bully_member.specs.Times.{pause_left, renewal_left, stopping_rest, sure, turn_left}
+use Rattle.bully_member.specs.declared.values.Asked.{Asked}
 use Rattle.bully_member.specs.declared.values.Ending.{Ending}
 use Rattle.bully_member.specs.declared.values.LifeId.{LifeId}
 use Rattle.bully_member.specs.declared.values.LifeState.{LifeState}
@@ -169,20 +170,44 @@ module _ (m : MemberState) (now : ℕ) (rests are_down : Bool) (tells : IsTrue r
       present : is_due m now ≡ false → is_none_of m.ending ≡ true → sure m.life m.ttl now ≡ true
       present before none = early (by_test (renewal_left m.life m.ttl now == 0) (sure m.life m.ttl now) before none)
 
-  going_keeps : (has_to_stop m now rests m.work ≡ false → Free m now rests) → Keeps m now (going_step m now rests are_down)
-  going_keeps free = keeps_if m now (has_to_stop m now rests m.work) _ _ (λ stop. tt)
-      (λ goes_on. keeps_if m now (nat_lt 0 (pause_left m.paused m.ttl now)) _ _ (λ pause. tt) (λ asks. life_keeps m.life refl (free goes_on)))
+  going_keeps : Free m now rests → Keeps m now (going_step m now rests are_down)
+  going_keeps free = keeps_if m now (nat_lt 0 (pause_left m.paused m.ttl now)) _ _ (λ pause. tt) (λ asks. life_keeps m.life refl free)
 
   stopping_keeps : (life : LifeState) → Keeps m now (stopping_step m now life)
   stopping_keeps (LifeState.Present life since) = keeps_if m now (stopping_rest m.life m.ttl now m.paused == 0) _ _ (λ renew. tt) (λ rest. tt)
   stopping_keeps LifeState.Absent = tt
   stopping_keeps (LifeState.Unknown life) = tt
 
-  by_work : (w : Work) → m.work ≡ w → Keeps m now (step_by_work m now rests are_down w)
-  by_work Work.Idle is = going_keeps (λ goes_on. inl is)
-  by_work (Work.Working token) is = going_keeps (λ stays. inr (token, twice (goes_on m now rests token) (sym (ap (has_to_stop m now rests) is) ∙ stays)))
-  by_work (Work.Lost token) is = going_keeps (λ stays. absurd (apart (has_to_stop m now rests m.work) (ap (has_to_stop m now rests) is) stays))
-  by_work (Work.Stopping token) is = stopping_keeps m.life
+  by_work : (w : Work) → m.work ≡ w → has_to_stop m now rests m.work ≡ false → Keeps m now (step_by_work m now rests are_down w)
+  by_work Work.Idle is stays = going_keeps (inl is)
+  by_work (Work.Working token) is stays = going_keeps (inr (token, twice (goes_on m now rests token) (sym (ap (has_to_stop m now rests) is) ∙ stays)))
+  by_work (Work.Lost token) is stays = absurd (apart (has_to_stop m now rests m.work) (ap (has_to_stop m now rests) is) stays)
+  by_work (Work.Stopping token) is stays = stopping_keeps m.life
+
+  unless_awaiting_keeps : (asked : Option Asked) → has_to_stop m now rests m.work ≡ false → Keeps m now (step_unless_awaiting m now rests are_down asked)
+  unless_awaiting_keeps (Some asked) stays = tt
+  unless_awaiting_keeps None stays = by_work m.work refl stays
 
 pub keeps : (m : MemberState) (now : ℕ) (rests are_down : Bool) → (IsTrue rests ↔ Rests m now) → Keeps m now (due m now rests are_down)
-keeps m now rests are_down tells = by_work m now rests are_down tells m.work refl
+keeps m now rests are_down tells =
+    keeps_if m now (has_to_stop m now rests m.work) _ _ (λ stop. tt) (λ stays. unless_awaiting_keeps m now rests are_down tells m.asked stays)
+
+-- One request is under way at a time.
+
+awaits_if : (m : MemberState) (now : ℕ) (asked : Asked) (b : Bool) (at_most : ℕ) → m.asked ≡ Some asked
+    → let step = if b then Step.Stop else Step.Rest at_most in Awaits (Some asked) step (noted m now step).asked
+awaits_if m now asked true at_most is = (refl, is)
+awaits_if m now asked false at_most is = (refl, is)
+
+by_asked : (m : MemberState) (now : ℕ) (rests are_down : Bool) (asked : Option Asked) → m.asked ≡ asked
+    → let step = if has_to_stop m now rests m.work then Step.Stop else step_unless_awaiting m now rests are_down asked in Awaits asked step (noted m now step).asked
+by_asked m now rests are_down None is = tt
+by_asked m now rests are_down (Some asked) is = awaits_if m now asked (has_to_stop m now rests m.work) _ is
+
+pub awaits : (m : MemberState) (now : ℕ) (rests are_down : Bool) → Awaits m.asked (due m now rests are_down) (noted m now (due m now rests are_down)).asked
+awaits m now rests are_down = by_asked m now rests are_down m.asked refl
+
+-- ... by whatever that is, and whatever it becomes
+pub awaits_noted : (m after : MemberState) (now : ℕ) (step : Step) (rests are_down : Bool) → step ≡ due m now rests are_down → after ≡ noted m now step → Awaits m.asked step after.asked
+awaits_noted m after now step rests are_down is becomes =
+    subst (λ (x : MemberState). Awaits m.asked step x.asked) (sym becomes) (subst (λ (s : Step). Awaits m.asked s (noted m now s).asked) (sym is) (awaits m now rests are_down))

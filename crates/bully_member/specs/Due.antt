@@ -2,7 +2,8 @@
 use Rattle.std.specs.Prelude.{◌+◌, ◌-◌, ◌^◌, ◌==◌, ◌&&◌, ◌||◌, not, if◌then◌else◌, ℕ, Bool, true, false, Option, Some, None, nat_lt, min, fold, filter}
 use Rattle.std.specs.Option.{option_map}
 use Rattle.bully_member.specs.Member.{MemberState, above, all_idle, counts, has_room, here, is_alone, is_closing, is_down, are_none, place_of, presence_of, replica_of, same_promise, stay_left}
-use Rattle.bully_member.specs.Times.{left, pause_left, paused_rest, renewal_left, stopping_rest, sure, turn_left}
+use Rattle.bully_member.specs.Times.{awaiting_rest, left, pause_left, paused_rest, renewal_left, stopping_rest, sure, turn_left}
+use Rattle.bully_member.specs.declared.values.Asked.{Asked}
 use Rattle.bully_member.specs.declared.values.Until.{Until}
 use Rattle.bully_member.specs.declared.values.Ending.{Ending}
 use Rattle.bully_member.specs.declared.values.LifeId.{LifeId}
@@ -134,7 +135,6 @@ stopping_step m now life = Step.Rest m.ttl
 -- its work goes on, or it has none
 abbrev pub going_step : MemberState → (now : ℕ) → (rests are_down : Bool) → Step
 going_step m now rests are_down =
-    if has_to_stop m now rests m.work then Step.Stop else
     if nat_lt 0 (pause_left m.paused m.ttl now) then Step.Rest (paused_rest m.work m.life m.ttl now m.paused) else
     life_step m now rests are_down m.life
 
@@ -142,9 +142,14 @@ abbrev pub step_by_work : MemberState → (now : ℕ) → (rests are_down : Bool
 step_by_work m now rests are_down (Work.Stopping token) = stopping_step m now m.life
 step_by_work m now rests are_down work = going_step m now rests are_down
 
+-- one request is under way at a time: while it isn't answered the member rests
+abbrev pub step_unless_awaiting : MemberState → (now : ℕ) → (rests are_down : Bool) → Option Asked → Step
+step_unless_awaiting m now rests are_down (Some asked) = Step.Rest (awaiting_rest m.work m.life m.ttl now)
+step_unless_awaiting m now rests are_down None = step_by_work m now rests are_down m.work
+
 -- what is due now, if that is whether the group rests, and whether nobody is up
 abbrev pub due : MemberState → (now : ℕ) → (rests are_down : Bool) → Step
-due m now rests are_down = step_by_work m now rests are_down m.work
+due m now rests are_down = if has_to_stop m now rests m.work then Step.Stop else step_unless_awaiting m now rests are_down m.asked
 
 -- What is noted of a step.
 

@@ -1,8 +1,9 @@
 -- The rules that a member keeps in what it begins and asks for.
-use Rattle.std.specs.Prelude.{◌≡◌, ◌⊎◌, ℕ, true, Some}
+use Rattle.std.specs.Prelude.{◌≡◌, ◌⊎◌, ℕ, Bool, true, false, Option, Some, None}
 use Rattle.bully_member.specs.Due.{token_now}
 use Rattle.bully_member.specs.Member.{MemberState, Rests, all_idle, here, is_alone, place_of, same_promise}
 use Rattle.bully_member.specs.Times.{sure}
+use Rattle.bully_member.specs.declared.values.Asked.{Asked}
 use Rattle.bully_member.specs.declared.values.Request.{Request}
 use Rattle.bully_member.specs.declared.values.Step.{Step}
 use Rattle.bully_member.specs.declared.values.Work.{Work}
@@ -24,6 +25,17 @@ pub record AsksAt (m : MemberState) (place : ℕ) : Type 0 where
 pub record ChangesAt (m : MemberState) (place : ℕ) : Type 0 where
   pub asks : AsksAt m place
   pub all : all_idle m ≡ true
+
+-- it asks for nothing and begins nothing: its work stops, or it rests
+abbrev pub stops_or_rests : Step → Bool
+stops_or_rests Step.Stop = true
+stops_or_rests (Step.Rest at_most) = true
+stops_or_rests step = false
+
+-- one request is under way at a time: as long as one isn't answered, nothing else is asked for, and it stays the one that is awaited
+abbrev pub Awaits : Option Asked → Step → Option Asked → Type 0
+Awaits None step after = Unit {0}
+Awaits (Some asked) step after = (stops_or_rests step ≡ true) × (after ≡ Some asked)
 
 abbrev pub Keeps : MemberState → (now : ℕ) → Step → Type 0
 Keeps m now (Step.Begin token) = BeginsBy m now token

@@ -18,7 +18,9 @@ use Rattle.bully_member.specs.declared.values.Work.{Work}
 use Rattle.bully_replica.specs.RowReplica.{RowReplicaState}
 use Rattle.bully_replica.specs.Replica.{ReplicaState, first_replica, token_of}
 use Rattle.bully_rows.specs.declared.header.Header.{Header}
+use Rattle.bully_settling.specs.Owning.{owned_by}
 use Rattle.bully_settling.specs.Resting.{IsAtRest}
+use Rattle.bully_settling.specs.declared.holding.Owned.{Owned}
 use Rattle.bully_world.specs.Cause.{is_down_at}
 use Rattle.bully_world.specs.State.{world_of}
 use Rattle.std.specs.Option.{option_map_or}
@@ -95,6 +97,10 @@ group_of m now = fold (with_counted m now) [] m.presences
 -- the last place of this epoch up to which one that counts is idle, or the own life
 abbrev pub most_idle : MemberState → (now : ℕ) → ℕ
 most_idle m now = fold (λ most p. max most (place_in m.terms.epoch p.promise)) (place_in m.terms.epoch m.own) (counted m now)
+
+-- what who is present so owns: by a plan behind what the life has promised of this epoch
+abbrev pub owned_of : MemberState → Presence → Option Owned
+owned_of m p = owned_by (replica_of m) p.node (place_in m.terms.epoch p.promise)
 
 -- whether the log has room for one more settlement
 abbrev pub has_room : MemberState → Bool

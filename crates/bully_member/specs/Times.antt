@@ -52,6 +52,11 @@ abbrev pub sure_left : LifeState → (ttl now : ℕ) → ℕ
 sure_left (LifeState.Present life since) ttl now = left now (sure_for ttl) since
 sure_left life ttl now = 0
 
+-- while what it asked for isn't answered yet: a ttl at most, and while it works no longer than its presence is sure
+abbrev pub awaiting_rest : Work → LifeState → (ttl now : ℕ) → ℕ
+awaiting_rest (Work.Working token) life ttl now = sure_left life ttl now
+awaiting_rest work life ttl now = ttl
+
 -- behind what wasn't answered: up to the end of the pause, and while it works no longer than that is sure
 abbrev pub paused_rest : Work → LifeState → (ttl now : ℕ) → Option ℕ → ℕ
 paused_rest (Work.Working token) life ttl now paused = min (pause_left paused ttl now) (sure_left life ttl now)

@@ -1,7 +1,7 @@
 //! How long things take, by the ttl: whole nanoseconds, rounded down.
 ghost use Rattle.std.specs.Prelude.{◌≡◌, ◌≤◌};
 ghost use Rattle.bully_base.specs.declared.TheConstants.{NODES_MAX};
-ghost use Rattle.bully_member.specs.Times.{first_stay, left, longer_stay, pause_left, paused_rest, remembered_for, renewal_left, stopping_rest, sure, sure_for, sure_left, turn_left};
+ghost use Rattle.bully_member.specs.Times.{awaiting_rest, first_stay, left, longer_stay, pause_left, paused_rest, remembered_for, renewal_left, stopping_rest, sure, sure_for, sure_left, turn_left};
 ghost use Rattle.bully_member.specs.declared.opening.TheConstants.{TTL_MAX};
 
 use crate::values::{LifeState, Work};
@@ -74,6 +74,16 @@ pub fn stopping_rest(life: LifeState, ttl: u64, now: u64, paused: Option<u64>) -
     ensures { result ≡ stopping_rest life ttl now paused }
 {
     renewal_left(life, ttl, now).max(pause_left(paused, ttl, now))
+}
+
+/// While what it asked for isn't answered yet: a ttl at most, and while it works no longer than its presence is sure.
+pub fn awaiting_rest(work: Work, life: LifeState, ttl: u64, now: u64) -> u64
+    ensures { result ≡ awaiting_rest work life ttl now }
+{
+    match work {
+        Work::Working(_) => sure_left(life, ttl, now),
+        Work::Idle | Work::Lost(_) | Work::Stopping(_) => ttl,
+    }
 }
 
 /// Behind what wasn't answered: up to the end of the pause, and while it works no longer than that is sure.

@@ -23,6 +23,7 @@ const HEAD: &str = "\
 :root { color-scheme: light; }\n\
 body { margin: 1.5em; font: 15px/1.5 \"DejaVu Sans\", sans-serif; color: #222; background: #fff; }\n\
 h1 { font-size: 1.2em; }\n\
+h1 a { color: inherit; }\n\
 .picture { overflow: auto; max-height: 85vh; margin-bottom: 1em; border: 1px solid #ddd; }\n\
 .picture svg { display: block; }\n\
 .below { font-family: \"DejaVu Sans Mono\", monospace; white-space: pre-wrap; margin: 0; color: #a33c00; }\n\
@@ -49,7 +50,8 @@ details::details-content { content-visibility: visible; block-size: auto; }\n\
 const SEARCH: &str = "\
 <p id=\"search\" hidden><label>Rows with <input type=\"search\" id=\"sought\" autocomplete=\"off\"></label> <output id=\"found\"></output></p>\n";
 
-// The script of the search: of what is typed, the rows that have it are open, and the others hidden.
+// The script. The box of the picture opens at the row that decided, and the verdict is a link to it, if it is shown. The search: of what
+// is typed, the rows that have it are open, and the others hidden.
 const SCRIPT: &str = "\
 <script>\n\
 (function () {\n\
@@ -69,6 +71,14 @@ found.textContent = words ? `${count} of ${rows.length}` : '';\n\
 }\n\
 sought.addEventListener('input', search);\n\
 document.getElementById('search').hidden = false;\n\
+const decided = document.getElementById('decided'), box = document.querySelector('.picture'), heading = document.querySelector('h1');\n\
+if (decided) {\n\
+box.scrollTop = decided.getBoundingClientRect().top - box.getBoundingClientRect().top - box.clientHeight / 2;\n\
+const link = document.createElement('a');\n\
+link.href = '#decided';\n\
+link.append(...heading.childNodes);\n\
+heading.append(link);\n\
+}\n\
 }());\n\
 </script>\n";
 

@@ -17,6 +17,7 @@ use Rattle.bully_trace.specs.VerdictText.{verdict_head}
 use Rattle.bully_picture.specs.declared.columns.Form.{Form}
 use Rattle.bully_picture.specs.declared.columns.TheConstants.{CHANGE}
 use Rattle.bully_picture.specs.Drawn.{bare_text}
+use Rattle.bully_picture.specs.Title.{shown_text}
 use Rattle.bully_picture.specs.Words.{followed_text, is_same_stand, meaning_text}
 use Rattle.bully_picture.specs.Written.{right_text}
 
@@ -142,9 +143,14 @@ heads_text nodes = front_text (form_of nodes) ++ names_text (form_of nodes) node
 
 -- ---- the picture
 
--- above the text below: the verdict, the heads of the columns, and the lines of the rows
-abbrev pub columns_text : Verdict → ℕ → List Told → List ℕ
-columns_text verdict nodes rows = verdict_head verdict ++ (heads_text nodes ++ told_text verdict nodes 0 rows ++ codes "\n")
+-- the line that says which rows are shown: so many behind this one
+abbrev pub shown_line : ℕ → ℕ → List ℕ
+shown_line before count = shown_text before count ++ codes "\n"
+
+-- above the text below: the verdict, which rows are shown, the heads of the columns, and the lines of the rows
+abbrev pub columns_text : Verdict → ℕ → ℕ → ℕ → List Told → List ℕ
+columns_text verdict nodes before count rows =
+    verdict_head verdict ++ shown_line before count ++ (heads_text nodes ++ told_text verdict nodes 0 rows ++ codes "\n")
 
 -- ---- how the nodes stand behind each row, out of what the rows show
 

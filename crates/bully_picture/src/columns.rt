@@ -4,20 +4,22 @@ ghost use Rattle.std.specs.Fmt.{decimal};
 ghost use Rattle.bully_base.specs.Places.{put_node};
 ghost use Rattle.bully_film.specs.Behind.{world_behind};
 ghost use Rattle.bully_film.specs.Film.{IsFilmOf};
+ghost use Rattle.bully_film.specs.Lane.{row_before};
 ghost use Rattle.bully_film.specs.Scene.{snapshot, snapshots_of};
 ghost use Rattle.bully_film.specs.Window.{WindowState};
 ghost use Rattle.bully_picture.specs.Title.{Begins, Ends};
-ghost use Rattle.bully_picture.specs.Told.{back_text, cell_text, cells_text, change_text, change_words, column_letter, column_of, column_word, columns_text, filled, form_of, front_text, heads_text, is_told, name_text, names_text, quiet_text, tells_change, told_behind, told_from, told_line, told_text};
+ghost use Rattle.bully_picture.specs.Told.{back_text, cell_text, cells_text, change_text, change_words, column_letter, column_of, column_word, columns_text, filled, form_of, front_text, heads_text, is_told, name_text, names_text, quiet_text, shown_line, tells_change, told_behind, told_from, told_line, told_text};
 ghost use Rattle.bully_picture.specs.Words.{followed_text};
 ghost use Rattle.bully_picture.specs.Written.{Extends, Writes};
 ghost use Rattle.bully_rows.specs.Trace.{Trace};
 ghost use Rattle.bully_trace.specs.OneRow.{decides};
 ghost use Rattle.bully_trace.specs.VerdictText.{verdict_head};
 
+use crate::page::push_shown;
 use crate::paper::Paper;
 use crate::words::{is_same_stand, push_followed, push_meaning, push_row_text};
 use bully_base::{Node, OutOfMemory, Status};
-use bully_film::{Change, FinishedFilm, NodeSnapshot, Scene, lane_of};
+use bully_film::{Change, FinishedFilm, NodeSnapshot, Scene, lane_of, row_before};
 use std::alloc::{AllocError, Global};
 
 /// How the columns of the nodes look: a word of the status with the coordinator, where there are few; a letter with the coordinator; a
@@ -88,7 +90,7 @@ impl Form {
 // How wide what a row changes is, as `64: reorg 64`.
 const CHANGE: usize = 16;
 
-/// The picture of what a film shows as text: the verdict; a line for each row that changes a status or a coordinator, and for the one
+/// The picture of what a film shows as text: the verdict; which rows are shown; a line for each row that changes a status or a coordinator, and for the one
 /// that decided, with those of each node in a column; and how many rows lie between. Below it stands this text. Refused where an
 /// allocation fails.
 pub fn text_picture(
@@ -100,7 +102,8 @@ pub fn text_picture(
 
     // Each node stands in the line of a row as it does in the world behind it.
     ensures whole { (window : WindowState) (trace : Trace) (is : IsFilmOf window finished.now trace)
-        → IfOk result (λ text. string_bytes text ≡ columns_text finished.now.verdict finished.now.setup.nodes (told_from trace.setup is.before is.shown) ++ below.now) }
+        → IfOk result (λ text. string_bytes text ≡ columns_text finished.now.verdict finished.now.setup.nodes
+        (row_before finished.now.scenes.items) (length finished.now.scenes.items) (told_from trace.setup is.before is.shown) ++ below.now) }
     ensures below { IfOk result (λ text. Ends (string_bytes text) below.now) }
 {
     let mut text = lines_of(alloc, finished)?;
@@ -112,12 +115,23 @@ pub fn text_picture(
 fn lines_of(alloc: Global, finished: &FinishedFilm) -> Result<String, OutOfMemory>
     ensures verdict { IfOk result (λ text. Begins (string_bytes text) (verdict_head finished.now.verdict)) }
     ensures whole { (window : WindowState) (trace : Trace) (is : IsFilmOf window finished.now trace)
-        → IfOk result (λ text. string_bytes text ≡ columns_text finished.now.verdict finished.now.setup.nodes (told_from trace.setup is.before is.shown)) }
+        → IfOk result (λ text. string_bytes text ≡ columns_text finished.now.verdict finished.now.setup.nodes
+        (row_before finished.now.scenes.items) (length finished.now.scenes.items) (told_from trace.setup is.before is.shown)) }
 {
     let mut lines = Paper::new(alloc);
     lines.push_verdict(finished.verdict);
+    push_shown_line(&mut lines, finished);
     push_lines(alloc, &mut lines, finished)?;
     lines.into_text()
+}
+
+// Writes which rows are shown.
+fn push_shown_line(lines: &mut Paper, finished: &FinishedFilm)
+    ensures { Writes lines.old lines.new (shown_line (row_before finished.now.scenes.items) (length finished.now.scenes.items)) }
+{
+    let scenes = finished.scenes.as_slice();
+    push_shown(lines, row_before(scenes), scenes.len());
+    lines.push("\n");
 }
 
 // Writes the heads of the columns and the lines of the rows.

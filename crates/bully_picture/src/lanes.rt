@@ -123,7 +123,7 @@ fn push_label(paper: &mut Paper, stand: Stand, lane: u32) {
     }
 }
 
-/// The names of the nodes over their lanes, from node 1 on; the number of a node that has no name.
+/// The numbers of the nodes over their lanes, from node 1 on, each with the node's name if it has one.
 pub fn draw_names(alloc: Global, layout: &Layout, setup: &Setup, names: &[&str]) -> Paper
     ensures { IsIn result (λ text. HasNodes text setup.now.nodes (λ i. option_map (λ s. s.now) (slice_get names.now i))) }
 {
@@ -162,11 +162,17 @@ fn draw_name(paper: &mut Paper, layout: &Layout, node: Node, name: Option<&str>)
     }
 }
 
-// Writes as much of a name as the lane has room for, and all of it where the pointer rests.
+// Writes the number of a node and as much of its name as the lane has room for, and all of it where the pointer rests. The name turns the
+// direction of nothing but itself.
 fn push_name(paper: &mut Paper, node: Node, name: &str, lane: u32)
     ensures { Gains paper.old paper.new (λ text. Has text (node_label (nat_le WORDS_MIN lane) node (Some name.now))) }
 {
-    paper.push_start(name, letters_in(name, lane));
+    paper.push_node("", node, ": <tspan unicode-bidi=\"isolate\">");
+    paper.push_start(
+        name,
+        letters_in(name, lane.saturating_sub(number_width(node))),
+    );
+    paper.push("</tspan>");
     paper.push_node("<title>node ", node, ": ");
     paper.push_escaped(name);
     paper.push("</title></text>\n");
@@ -177,8 +183,18 @@ fn name_size(layout: &Layout) -> u32 {
     if layout.nodes > 999 { 10 } else { 13 }
 }
 
-// How many letters of a name have room in a lane, beside the dots behind them; one at least.
-fn letters_in(name: &str, lane: u32) -> usize {
+// How wide the number of a node is, with what stands between it and the name.
+fn number_width(node: Node) -> u32 {
+    match node.number() {
+        0..=9 => 18,
+        10..=99 => 27,
+        100..=999 => 36,
+        _ => 45,
+    }
+}
+
+// How many letters of a name have room so wide, beside the dots behind them; one at least.
+fn letters_in(name: &str, width: u32) -> usize {
     // (15 pixels, since they are of size 13 and bold)
-    letters_within(name, 15, lane.saturating_sub(24)).max(1)
+    letters_within(name, 15, width.saturating_sub(24)).max(1)
 }

@@ -172,7 +172,7 @@ fn draw_ground(canvas: &mut Canvas, number: u32, y: u32, decides: bool) {
     if decides {
         let top = y.saturating_sub(9);
         canvas.lines.push_number(
-            "<rect x=\"0\" y=\"",
+            "<rect id=\"decided\" x=\"0\" y=\"",
             top,
             "\" width=\"100%\" height=\"18\" fill=\"#D55E00\" fill-opacity=\".14\"/>\n",
         );

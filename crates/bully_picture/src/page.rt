@@ -375,7 +375,7 @@ fn plural(count: u16) -> &'static str
 }
 
 // Writes which rows are shown: so many behind this one.
-fn push_shown(picture: &mut Paper, before: u32, count: usize)
+pub fn push_shown(picture: &mut Paper, before: u32, count: usize)
     ensures { Writes picture.old picture.new (shown_text before count) }
 {
     if count == 0 {

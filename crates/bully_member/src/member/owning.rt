@@ -1,7 +1,7 @@
 //! What a member's node owns, and what settles its group.
 ghost use Rattle.std.specs.Prelude.{◌≡◌, ◌↔◌, ◌+◌, ◌<◌, ◌≤◌, IfErr, IfOk, List, All, length};
 ghost use Rattle.bully_calls.specs.declared.event.Event.{Event as EventState};
-ghost use Rattle.bully_member.specs.Member.{place_of, replica_of};
+ghost use Rattle.bully_member.specs.Member.{owned_of, place_of, replica_of};
 ghost use Rattle.bully_member.specs.Settlement.{settlement, settlers};
 ghost use Rattle.bully_replica.specs.Replica.{IsLogOf};
 ghost use Rattle.bully_settling.specs.Owning.{owned_by};
@@ -9,6 +9,8 @@ ghost use Rattle.bully_settling.specs.Settling.{Settles, table_before};
 ghost use Rattle.bully_settling.specs.declared.settling.SettleFault.{SettleFault as FaultState};
 
 use super::Member;
+use super::rules::place_in;
+use crate::values::Presence;
 use bully_base::{NodeSet, OutOfMemory};
 use bully_settling::{Owned, SettleFault, owned, settle};
 use bully_world::Event;
@@ -26,6 +28,16 @@ impl Member {
             self.terms.node,
             self.promised,
         )
+    }
+
+    /// What who is present so owns, by a plan behind what that life has promised of this epoch: the token, and the partitions, on which its
+    /// process may work. None if it owns nothing. Refused if an allocation fails. The node is one of the group's.
+    pub fn owned_of(&self, alloc: Global, presence: Presence) -> Result<Option<Owned>, OutOfMemory>
+        requires { presence.node ≤ (replica_of self.now).world.setup.nodes }
+        ensures { IfOk result (λ owned. owned ≡ owned_of self.now presence) }
+    {
+        let place = place_in(self.terms.epoch, presence.promise);
+        owned(alloc, self.learned.replica(), presence.node, place)
     }
 
     /// What an `Append` appends: the events that settle the group among those that are present, as [`settle`] gives them; if the member was

@@ -1,14 +1,16 @@
 //! What a member does next: the first rule of the table in docs/ALGORITHM.md that applies.
 ghost use Rattle.std.specs.Prelude.{◌≡◌, ◌↔◌, ◌≤◌, IsTrue, Bool, None, length, Some};
 ghost use Rattle.bully_base.specs.declared.TheConstants.{NODES_MAX};
-ghost use Rattle.bully_member.specs.Due.{absent_step, due, ending_step, going_step, goes_on, has_to_stop, idle_step, is_due, is_some_token, leaving_step, life_step, noted, present_step, resting_step, resting_wait, restless_step, settling_left, step_of_life, step_without_life, stopping_step, taking_step, token_now};
-ghost use Rattle.bully_member.specs.Keeping.{Keeps};
+ghost use Rattle.bully_member.specs.Due.{absent_step, due, ending_step, going_step, goes_on, has_to_stop, idle_step, is_due, is_some_token, leaving_step, life_step, noted, present_step, resting_step, resting_wait, restless_step, settling_left, step_by_work, step_of_life, step_unless_awaiting, step_without_life, stopping_step, taking_step, token_now};
+ghost use Rattle.bully_member.specs.Keeping.{Awaits, Keeps};
 ghost use Rattle.bully_member.specs.Member.{AllAreDown, Rests, above, all_idle, are_of, counts, group_of, has_room, here, is_alone, is_down, is_closing, most_idle, others_promise, place_in, place_of, presence_of, present_of, replica_of, stay_left};
 ghost use Rattle.bully_member.specs.declared.values.Step.{Step as StepState};
 
 use super::Member;
 use crate::opening::SETTLING_MAX;
-use crate::times::{left, pause_left, paused_rest, renewal_left, stopping_rest, sure, turn_left};
+use crate::times::{
+    awaiting_rest, left, pause_left, paused_rest, renewal_left, stopping_rest, sure, turn_left,
+};
 use crate::values::{
     Arrival, Asked, Ending, LifeId, LifeState, Presence, Promise, Request, Step, Until, Work,
 };
@@ -16,11 +18,13 @@ use bully_base::{NODES_MAX, Node, NodeSet, Status};
 use bully_settling::{is_at_rest, may_work};
 
 impl Member {
-    /// What it does now: the first rule of docs/ALGORITHM.md, A member, that applies; and it notes that.
+    /// What it does now: the first rule of docs/ALGORITHM.md, A member, that applies; and it notes that. As long as what it asked for
+    /// isn't answered, by [`Member::answered`] if by nothing else, it asks for nothing else.
     pub fn next(&mut self, now: u64) -> Step
         ensures due { (rests are_down : Bool) → (IsTrue rests ↔ Rests self.old now) → (IsTrue are_down ↔ AllAreDown self.old) → result ≡ due self.old now rests are_down }
         ensures noted { self.new ≡ noted self.old now result }
         ensures keeps { Keeps self.old now result }
+        ensures awaits { Awaits self.old.asked result self.new.asked }
     {
         let step = self.due(now, self.rests(now), self.are_down());
         self.note(now, step);
@@ -59,6 +63,26 @@ impl Member {
     fn due(&self, now: u64, rests: bool, are_down: bool) -> Step
         ensures { result ≡ due self.now now rests are_down }
     {
+        if self.has_to_stop(now, rests) {
+            return Step::Stop;
+        }
+        self.step_unless_awaiting(now, rests, are_down)
+    }
+
+    // Nothing has to be stopped.
+    fn step_unless_awaiting(&self, now: u64, rests: bool, are_down: bool) -> Step
+        ensures { result ≡ step_unless_awaiting self.now now rests are_down self.now.asked }
+    {
+        match self.asked {
+            Some(_) => Step::Rest(awaiting_rest(self.work, self.life, self.ttl, now)),
+            None => self.step_by_work(now, rests, are_down),
+        }
+    }
+
+    // Nothing has to be stopped, and nothing is awaited.
+    fn step_by_work(&self, now: u64, rests: bool, are_down: bool) -> Step
+        ensures { result ≡ step_by_work self.now now rests are_down self.now.work }
+    {
         match self.work {
             Work::Stopping(_) => self.stopping_step(now),
             Work::Idle | Work::Working(_) | Work::Lost(_) => self.going_step(now, rests, are_down),
@@ -86,9 +110,6 @@ impl Member {
     fn going_step(&self, now: u64, rests: bool, are_down: bool) -> Step
         ensures { result ≡ going_step self.now now rests are_down }
     {
-        if self.has_to_stop(now, rests) {
-            return Step::Stop;
-        }
         if 0 < pause_left(self.paused, self.ttl, now) {
             return Step::Rest(paused_rest(self.work, self.life, self.ttl, now, self.paused));
         }
@@ -303,8 +324,9 @@ impl Member {
         }
     }
 
-    // Whether the group is at rest, and the epoch goes on.
-    fn rests(&self, now: u64) -> bool
+    /// Whether the group rests for it, by its last look: it is at rest among those that count now, behind each place that one of them has
+    /// promised, by a plan behind all that its own life has promised; and the epoch goes on.
+    pub fn rests(&self, now: u64) -> bool
         ensures { IsTrue result ↔ Rests self.now now }
     {
         is_at_rest(
@@ -454,7 +476,7 @@ fn is_some_token(token: Option<u32>, by: u32) -> bool
 }
 
 // The place of a promise, if it is of this epoch.
-fn place_in(epoch: u32, promise: Promise) -> u32
+pub(super) fn place_in(epoch: u32, promise: Promise) -> u32
     ensures { result ≡ place_in epoch promise }
 {
     if promise.epoch == epoch {
