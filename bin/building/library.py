@@ -1,5 +1,6 @@
 """The library for C: the proved functions of crates/bully_c, the layer of C before them, and nothing else that links with more than the
-C library. What it exports is what bully.h declares."""
+C library. What it exports is what bully.h declares. Its folder has the layout of what is handed out: include/, lib/, and in lib/ by what
+pkg-config and CMake find it."""
 import os
 import re
 import shlex
@@ -16,7 +17,14 @@ from .proving import Say, bring, build_all, crate_of
 from .running import all_jobs
 
 HEADER = ROOT / 'include' / 'bully.h'
-FILES = ('bully.h', 'libbully.a', 'libbully.so.0', 'libbully.so')
+SHARED = 'libbully.so.0'
+# By what others find the library: templates, and where they stand in its folder.
+TEMPLATES = {
+    'bully.pc.in': 'lib/pkgconfig/bully.pc',
+    'bullyConfig.cmake.in': 'lib/cmake/bully/bullyConfig.cmake',
+    'bullyConfigVersion.cmake.in': 'lib/cmake/bully/bullyConfigVersion.cmake',
+}
+FILES = ('include/bully.h', 'lib/libbully.a', f'lib/{SHARED}', 'lib/libbully.so', *TEMPLATES.values())
 COMPILER = shlex.split(os.environ.get('CC') or 'cc')
 EXPORTED = re.compile(r'^(?:bully_status |const char \*)(bully_[a-z_]+)\(', re.MULTILINE)
 STATUS = re.compile(r'^ +BULLY_([A-Z_]+) = ([0-9]+)', re.MULTILINE)
@@ -46,9 +54,21 @@ def defined(*words: str) -> List[str]:
     return sorted(line.split()[0] for line in said.splitlines() if ' ' in line)
 
 
+def filled(template: str, version: str) -> str:
+    """A template with what stands in it for its names."""
+    text = (ROOT / 'bindings' / 'packaging' / template).read_text(encoding='utf-8')
+    major, minor, _ = version.split('.')
+    for name, value in {'VERSION': version, 'MAJOR': major, 'MINOR': minor, 'SHARED': SHARED}.items():
+        text = text.replace(f'@{name}@', value)
+    return text
+
+
 def make_files(room: Path, archive: Path) -> None:
-    """Makes one object of the proved functions, the layer before them and the kit's heap of C, with the header's names; and libraries of it."""
-    whole, layer, shared, header = f'{room}/bully.o', f'{room}/layer.o', f'{room}/libbully.so.0', HEADER.read_text()
+    """Makes one object of the proved functions, the layer before them and the kit's heap of C, with the header's names; and libraries of it.
+    They stand in the room as they do in the folder, beside what they are made of."""
+    for name in FILES:
+        (room / name).parent.mkdir(parents=True, exist_ok=True)
+    whole, layer, shared, header = f'{room}/bully.o', f'{room}/layer.o', f'{room}/lib/{SHARED}', HEADER.read_text()
     declared, statuses = sorted(EXPORTED.findall(header)), STATUS.findall(header.partition(' bully_status;')[2].partition('};')[0])
     (room / 'declared').write_text(''.join(f'{name}\n' for name in declared))
     (room / 'names.h').write_text(''.join(f'[{number}] = "{name}",\n' for name, number in statuses))
@@ -56,12 +76,14 @@ def make_files(room: Path, archive: Path) -> None:
     must([*COMPILER, *flags, '-c', f'{ROOT}/bindings/c/bully.c', '-o', layer])
     must(['ld', '-r', '-z', 'noexecstack', '-o', whole, layer, str(archive), f'{find_kit()}/{ARCHIVES[1]}'])
     must(['objcopy', f'--keep-global-symbols={room}/declared', whole])
-    must(['ar', 'rcsD', f'{room}/libbully.a', whole])
-    must([*COMPILER, '-shared', '-o', shared, whole, '-Wl,-soname,libbully.so.0', '-Wl,-z,defs', '-Wl,-z,now', '-Wl,--gc-sections'])
+    must(['ar', 'rcsD', f'{room}/lib/libbully.a', whole])
+    must([*COMPILER, '-shared', '-o', shared, whole, f'-Wl,-soname,{SHARED}', '-Wl,-z,defs', '-Wl,-z,now', '-Wl,--gc-sections'])
     if not declared == defined('-g', whole) == defined('-D', shared):
         raise Stopped('it was not built: its functions are not those of bully.h')
-    shutil.copyfile(HEADER, room / 'bully.h')
-    (room / 'libbully.so').symlink_to('libbully.so.0')
+    shutil.copyfile(HEADER, room / 'include' / 'bully.h')
+    (room / 'lib' / 'libbully.so').symlink_to(SHARED)
+    for template, name in TEMPLATES.items():
+        (room / name).write_text(filled(template, version_of_all()), encoding='utf-8')
 
 
 def make_library(folder: Path, is_gated: bool, say: Say) -> None:
@@ -74,5 +96,6 @@ def make_library(folder: Path, is_gated: bool, say: Say) -> None:
     with tempfile.TemporaryDirectory(prefix='.room.', dir=folder) as name:
         make_files(Path(name), archive)
         for each in FILES:
+            (folder / each).parent.mkdir(parents=True, exist_ok=True)
             Path(name, each).replace(folder / each)
     say(f'{folder} has {", ".join(FILES)}')

@@ -3,12 +3,13 @@ import os
 import sys
 import tempfile
 import time
+from contextlib import suppress
 from pathlib import Path
 from typing import Callable, Dict, List, NamedTuple, NoReturn, Optional
 
 from .crates import ARCHIVES, Crate, Crates, Stopped, find_kit, read_crates, version_of_all, words_over_libraries, words_over_sources
 from .kept import drop, is_made_of, keep, locked, made_of, see_unchanged, stamp_of
-from .running import Children, all_jobs, become, run_beside
+from .running import Children, all_jobs, become, give_back_streams, run_beside
 
 Say = Callable[[str], None]
 
@@ -17,7 +18,8 @@ def run_command(name: str, status: int, command: Callable[[List[str], Say], Opti
     """Ends this process as the command ends, which gets its words. If it can't go on, why is told, and the exit status is this one."""
 
     def say(line: str) -> None:
-        print(f'{name}: {line}', file=sys.stderr, flush=True)
+        with suppress(OSError):
+            os.write(2, f'{name}: {line}\n'.encode(errors='replace'))
 
     try:
         sys.exit(command(sys.argv[1:], say))
@@ -116,6 +118,7 @@ def run_program(name: str, words: List[str], say: Say) -> NoReturn:
     if name == 'bully' and not crate.product.exists():
         say(f'to use it, take the archive cinnabarloom-{version_of_all()}-x86_64-linux.tar.gz of a release, which has it built')
     bring(crate.product, crates, crate, say, build_all)
+    give_back_streams()
     become([str(crate.product), *words])
 
 

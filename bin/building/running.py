@@ -14,6 +14,9 @@ from typing import IO, Callable, Dict, Iterator, List, NoReturn, Optional, Seque
 
 from .crates import ROOT, Stopped
 
+# Where `apart` keeps the streams of the call, of those that were open.
+KEPT = {stream: kept for stream, kept in ((0, 7), (1, 8), (2, 9)) if Path(f'/dev/fd/{kept}').exists()}
+
 
 def all_jobs(more: int = 0) -> int:
     """As many processes of the prover as there are cores, or some more; but one for each 3 GB of free memory, and one at least."""
@@ -67,6 +70,16 @@ class Children:
         return self
 
     __exit__ = end
+
+
+def give_back_streams() -> None:
+    """Has the program that comes now have the streams of the call. One that was closed is closed again."""
+    for stream in range(3):
+        if stream in KEPT:
+            os.dup2(KEPT[stream], stream)
+            os.close(KEPT[stream])
+        else:
+            os.close(stream)
 
 
 def become(words: Sequence[str]) -> NoReturn:

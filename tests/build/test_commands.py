@@ -1,11 +1,13 @@
 """What the commands tell the prover, how they end, and what they do with what was built."""
+import os
 import re
+import shutil
 import signal
 import unittest
 from pathlib import Path
 from typing import List
 
-from stand_in import Tree, is_there, waited
+from stand_in import ROOT, Tree, is_there, waited
 
 HEADER = """typedef int bully_status;
 enum {
@@ -16,6 +18,16 @@ bully_status bully_begin(int number);
 LAYER = """#include "bully.h"
 bully_status bully_begin(int number) { return number; }
 """
+# What an archive has of the library, by the same names.
+LAYOUT = [
+    'include/bully.h', 'lib/cmake/bully/bullyConfig.cmake', 'lib/cmake/bully/bullyConfigVersion.cmake', 'lib/libbully.a', 'lib/libbully.so',
+    'lib/libbully.so.0', 'lib/pkgconfig/bully.pc',
+]  # fmt: skip
+
+
+def files_of(folder: Path) -> List[str]:
+    """The files of the folder and of those below it, by their names from there."""
+    return sorted(str(path.relative_to(folder)) for path in folder.rglob('*') if not path.is_dir())
 
 
 class Commands(unittest.TestCase):
@@ -55,6 +67,20 @@ class Commands(unittest.TestCase):
             for _ in range(2):
                 self.assertEqual(self.tree.call(command, 'it', given='a row\n').stdout, 'stand-in it\na row\n')
 
+    def test_the_program_has_the_streams_of_the_call_whatever_they_are(self) -> None:
+        odd = {'': 'open open open', '<.': 'folder open open', '<&-': 'closed open open', '>&-': 'open closed open', '2>&-': 'open open closed'}
+        odd.update({'<. 1<. 2<.': 'folder folder folder', '<&- >&- 2>&-': 'closed closed closed'})
+        kinds = 'is=closed; [ ! -e /dev/fd/$each ] || is=open; [ ! -d /dev/fd/$each ] || is=folder'
+        for command, place in (('bully', 'crates/bully/out/bully'), ('try', 'out/try/bully')):
+            program = self.tree.top / place
+            for streams, wanted in odd.items():
+                with self.subTest(command=command, streams=streams):
+                    program.unlink(missing_ok=True)
+                    self.assertNotEqual(self.tree.status_over(streams, command), 125)
+                    program.write_text(f'#!/bin/sh\nfor each in 0 1 2 7 8 9; do {kinds}; echo $is >&6; done 6>{self.tree.room}/seen\nexit 5\n')
+                    self.assertEqual(self.tree.status_over(streams, command), 5)
+                    self.assertEqual((self.tree.room / 'seen').read_text().split(), [*wanted.split(), *['closed'] * 3])
+
     def test_check_has_one_run_over_sources_and_keeps_others_out(self) -> None:
         call = self.tree.begin_held('left', 'check', 'left', '--only', 'half')
         beside = self.tree.begin('bully', 'it')
@@ -88,18 +114,21 @@ class Commands(unittest.TestCase):
         for name, text in (('include/bully.h', HEADER), ('bindings/c/bully.c', LAYER)):
             (self.tree.top / name).parent.mkdir(parents=True)
             (self.tree.top / name).write_text(text)
+        shutil.copytree(ROOT / 'bindings' / 'packaging', self.tree.top / 'bindings' / 'packaging')
         folder = self.tree.room / 'library'
         made = self.tree.call('library', str(folder))
         self.assertEqual((made.returncode, made.stdout), (0, ''), made.stderr)
-        self.assertEqual(sorted(path.name for path in folder.iterdir()), ['bully.h', 'libbully.a', 'libbully.so', 'libbully.so.0'])
+        self.assertEqual(files_of(folder), LAYOUT)
+        self.assertEqual(os.readlink(folder / 'lib' / 'libbully.so'), 'libbully.so.0')
+        self.assertNotIn('@', (folder / 'lib' / 'pkgconfig' / 'bully.pc').read_text())
         words = self.tree.words()[1]
         self.assertEqual((words[0], words[words.index('--crate-type') + 1]), ('bully_c', 'staticlib'))
         self.assertEqual(words[-2:], ['-o', f'{self.tree.top}/crates/bully_c/out/libbully_c.a'])
-        before = {path.name: path.stat().st_ino for path in folder.iterdir()}
+        before = {name: (folder / name).stat().st_ino for name in files_of(folder)}
         self.tree.write('base', 'src/lib.rt', '// another base\n')
         (self.tree.room / 'refuse' / 'base').touch()
         self.assertEqual(self.tree.call('library', str(folder)).returncode, 1)
-        self.assertEqual({path.name: path.stat().st_ino for path in folder.iterdir()}, before)
+        self.assertEqual({name: (folder / name).stat().st_ino for name in files_of(folder)}, before)
         self.assertEqual([self.tree.call('library', *words).returncode for words in (('',), ('a', 'b'), ('--other', 'a'), ('--gated',), ('--gated', 'a', 'b'), ('--gate', 'a'))], [2] * 6)
 
 
