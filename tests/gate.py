@@ -1,4 +1,4 @@
-"""The gate, `rt ci`, and what is tried beside it: each part as soon as the gate has proved and built what it needs."""
+"""The gate, `rt ci`, and beside it all that is tried, over what it proves and builds."""
 import hashlib
 import io
 import os
@@ -8,111 +8,45 @@ import subprocess
 import sys
 import tempfile
 from concurrent.futures import ThreadPoolExecutor
-from contextlib import ExitStack
-from threading import Event
-from typing import Dict, Iterable, List, NamedTuple, Tuple
+from pathlib import Path
+from typing import Dict, List
 
 from building.crates import ROOT, Crates, find_kit, read_crates, version_of
 from building.kept import drop, keep, made_of
 from building.running import Children, all_jobs
 from counts import Counts
+from parts import Run, chosen
 
 RECORD = ROOT / 'out' / 'proved'
 HANDED_OUT = ('crates/bully/out/bully', 'crates/bully_c/out/libbully_c.a')
 DONE = re.compile(r'^rt: (\w+) (?:NOT PROVED|proved|is kept)')
 
 
-class Part(NamedTuple):
-    """A command that counts by itself, or that makes something; what has to be done before it, crates or what others make; and after how
-    many seconds it is ended. LIBRARY stands for the folder of the library for C."""
-
-    words: Tuple[str, ...]
-    behind: Tuple[str, ...] = ()
-    limit: int = 3600
-    makes: str = ''
-
-
-PAGES = [Part((each,)) for each in ('tests/snippets/compare', 'tests/promises/compare', 'tests/release/compare', 'bin/wrong-bodies')]
-CASES = [Part((each,), ('bully',)) for each in ('tests/logging/try', 'tests/terminal/try', 'tests/cases/try')]
-PARTS = [
-    *PAGES,
-    Part(('tests/members/wrong', '--fit')),
-    Part(('tests/release/first_build',)),
-    Part(('tests/build/try',)),
-    # (behind the crates below bully_c, too, over which it is built)
-    Part(('bin/library', '--gated', 'LIBRARY'), makes='LIBRARY'),
-    Part(('bindings/try', '--unpacked', 'LIBRARY'), ('LIBRARY', 'bully_simulator'), 7200),
-    Part(('tests/release/try', 'LIBRARY', 'crates/bully/out/bully'), ('bully', 'LIBRARY'), 1800),
-    Part(('tests/cluster/simulate',), ('bully', 'bully_simulator'), 1800),
-    Part(('tests/hostile/memory',), ('bully_memory',), 1800),
-    *CASES,
-    *(Part(('tests/hostile/outside', part), ('bully',)) for part in ('requests', 'spoiled', 'annotated')),
-]
-Done = Dict[str, Event]
-
-
-def parts_over(crates: Crates) -> List[Part]:
-    """The parts of the gate of these crates."""
-    return [part._replace(behind=crates['bully_c'].below) if part.makes == 'LIBRARY' else part for part in PARTS]
-
-
-def run_gate(done: Done, pool: ThreadPoolExecutor, children: Children, counts: Counts) -> bool:
-    """Runs `rt ci`, sets which crates it is done with, and adds its counts. Returns whether it was green. A thread begins it: a signal, which
+def run_gate(run: Run, pool: ThreadPoolExecutor) -> bool:
+    """Runs `rt ci`, tells which crates it is done with, and adds its counts. Returns whether it was green. A thread begins it: a signal, which
     comes to the main one, comes before that or behind it."""
     words = ['env', 'PYTHONUNBUFFERED=1', f'RT_JOBS={os.environ.get("RT_JOBS") or all_jobs()}', 'rt', 'ci']
-    gate = pool.submit(children.begin, words, ROOT, subprocess.PIPE, errors=None).result()
+    gate = pool.submit(run.children.begin, words, ROOT, subprocess.PIPE, errors=None).result()
     lines: List[str] = []
     for line in io.TextIOWrapper(gate.stdout or io.BytesIO(), errors='replace'):
         print(line, end='', flush=True)
         lines.append(line)
-        done.get((DONE.findall(line) or [''])[0], Event()).set()
+        run.is_done((DONE.findall(line) or [''])[0])
     said, status = ''.join(lines), gate.wait()
-    counts.add(said, status, 'rt ci')
+    run.counts.add(said, status, 'rt ci')
     if 'BAD EDIT' in said:
-        counts.hold(False, 'a must-fail edit fits nothing, and says nothing of a contract')
+        run.counts.hold(False, 'a must-fail edit fits nothing, and says nothing of a contract')
+    run.all_are_done(but='library')
     return status == 0
 
 
-def run_part(part: Part, done: Done, room: str, children: Children) -> Tuple[str, int]:
-    """What the part said, and its status, once all is done that it needs."""
-    for name in part.behind:
-        done[name].wait()
-    words = [f'{room}/library' if word == 'LIBRARY' else word for word in ('timeout', str(part.limit), *part.words)]
-    try:
-        with tempfile.TemporaryFile() as said:
-            status = children.begin(words, ROOT, said).wait()
-            said.seek(0)
-            return said.read().decode(errors='replace'), status
-    finally:
-        done[part.makes].set()
-
-
-def add_part(part: Part, said: str, status: int, counts: Counts) -> None:
-    print(said.rstrip('\n'), flush=True)
-    if not part.makes:
-        counts.add(said, status, ' '.join(part.words))
-    elif status:
-        counts.hold(False, f'{part.words[0]} ended with status {status}')
-
-
-def set_all(events: Iterable[Event]) -> None:
-    for event in events:
-        event.set()
-
-
-def run_parts(parts: List[Part], counts: Counts, is_gated: bool) -> bool:
-    """Runs the gate, if it is to be run, and the parts beside it, and adds their counts. Returns whether the gate was green. If this command
-    is ended meanwhile, what runs is ended, too; then those that wait go on, and begin nothing."""
-    done = {name: Event() for part in parts for name in (*part.behind, part.makes)}
-    crates = done.keys() - {part.makes for part in parts}
-    with tempfile.TemporaryDirectory() as room, ThreadPoolExecutor(len(parts) + 1) as pool, ExitStack() as behind, Children() as children:
-        behind.callback(set_all, done.values())
-        begun = [(part, pool.submit(run_part, part, done, room, children)) for part in parts]
-        is_green = is_gated and run_gate(done, pool, children, counts)
-        set_all(done[name] for name in crates)
-        for part, ended in begun:
-            add_part(part, *ended.result(), counts)
-    return is_green
+def make_library(run: Run, crates: Crates) -> None:
+    """Makes the library for C, over the crates as the gate left them, once those are done."""
+    run.wait_for(crates['bully_c'].below)
+    status = run.children.begin(['bin/library', '--gated', str(run.built / 'library')], ROOT, None, errors=None).wait()
+    if status:
+        run.counts.hold(False, f'bin/library ended with status {status}')
+    run.is_done('library')
 
 
 def take_gated(crates: Crates, texts: Dict[str, str]) -> None:
@@ -142,10 +76,10 @@ def record_of(last: str, commit: str) -> List[str]:
     return [last, commit, version_of(find_kit()), *built]
 
 
-def test_all() -> Counts:
+def prove(how: str) -> Counts:
     """The gate, and all that is tried beside it. What a green gate built is taken; and if all is green, and was committed, it is recorded for
-    bin/release; but not if something changed meanwhile."""
-    crates, counts, commit = read_crates(), Counts(), commit_here()
+    bindings/packaging/release; but not if something changed meanwhile."""
+    crates, commit = read_crates(), commit_here()
     texts = made_of(crates, crates, find_kit())
     RECORD.unlink(missing_ok=True)
     # (at its end `rt ci` puts back over its own libraries what was there; and no older archive is to be taken for its own)
@@ -153,24 +87,19 @@ def test_all() -> Counts:
         shutil.rmtree(crate.library('rlib').parent, ignore_errors=True)
         if crate.kind == 'archive':
             drop(crate.product)
-    is_green = run_parts(parts_over(crates), counts, is_gated=True)
+    with tempfile.TemporaryDirectory() as room:
+        for crate in (each for each in crates.values() if each.kind == 'program'):
+            Path(room, crate.name).symlink_to(crate.product)
+        run, green = Run(chosen([], how), how, Path(room), crates), []
+        run.run(lambda pool: ('library' in run.done and pool.submit(make_library, run, crates), green.append(run_gate(run, pool))))
+    counts = run.counts
     try:
-        if is_green and texts == made_of(crates, crates, find_kit()):
+        if green == [True] and texts == made_of(crates, crates, find_kit()):
             take_gated(crates, texts)
             if not counts.failed and commit and commit == commit_here():
                 RECORD.parent.mkdir(exist_ok=True)
                 RECORD.write_text(''.join(f'{line}\n' for line in record_of(counts.last(), commit)))
     except OSError as error:
         # (no verdict rests on it)
-        print(f'test: what the gate built is not taken: {error}', file=sys.stderr)
-    return counts
-
-
-def test_cases() -> Counts:
-    """The cases over the program that bin/bully builds, and the pages."""
-    counts = Counts()
-    with Children() as children:
-        if children.begin(['bin/bully', 'help'], ROOT, subprocess.DEVNULL, errors=None).wait():
-            counts.hold(False, 'bin/bully does not build the program')
-    run_parts([*PAGES, *CASES], counts, is_gated=False)
+        print(f'prove: what the gate built is not taken: {error}', file=sys.stderr)
     return counts

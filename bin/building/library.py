@@ -9,7 +9,7 @@ import subprocess
 import sys
 import tempfile
 from pathlib import Path
-from typing import List
+from typing import Callable, List
 
 from .crates import ARCHIVES, ROOT, Stopped, find_kit, read_crates, version_of_all, words_over_libraries
 from .kept import drop
@@ -35,16 +35,20 @@ def must(words: List[str], folder: Path = ROOT) -> None:
         raise Stopped(f'it was not built: {Path(words[0]).name} failed')
 
 
-def archive_of(is_gated: bool, say: Say) -> Path:
-    """The proved functions, over what was built; or over the crates as the gate left them, which keeps the folders locked."""
+def proved_archive(say: Say) -> Path:
+    """The proved functions, over what was built."""
+    crates = read_crates()
+    bring(crate_of(crates, 'bully_c').product, crates, crates['bully_c'], say, build_all)
+    return crates['bully_c'].product
+
+
+def gated_archive(_: Say) -> Path:
+    """The same over the crates as the gate left them, which keeps the folders locked."""
     crates, kit = read_crates(), find_kit()
     crate = crate_of(crates, 'bully_c')
-    if is_gated:
-        drop(crate.product)
-        words = [*words_over_libraries(kit, crates, crate, 'rlib'), '--jobs', str(all_jobs()), '-o', str(crate.product)]
-        must([f'{kit}/bin/rattle', 'build', *words], crate.folder)
-    else:
-        bring(crate.product, crates, crate, say, build_all)
+    drop(crate.product)
+    words = [*words_over_libraries(kit, crates, crate, 'rlib'), '--jobs', str(all_jobs()), '-o', str(crate.product)]
+    must([f'{kit}/bin/rattle', 'build', *words], crate.folder)
     return crate.product
 
 
@@ -86,13 +90,13 @@ def make_files(room: Path, archive: Path) -> None:
         (room / name).write_text(filled(template, version_of_all()), encoding='utf-8')
 
 
-def make_library(folder: Path, is_gated: bool, say: Say) -> None:
-    """Makes the files in a room of the folder, and then puts them in their places."""
+def make_library(folder: Path, archive_of: Callable[[Say], Path], say: Say) -> None:
+    """Makes the files, of the functions that this brings about, in a room of the folder, and then puts them in their places."""
     missing = [tool for tool in (COMPILER[0], 'ld', 'objcopy', 'ar', 'nm') if not shutil.which(tool)]
     if missing:
         raise Stopped(f'there is no {missing[0]} on the path')
     folder.mkdir(parents=True, exist_ok=True)
-    archive = archive_of(is_gated, say)
+    archive = archive_of(say)
     with tempfile.TemporaryDirectory(prefix='.room.', dir=folder) as name:
         make_files(Path(name), archive)
         for each in FILES:

@@ -11,9 +11,8 @@ from pathlib import Path
 
 from building.crates import read_crates, words_over_libraries
 from counts import Counts
-from gate import parts_over
 from reading import Reader
-from stand_in import Tree, as_ever, is_there, waited
+from stand_in import ROOT, Tree, as_ever, is_there, waited
 
 # A gate that proves base and bully and leaves what it built, once the test lets it go on; `verdict` has its last line.
 GATE = r'''#!/bin/sh
@@ -34,16 +33,16 @@ tail -n 1 ROOM/verdict | grep -q ', 0 failed$'
 RUN = '''
 import sys
 sys.path[:0] = ['bin', 'tests']
-import gate
-gate.PARTS[:] = [gate.Part(('./part', name), behind, makes=name if name.startswith('make') else '') for name, behind in {parts!r}]
-counts = gate.test_all()
+import gate, parts
+parts.PARTS[:] = [parts.Part(name, './part ' + name, ' '.join(needs), whole='none' if name == 'left-out' else '') for name, needs in {parts!r}]
+counts = gate.prove('whole')
 print(counts.last())
 '''
 PART = r'''#!/bin/sh
 echo "begin $1" >>ROOM/parts
 [ "$1" != held ] || { echo $$ >ROOM/held; while [ -e ROOM/hold/held ]; do sleep 0.01; done; }
 [ "$1" != empty ] || { echo '0 passed, 0 failed'; exit; }
-case $1 in bad | make_badly) echo 'no count'; exit 1 ;; make_well) echo 'no count'; exit ;; esac
+[ "$1" != bad ] || { echo 'no count'; exit 1; }
 echo '2 passed, 1 failed'
 [ "$1" = wrong ] || { echo '3 passed, 0 failed'; exit 0; }
 echo '3 passed, 0 failed'; exit 7
@@ -62,6 +61,24 @@ class Counting(unittest.TestCase):
 
     def test_a_status_that_no_failure_explains_is_one(self) -> None:
         self.assertEqual(self.add('20 passed, 0 failed\n', 2), (20, 1, 'FAILED: it ended with status 2\n'))
+
+    def test_what_was_skipped_is_added_and_is_no_failure(self) -> None:
+        self.assertEqual(self.add('0 passed, 0 failed, 2 skipped\n', 0), (0, 0, ''))
+        self.assertEqual(self.add('test result: ok. 6 passed; 0 failed; 0 ignored; 0 filtered out\n', 0), (6, 0, ''))
+
+    def test_the_last_line_says_what_was_skipped_and_that_nothing_was_tried(self) -> None:
+        for counter in ('counts.py', 'counts.bash'):
+            for calls, wanted, status in (('', '0 passed, 1 failed', 1), ('skip', '0 passed, 0 failed, 1 skipped', 0), ('pass', '1 passed, 0 failed', 0)):
+                with self.subTest(counter=counter, calls=calls):
+                    ran = subprocess.run(self.words_of(counter, calls), cwd=ROOT / 'tests', stdout=subprocess.PIPE, text=True)
+                    self.assertEqual((ran.stdout.splitlines()[-1], ran.returncode), (wanted, status))
+
+    def words_of(self, counter: str, calls: str) -> 'list[str]':
+        """The words of a program that counts by these calls."""
+        if counter == 'counts.bash':
+            return ['bash', '-c', f'. ./counts.bash; {calls} it why; end' if calls else '. ./counts.bash; end']
+        called = {'': '', 'skip': "it.skip('it', 'why'); ", 'pass': "it.hold(True, 'it'); "}[calls]
+        return [sys.executable, '-c', f'import counts, sys; it = counts.Counts(); {called}sys.exit(it.end())']
 
     def test_a_last_line_that_counts_nothing_is_one(self) -> None:
         self.assertEqual(self.add('0 passed, 0 failed\n', 0), (0, 1, 'FAILED: it ended with no last line that counts\n'))
@@ -129,8 +146,8 @@ class Gated(unittest.TestCase):
     def test_all_are_counted_once_what_they_need_is_done(self) -> None:
         self.tree.hold('last')
         self.tree.hold('gate')
-        run = self.begin(('at once', ()), ('later', ('base', 'bully')))
-        waited(lambda: self.parts_begun() == 'begin at once\n', 'the first part is begun')
+        run = self.begin(('at-once', ()), ('later', ('bully',)))
+        waited(lambda: self.parts_begun() == 'begin at-once\n', 'the first part is begun')
         self.tree.let_go('gate')
         waited(lambda: 'begin later\n' in self.parts_begun(), 'the other part is begun behind its crates')
         self.tree.let_go('last')
@@ -140,9 +157,22 @@ class Gated(unittest.TestCase):
         self.assertEqual(self.last_of(('bad', ()), ('wrong', ())), '13 passed, 3 failed')
         self.assertEqual(self.record(), '')
 
-    def test_what_a_part_makes_is_waited_for_and_counts_only_if_it_fails(self) -> None:
-        self.assertEqual(self.last_of(('fine', ('make_well', 'make_badly')), ('make_well', ()), ('make_badly', ())), '13 passed, 1 failed')
-        self.assertEqual(self.parts_begun().splitlines()[-1], 'begin fine')
+    def test_the_library_is_made_once_what_it_stands_on_is_done_and_counts_only_if_it_fails(self) -> None:
+        self.install('tree/bin/library', '#!/bin/sh\necho "begin $1" >>ROOM/parts\nmkdir -p "$2"\n[ ! -e ROOM/refuse/library ]\n')
+        self.tree.hold('gate')
+        run = self.begin(('over-it', ('library',)))
+        waited(lambda: self.parts_begun() == 'begin --gated\nbegin over-it\n', 'the part is begun before bully is proved')
+        self.tree.let_go('gate')
+        self.assertEqual(run.communicate(timeout=60)[0].splitlines()[-1], '13 passed, 0 failed')
+        (self.tree.room / 'refuse' / 'library').touch()
+        self.assertEqual(self.last_of(('over-it', ('library',))), '13 passed, 1 failed')
+
+    def test_what_is_left_out_by_its_words_is_not_run(self) -> None:
+        self.assertEqual(self.last_of(('left-out', ()), ('fine', ())), '13 passed, 0 failed')
+
+    def test_a_part_over_what_is_not_built_is_a_failure_and_is_not_run(self) -> None:
+        self.assertEqual(self.last_of(('over-it', ('bully_c',))), '10 passed, 1 failed')
+        self.assertEqual(self.parts_begun(), '')
 
     def test_a_red_gate_leaves_nothing_taken(self) -> None:
         self.verdict = '9 passed, 1 failed\n'
@@ -211,15 +241,14 @@ class Gated(unittest.TestCase):
 
     def test_the_library_for_c_waits_for_all_that_it_is_built_over(self) -> None:
         crates = read_crates()
-        [made] = [part for part in parts_over(crates) if part.makes == 'LIBRARY']
         words = words_over_libraries(Path('/kit'), crates, crates['bully_c'], 'rlib')
         handed_on = {Path(word).parents[1].name for word in words if word.startswith('dependency=') and word.endswith('/out/rlib')}
-        self.assertEqual({*made.behind}, handed_on)
+        self.assertEqual({*crates['bully_c'].below}, handed_on)
 
     def test_what_changed_while_the_gate_ran_is_not_taken(self) -> None:
         self.tree.hold('last')
-        run = self.begin(('at once', ('bully',)))
-        waited(lambda: 'at once' in self.parts_begun(), 'the gate is under way')
+        run = self.begin(('at-once', ('bully',)))
+        waited(lambda: 'at-once' in self.parts_begun(), 'the gate is under way')
         self.tree.write('base', 'src/lib.rt', '// another base\n')
         self.tree.let_go('last')
         run.communicate(timeout=60)

@@ -1,0 +1,161 @@
+"""The parts of what is tried, and how they run: each as soon as what it needs is built, beside the others. Over what is built without proofs
+here for `bin/test`, and over what the gate proves for `bin/prove`."""
+import fcntl
+import shutil
+import tempfile
+import time
+from concurrent.futures import ThreadPoolExecutor
+from contextlib import ExitStack
+from pathlib import Path
+from threading import Event
+from typing import Callable, Iterable, List, NamedTuple, Tuple
+
+from building.crates import ROOT, Stopped, find_kit, read_crates
+from building.kept import made_of
+from building.library import make_library
+from building.proving import Building, Say
+from building.running import Children
+from building.unproved import FOLDER, build_for_tests, product_of
+from counts import Counts
+
+
+class Part(NamedTuple):
+    """A command that counts by itself, in which BUILT stands for the folder of what is tried, and KIT for the kit; what of that it needs; the tools without which it
+    is skipped; its words more in `bin/test`, in `bin/prove`, and for `--full`; and after how many seconds it is ended. One of an option alone
+    says so by `none` in the place of the words of the others."""
+
+    name: str
+    words: str
+    needs: str = ''
+    tools: str = ''
+    short: str = ''
+    whole: str = ''
+    full: str = ''
+    limit: int = 1800
+
+    def more(self, how: str) -> str:
+        """The words more of a way to run it: `short`, `whole`, or `full`, which are those of `whole` if it has none of its own."""
+        return {'short': self.short, 'whole': self.whole, 'full': self.full or self.whole}[how]
+
+
+NONE = 'none'
+MEMBERS = 'tests/members/simulate BUILT/library'
+PARTS = [
+    Part('snippets', 'tests/snippets/compare'),
+    Part('promises', 'tests/promises/compare'),
+    Part('versions', 'tests/release/compare'),
+    Part('wrong-bodies', 'tests/edits/try'),
+    Part('wrong-members', 'tests/members/wrong --fit'),
+    Part('first-build', 'tests/release/first_build'),
+    Part('build', 'tests/build/try'),
+    Part('c', 'bindings/c/try BUILT/library', 'library', 'gcc g++'),
+    Part('rust', 'bindings/rust/try BUILT/library', 'library', 'cargo'),
+    Part('rules', 'tests/members/rules BUILT/library', 'library',
+         full='--any 3000 --settle 5000 --bugs --explore 100000 --restarts 100 --seeds 1 3000', limit=7200),
+    Part('bugs', f'{MEMBERS} --bugs', 'library'),
+    Part('members', MEMBERS, 'library', short='--to 60', whole='--to 300', full='--to 10000', limit=7200),
+    Part('epochs', f'{MEMBERS} --epochs', 'library', short='--to 60', whole='--to 300', full='--to 10000', limit=7200),
+    Part('over-etcd', f'{MEMBERS} --over-etcd', 'library', short='--to 20', whole='--to 100', full='--to 10000', limit=7200),
+    Part('epochs-over-etcd', f'{MEMBERS} --over-etcd --epochs', 'library', short='--to 12', whole='--to 60', full='--to 3000', limit=7200),
+    Part('told', f'{MEMBERS} --told', 'library', short='--to 12', whole='--to 60', full='--to 3000', limit=7200),
+    Part('etcd', 'tests/members/compare BUILT/library', 'library', 'etcd'),
+    Part('kills', 'tests/members/try BUILT/library', 'library', short='--kills 2 --pauses 2 --epochs 1 --orders 1 --share 2',
+         whole='--kills 4 --pauses 6 --share 2', full='--kills 100 --pauses 50 --share 1', limit=7200),
+    Part('network', 'tests/members/network BUILT/library', 'library', 'etcd', '--faults 4', '--faults 8', '--faults 100', limit=7200),
+    Part('soak', 'tests/members/soak BUILT/library', 'library', short=NONE, whole=NONE, full='--seconds 20'),
+    Part('soak-over-etcd', 'tests/members/soak BUILT/library --store etcd', 'library', 'etcd', NONE, NONE, '--seconds 20'),
+    Part('python', 'bindings/python/try BUILT/library --simulator BUILT/bully_simulator', 'library bully_simulator',
+         short='--seeds 60', whole='--seeds 200', full='--seeds 1000', limit=7200),
+    Part('memory', 'tests/hostile/memory', 'bully_memory', 'rustc'),
+    # (the gate runs these by itself)
+    *(Part(name.replace('_', '-'), f'KIT/bin/rattle-test BUILT/bully_{name}', f'bully_{name}', whole=NONE) for name in ('model_tests', 'group_tests', 'agent_tests')),
+    Part('cases', 'tests/cases/try', 'bully'),
+    Part('logging', 'tests/logging/try', 'bully'),
+    Part('terminal', 'tests/terminal/try', 'bully'),
+    *(Part(name, f'tests/hostile/outside {name}', 'bully', 'rustc') for name in ('requests', 'spoiled', 'annotated')),
+    Part('processes', 'tests/processes/try BUILT/library', 'library bully', short='1 10', whole='2 20', full='10 100', limit=7200),
+    Part('nodes', 'tests/cluster/simulate', 'bully bully_simulator', 'rustc', '60', '300', '300'),
+    Part('release', 'tests/release/try BUILT/library BUILT/bully', 'library bully'),
+]  # fmt: skip
+
+
+def chosen(names: List[str], how: str) -> List[Part]:
+    """The parts of these names, or all that are run so."""
+    known = {part.name: part for part in PARTS}
+    strange = [name for name in names if name not in known]
+    if strange:
+        raise Stopped(f'there is no part {strange[0]}: bin/test --list has their names')
+    parts = [known[name] for name in names] if names else PARTS
+    return [part for part in parts if names or part.more(how) != NONE]
+
+
+class Run:
+    """A run of parts: what is tried stands in a folder, each thing once it is done, and what is begun ends with the run."""
+
+    def __init__(self, parts: List[Part], how: str, built: Path, more: Iterable[str] = ()) -> None:
+        """`more` are things that nothing but the making of others waits for."""
+        self.parts, self.how, self.built, self.children, self.counts = parts, how, built, Children(), Counts()
+        self.done = {name: Event() for name in (*(name for part in parts for name in part.needs.split()), *more)}
+
+    def is_done(self, name: str) -> None:
+        self.done.get(name, Event()).set()
+
+    def all_are_done(self, but: str = '') -> None:
+        """Has all go on that wait."""
+        for name in (each for each in self.done if each != but):
+            self.is_done(name)
+
+    def wait_for(self, names: Iterable[str]) -> None:
+        for name in names:
+            self.done[name].wait()
+
+    def try_part(self, part: Part) -> Tuple[str, int, float]:
+        """What the part said, its status, and how many seconds it took, once all is done that it needs."""
+        needs, more = part.needs.split(), part.more(self.how)
+        self.wait_for(needs)
+        lacking = [tool for tool in part.tools.split() if not shutil.which(tool)]
+        missing = [name for name in needs if not (self.built / name).exists()]
+        if lacking or missing:
+            return f'not tried: {part.name}: there is no {(missing or lacking)[0]}\n0 passed, {len(missing)} failed, {0 if missing else 1} skipped', 0, 0.0
+        words = f'{part.words} {"" if more == NONE else more}'.replace('BUILT', str(self.built)).replace('KIT', str(find_kit())).split()
+        with tempfile.TemporaryFile() as said:
+            began = time.monotonic()
+            status = self.children.begin(['env', f'BULLY_BUILT={self.built}', 'timeout', str(part.limit), *words], ROOT, said).wait()
+            said.seek(0)
+            return said.read().decode(errors='replace'), status, time.monotonic() - began
+
+    def run(self, make: Callable[[ThreadPoolExecutor], object]) -> None:
+        """Runs the parts beside what makes the things that they need, and adds their counts. If this command is ended meanwhile, what runs is
+        ended, too; then those that wait go on, and begin nothing."""
+        with ThreadPoolExecutor(len(self.parts) + len(self.done) + 1) as pool, ExitStack() as behind, self.children:
+            behind.callback(self.all_are_done)
+            begun = [(part, pool.submit(self.try_part, part)) for part in self.parts]
+            make(pool)
+            for part, ended in begun:
+                said, status, seconds = ended.result()
+                print(f'{said.rstrip()}\n== {part.name}: {seconds:.0f} s', flush=True)
+                self.counts.add(said, status, part.name)
+
+
+def make_unproved(name: str, run: Run, room: Path, say: Say) -> None:
+    """Builds one of the things that are tried without its proofs."""
+    kit, crates = find_kit(), read_crates()
+    crate = crates['bully_c' if name == 'library' else name]
+    try:
+        build_for_tests(Building(kit, crates, crate, made_of(crates, crate.all, kit), say, run.children, room, time.monotonic()))
+        if name == 'library':
+            make_library(run.built / name, lambda _: product_of(crate), say)
+    except (Stopped, OSError) as why:
+        say(str(why))
+    run.is_done(name)
+
+
+def test(names: List[str], how: str, say: Say) -> Counts:
+    """Tries these parts, or all, over what is built without proofs. The longest builds begin first."""
+    FOLDER.mkdir(parents=True, exist_ok=True)
+    run = Run(chosen(names, how), how, FOLDER)
+    things = sorted(run.done, key=lambda name: ('library', 'bully').index(name) if name in ('library', 'bully') else 2)
+    with (FOLDER / 'lock').open('w') as lock, tempfile.TemporaryDirectory() as room:
+        fcntl.flock(lock, fcntl.LOCK_EX)
+        run.run(lambda pool: [pool.submit(make_unproved, name, run, Path(room), say) for name in things])
+    return run.counts
