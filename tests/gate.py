@@ -22,9 +22,11 @@ HANDED_OUT = ('crates/bully/out/bully', 'crates/bully_c/out/libbully_c.a')
 DONE = re.compile(r'^rt: (\w+) (?:NOT PROVED|proved|is kept)')
 
 
-def run_gate(run: Run, pool: ThreadPoolExecutor) -> bool:
-    """Runs `rt ci`, tells which crates it is done with, and adds its counts. Returns whether it was green. A thread begins it: a signal, which
-    comes to the main one, comes before that or behind it."""
+def run_gate(run: Run, crates: Crates, pool: ThreadPoolExecutor) -> bool:
+    """Runs `rt ci`, says which crates it is done with, and adds its counts. Returns whether it was green. A thread begins it: a signal, which
+    comes to the main one, comes before that or after it."""
+    if 'library' in run.done:
+        pool.submit(make_library, run, crates)
     words = ['env', 'PYTHONUNBUFFERED=1', f'RT_JOBS={os.environ.get("RT_JOBS") or all_jobs()}', 'rt', 'ci']
     gate = pool.submit(run.children.begin, words, ROOT, subprocess.PIPE, errors=None).result()
     lines: List[str] = []
@@ -43,7 +45,7 @@ def run_gate(run: Run, pool: ThreadPoolExecutor) -> bool:
 def make_library(run: Run, crates: Crates) -> None:
     """Makes the library for C, over the crates as the gate left them, once those are done."""
     run.wait_for(crates['bully_c'].below)
-    status = run.children.begin(['bin/library', '--gated', str(run.built / 'library')], ROOT, None, errors=None).wait()
+    status = run.children.begin(['bin/library', '--gated', str(run.built / 'library')], ROOT, 2, errors=None).wait()
     if status:
         run.counts.hold(False, f'bin/library ended with status {status}')
     run.is_done('library')
@@ -90,11 +92,11 @@ def prove(how: str) -> Counts:
     with tempfile.TemporaryDirectory() as room:
         for crate in (each for each in crates.values() if each.kind == 'program'):
             Path(room, crate.name).symlink_to(crate.product)
-        run, green = Run(chosen([], how), how, Path(room), crates), []
-        run.run(lambda pool: ('library' in run.done and pool.submit(make_library, run, crates), green.append(run_gate(run, pool))))
+        run = Run(chosen([], how), how, Path(room), crates)
+        is_green = run.run(lambda pool: run_gate(run, crates, pool))
     counts = run.counts
     try:
-        if green == [True] and texts == made_of(crates, crates, find_kit()):
+        if is_green and texts == made_of(crates, crates, find_kit()):
             take_gated(crates, texts)
             if not counts.failed and commit and commit == commit_here():
                 RECORD.parent.mkdir(exist_ok=True)

@@ -124,17 +124,18 @@ class Run:
             said.seek(0)
             return said.read().decode(errors='replace'), status, time.monotonic() - began
 
-    def run(self, make: Callable[[ThreadPoolExecutor], object]) -> None:
-        """Runs the parts beside what makes the things that they need, and adds their counts. If this command is ended meanwhile, what runs is
-        ended, too; then those that wait go on, and begin nothing."""
+    def run(self, make: Callable[[ThreadPoolExecutor], bool]) -> bool:
+        """Runs the parts beside what makes the things that they need, and adds their counts. Returns what that gave. If this command is ended
+        meanwhile, what runs is ended, too; then those that wait go on, and begin nothing."""
         with ThreadPoolExecutor(len(self.parts) + len(self.done) + 1) as pool, ExitStack() as behind, self.children:
             behind.callback(self.all_are_done)
             begun = [(part, pool.submit(self.try_part, part)) for part in self.parts]
-            make(pool)
+            is_green = make(pool)
             for part, ended in begun:
                 said, status, seconds = ended.result()
                 print(f'{said.rstrip()}\n== {part.name}: {seconds:.0f} s', flush=True)
                 self.counts.add(said, status, part.name)
+        return is_green
 
 
 def make_unproved(name: str, run: Run, room: Path, say: Say) -> None:
@@ -157,5 +158,5 @@ def test(names: List[str], how: str, say: Say) -> Counts:
     things = sorted(run.done, key=lambda name: ('library', 'bully').index(name) if name in ('library', 'bully') else 2)
     with (FOLDER / 'lock').open('w') as lock, tempfile.TemporaryDirectory() as room:
         fcntl.flock(lock, fcntl.LOCK_EX)
-        run.run(lambda pool: [pool.submit(make_unproved, name, run, Path(room), say) for name in things])
+        run.run(lambda pool: bool([pool.submit(make_unproved, name, run, Path(room), say) for name in things]))
     return run.counts
