@@ -103,9 +103,9 @@ class Commands(unittest.TestCase):
         self.assertEqual((refused.returncode, refused.stderr), (2, 'check: crates.txt has no crate nobody\n'))
 
     def test_program_builds_the_one_that_is_named(self) -> None:
-        self.assertEqual(self.tree.call('program', 'bully', 'one', 'two').stdout, 'stand-in one two\n')
+        self.assertEqual(self.tree.call('../bench/program', 'bully', 'one', 'two').stdout, 'stand-in one two\n')
         for words, said in (((), 'program: crates.txt has no program without a name\n'), (('left',), 'left: crates.txt has no program left\n')):
-            refused = self.tree.call('program', *words)
+            refused = self.tree.call('../bench/program', *words)
             self.assertEqual((refused.returncode, refused.stderr), (125, said))
 
     def test_library_is_made_of_the_archive_and_stays_if_that_is_not_proved(self) -> None:
