@@ -9,14 +9,17 @@ from typing import List
 
 from stand_in import ROOT, Tree, is_there, waited
 
-HEADER = """typedef int bully_status;
+HEADER = """#include <stdint.h>
+typedef uint32_t bully_status;
 enum {
     BULLY_OK = 0,
 };
-bully_status bully_begin(int number);
+bully_status bully_begin(uint32_t number);
 """
+# (with the function behind the wrapper, since nothing is in the archive)
 LAYER = """#include "bully.h"
-bully_status bully_begin(int number) { return number; }
+#include "wrappers.h"
+bully_status bully_c_begin(uint32_t number) { return number; }
 """
 # What an archive has of the library, by the same names.
 LAYOUT = [
@@ -111,7 +114,8 @@ class Commands(unittest.TestCase):
     def test_library_is_made_of_the_archive_and_stays_if_that_is_not_proved(self) -> None:
         self.tree.list_crates({'base': '', 'bully_c staticlib': 'base'})
         self.tree.write('bully_c', 'src/lib.rt', '// the functions for C\n')
-        for name, text in (('include/bully.h', HEADER), ('bindings/c/bully.c', LAYER)):
+        reader = 'bindings/python/bully/header.py'
+        for name, text in (('include/bully.h', HEADER), ('bindings/c/bully.c', LAYER), (reader, (ROOT / reader).read_text())):
             (self.tree.top / name).parent.mkdir(parents=True)
             (self.tree.top / name).write_text(text)
         shutil.copytree(ROOT / 'bindings' / 'packaging', self.tree.top / 'bindings' / 'packaging')
