@@ -133,6 +133,12 @@ class Commands(unittest.TestCase):
         (self.tree.room / 'refuse' / 'base').touch()
         self.assertEqual(self.tree.call('library', str(folder)).returncode, 1)
         self.assertEqual({name: (folder / name).stat().st_ino for name in files_of(folder)}, before)
+        proved = len(self.tree.words())
+        (self.tree.top / 'include' / 'bully.h').write_text(HEADER.replace('uint32_t number', 'int number'))
+        refused, begun = self.tree.call('library', str(folder)), len(self.tree.words())
+        self.assertEqual((refused.returncode, begun), (1, proved))
+        self.assertIn('library: bully.h: number of bully_begin is no number of a known size', refused.stderr)
+        self.assertEqual({name: (folder / name).stat().st_ino for name in files_of(folder)}, before)
         self.assertEqual([self.tree.call('library', *words).returncode for words in (('',), ('a', 'b'), ('--other', 'a'), ('--gated',), ('--gated', 'a', 'b'), ('--gate', 'a'))], [2] * 6)
 
 
