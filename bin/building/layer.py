@@ -1,7 +1,7 @@
 """The layer of C before the proved functions, as far as `bully.h` says all of it: for each function that answers a status a wrapper,
 which tests its pointers and lengths and calls the proved one; and the names of the statuses. `bindings/c/bully.c` has the rest.
 
-The rule is the header's: a `size_t` behind a pointer is the length of what that leads to, a slice; any other pointer leads to one item.
+The rule is the header's: a pointer with a `size_t` after it leads to so many items, a slice; any other pointer leads to one, a reference.
 What the rule doesn't say, as a text without a length, is refused, and never guessed.
 
     cd bin && python3 -m building.layer    prints the wrappers of `include/bully.h`, for whoever reads them
@@ -36,8 +36,8 @@ class Argument(NamedTuple):
         name = self.told.name
         return f'{kind}{"" if self.is_pointer else " "}{name}' + (f', size_t {self.length}' if self.length else '')
 
-    def is_wrong(self) -> str:
-        """When it is refused as null."""
+    def refused(self) -> str:
+        """The condition under which it is null."""
         name = self.told.name
         return f'!can_lie({name}, {self.length}, sizeof *{name})' if self.length else f'{name} == NULL'
 
@@ -71,7 +71,7 @@ def fault_of(argument: Argument, structures: Iterable[str]) -> str:
     """Why the header's rule doesn't say what the argument is; '' if it does."""
     kind = argument.told.kind
     if kind == 'size_t':
-        return 'a length that stands behind no pointer'
+        return 'a length after no pointer'
     if not argument.is_pointer:
         return '' if kind in NUMBERS else 'no number of a known size'
     if kind in TEXTS:
@@ -101,7 +101,7 @@ def wrapper(function: 'Function', structures: Iterable[str]) -> str:
     arguments = arguments_of(function, structures)
     declared, handed_on = (', '.join(part(each) for each in arguments) for part in (Argument.declared, Argument.handed_on))
     proved = function.name.replace('bully_', 'bully_c_', 1)
-    wrong = ' || '.join(each.is_wrong() for each in arguments if each.is_pointer)
+    wrong = ' || '.join(each.refused() for each in arguments if each.is_pointer)
     test = f'    if ({wrong}) {{\n        return BULLY_NULL;\n    }}\n' if wrong else ''
     head = f'__typeof__({function.name}) {proved};\nbully_status {function.name}({declared or "void"})'
     return f'{head} {{\n{test}    return {proved}({handed_on});\n}}\n'

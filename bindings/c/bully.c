@@ -31,8 +31,8 @@ static void *target(void *items, size_t count) {
 
 /* ---- The functions that answer a status ---- */
 
-/* Each behind a declaration of the proved one, which has its type: a reference is a pointer here, and a slice a pointer with its
- * length behind it. */
+/* Each after a declaration of the proved one, which has its type: a reference is a pointer here, and a slice a pointer with its length
+ * after it. */
 #include "wrappers.h"
 
 /* ---- Names ---- */

@@ -42,8 +42,8 @@ bully_status bully_rest(void) {
 REFUSED = {
     'bully_status bully_take(const char *name);': 'name of bully_take is a text without its length',
     'bully_status bully_take(uint8_t *bytes, uint32_t length);': 'bytes of bully_take is a text without its length',
-    'bully_status bully_take(size_t length, const char *name);': 'length of bully_take is a length that stands behind no pointer',
-    'bully_status bully_take(char *a, size_t b, size_t c);': 'c of bully_take is a length that stands behind no pointer',
+    'bully_status bully_take(size_t length, const char *name);': 'length of bully_take is a length after no pointer',
+    'bully_status bully_take(char *a, size_t b, size_t c);': 'c of bully_take is a length after no pointer',
     'bully_status bully_take(int number);': 'number of bully_take is no number of a known size',
     'bully_status bully_take(bully_thing thing);': 'thing of bully_take is no number of a known size',
     'bully_status bully_take(bully_other *other);': 'other of bully_take is a pointer to what is not known',

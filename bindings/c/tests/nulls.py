@@ -20,25 +20,27 @@ if TYPE_CHECKING:
 
 
 class Ways(NamedTuple):
-    """The ways to give an argument, as C spells them: those that are right, with items first and without them last; and those that are wrong."""
+    """The ways to give an argument, as C spells them: those that are right, with items first and without them last; those that are wrong; and
+    the one with the most items that a memory has."""
 
     right: List[str]
     wrong: List[str]
+    longest: str
 
 
 def ways_of(argument: 'Declared', place: int, has_length: bool, given: str) -> Ways:
     """The ways to give a pointer, or a number."""
     if not argument.kind.endswith(' *'):
-        return Ways(['number'], [])
+        return Ways(['number'], [], 'number')
     if not has_length:
-        return Ways([given], ['NULL'])
+        return Ways([given], ['NULL'], given)
     most = f'MOST({argument.kind[:-2]})'
     wrong = ['NULL, 1', f'NULL, {most}', 'NULL, SIZE_MAX', f'{given}, {most} + 1', f'{given}, SIZE_MAX']
-    return Ways([f'{given}, 1', f'{given}, 0', 'NULL, 0'], wrong)
+    return Ways([f'{given}, 1', f'{given}, 0', 'NULL, 0'], wrong, f'{given}, {most}')
 
 
 def all_ways(function: 'Function', handles: Dict[str, str]) -> List[Ways]:
-    """The ways to give each argument, with the length behind it."""
+    """The ways to give each argument, a pointer with the length after it."""
     kinds = [each.kind for each in function.takes]
     has_length = [kind == 'size_t' for kind in kinds[1:]] + [False]
     given = [handles.get(kind, f'at({place})') for place, kind in enumerate(kinds)]
@@ -54,19 +56,14 @@ def wrong_calls(ways: List[Ways]) -> Iterator[List[str]]:
             yield [*arguments[:place], wrong, *arguments[place + 1 :]]
 
 
-def longest(ways: List[Ways]) -> List[str]:
-    """The arguments with the greatest lengths that memory may have."""
-    return [each.wrong[3].replace(' + 1', '') if len(each.wrong) > 1 else each.right[0] for each in ways]
-
-
 def tests_of(function: 'Function', handles: Dict[str, str]) -> Iterator[str]:
     """The tests of a function. What is right is called only of a handle that refuses it."""
     ways = all_ways(function, handles)
     wrong = dict.fromkeys(', '.join(each) for each in wrong_calls(ways))
     right = [', '.join(each) for each in product(*(each.right for each in ways))]
-    is_of_handle, is_open = function.takes[0].kind in handles, function.name.endswith('_open')
+    is_of_handle, is_open = any(each.kind in handles for each in function.takes), function.name.endswith('_open')
     status, state = ('OPEN', 'is_open') if is_open else ('CLOSED', '!is_open')
-    refused = [*right, ', '.join(longest(ways))] if is_of_handle else []
+    refused = [*right, ', '.join(each.longest for each in ways)] if is_of_handle else []
     yield from (f'    REFUSED(BULLY_NULL, {function.name}({each}));' for each in wrong)
     yield from (f'    if ({state}) REFUSED(BULLY_{status}, {function.name}({each}));' for each in refused)
     if is_open or not is_of_handle:
