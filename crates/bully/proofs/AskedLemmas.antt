@@ -1,11 +1,12 @@
 -- From what an action asks for to what the words ask for, and where the trace stands.
-use Rattle.std.proofs.Common.{◌≡◌, ◌⊎◌, inl, inr, ℕ, Bool, true, false, List, [], Option, Some, None, arith, codes, refl, subst}
+use Rattle.std.proofs.Common.{◌≡◌, ◌⊎◌, inl, inr, ℕ, Bool, true, false, List, [], Option, Some, None, arith, refl, subst}
 use Rattle.std.specs.Prelude.{IfSome, MatchOption, is_some}
 use Rattle.std.specs.Io.KnownBytes.{Appends, Keeps}
 use Rattle.bully_cli.specs.Shells.{shell_named}
 use Rattle.bully_cli.specs.declared.shells.Shell.{Shell}
 use Rattle.bully_cli.specs.Words.{Asked, annotating, checking, completing, drawing, explaining, following, planning, playing, running, upgrading}
 use Rattle.bully.specs.Answer.{IsBadWord, IsCheckAnswer, IsShort, KnownBytes, is_given}
+use Rattle.bully.specs.BadWords.{shell_line}
 use Rattle.bully.specs.AskedAnswer.{IsAnswerFrom, IsAnswerTo, IsUnopened, path_asked}
 use Rattle.bully.specs.ConfigAnswer.{IsStopped}
 use Rattle.bully.specs.ExplainAnswer.{IsConfigExplained, IsExplainAnswer}
@@ -56,7 +57,7 @@ module _ (output output' errors errors' : KnownBytes) (status : ℕ) (short : Is
   short-config false true = inr short
   short-config false false = ([], inr (inr stopped))
 
-  short-shell : (named : Option Shell) → MatchOption named (IsBadWord (codes "bully: words: Shell\n") output output' errors errors' status ⊎ IsShort output output' errors errors' status)
+  short-shell : (named : Option Shell) → MatchOption named (IsBadWord shell_line output output' errors errors' status ⊎ IsShort output output' errors errors' status)
       (λ shell. ((text : List ℕ) × Appends output output' text × Keeps errors errors' × (status ≡ 0)) ⊎ IsStopped output output' errors errors' status)
   short-shell None = inr short
   short-shell (Some it) = inr stopped

@@ -1,4 +1,5 @@
 pub mod Answer
+pub mod BadWords
 pub mod AnnotateAnswer
 pub mod ExplainAnswer
 pub mod PlanText

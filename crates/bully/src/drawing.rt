@@ -57,7 +57,10 @@ pub fn answer_draw<H: Files + AllocGlobal, R: Read + Drop, W: Write, E: Write>(
     match form_of(is_given(words.text), is_given(words.html)) {
         Some(form) => draw_as(rt, words, form, input, output, errors),
         None => {
-            tell(errors, "bully: words: Html\n");
+            tell(
+                errors,
+                "bully: words: Html: give --html or --text, not both\n",
+            );
             2
         }
     }
@@ -99,7 +102,10 @@ fn draw_as<H: Files + AllocGlobal, R: Read + Drop, W: Write, E: Write>(
             draw_words(rt, words.names, drawing, input, output, errors)
         }
         None => {
-            tell(errors, "bully: words: Rows\n");
+            tell(
+                errors,
+                "bully: words: Rows: --rows takes FROM-TO, as 2-50: row 1 is the header, FROM is at most TO, and 2000 rows are the most\n",
+            );
             2
         }
     }

@@ -45,11 +45,17 @@ pub fn answer_explain<H: Files + AllocGlobal, R: Read + Drop, W: Write, E: Write
         return explain_trace(rt.alloc(), is_json, input, output, errors);
     };
     if words.file.is_some() {
-        tell(errors, "bully: words: File\n");
+        tell(
+            errors,
+            "bully: words: File: give FILE or --config, not both\n",
+        );
         return 2;
     }
     if is_json {
-        tell(errors, "bully: words: Json\n");
+        tell(
+            errors,
+            "bully: words: Json: give --config or --json, not both\n",
+        );
         return 2;
     }
     answer_explain_config(rt, path, output, errors)
