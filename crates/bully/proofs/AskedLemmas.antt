@@ -31,12 +31,13 @@ module _ (Opens : KnownBytes → Type 0) (what : Asked) (output output' errors e
       → IsAnswerFrom Opens what input output output' errors errors' status
   unopened input path some kept told = rw some (inl (kept, told))
 
--- the words of `explain`
-pub explained-to : (file config json : Option (List ℕ)) (input output output' errors errors' : KnownBytes) (status : ℕ)
-    → MatchOption config (IfSome input (λ bytes. IsExplainAnswer (is_given json) bytes output output' errors errors' status)) (λ _. IsConfigExplained (is_some file) (is_given json) output output' errors errors' status)
-    → IsAnswerTo (explaining file config json) input output output' errors errors' status
-explained-to file None json input output output' errors errors' status answered = answered
-explained-to file (Some path) json input output output' errors errors' status answered = answered
+-- the words of `explain`, of a trace of which so much is given
+pub explained-to : (file config json : Option (List ℕ)) (given known output output' errors errors' : KnownBytes) (status : ℕ) → given ≡ known
+    → MatchOption config (IfSome given (λ bytes. IsExplainAnswer (is_given json) bytes output output' errors errors' status)) (λ _. IsConfigExplained (is_some file) (is_given json) output output' errors errors' status)
+    → IsAnswerTo (explaining file config json) known output output' errors errors' status
+explained-to file None json given known output output' errors errors' status same answered =
+    subst (λ known. IfSome known (λ bytes. IsExplainAnswer (is_given json) bytes output output' errors errors' status)) same answered
+explained-to file (Some path) json given known output output' errors errors' status same answered = answered
 
 -- ---- there is no memory for the words
 
