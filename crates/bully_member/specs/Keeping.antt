@@ -30,12 +30,12 @@ pub record ChangesAt (m : MemberState) (place : ℕ) : Type 0 where
 abbrev pub stops_or_rests : Step → Bool
 stops_or_rests Step.Stop = true
 stops_or_rests (Step.Rest at_most) = true
-stops_or_rests step = false
+stops_or_rests _ = false
 
 -- one request is under way at a time: as long as one isn't answered, nothing else is asked for, and it stays the one that is awaited
 abbrev pub Awaits : Option Asked → Step → Option Asked → Type 0
-Awaits None step after = Unit {0}
-Awaits (Some asked) step after = (stops_or_rests step ≡ true) × (after ≡ Some asked)
+Awaits None _ _ = Unit {0}
+Awaits (Some asked) answer after = (stops_or_rests answer ≡ true) × (after ≡ Some asked)
 
 abbrev pub Keeps : MemberState → (now : ℕ) → Step → Type 0
 Keeps m now (Step.Begin token) = BeginsBy m now token
