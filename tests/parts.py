@@ -46,7 +46,6 @@ PARTS = [
     Part('versions', 'tests/release/compare'),
     Part('wrong-bodies', 'tests/edits/try'),
     Part('wrong-members', 'tests/members/wrong --fit'),
-    Part('first-build', 'tests/release/first_build'),
     Part('build', 'tests/build/try'),
     Part('c', 'bindings/c/try BUILT/library', 'library', 'gcc g++'),
     Part('rust', 'bindings/rust/try BUILT/library', 'library', 'cargo'),
@@ -68,6 +67,7 @@ PARTS = [
          short='--seeds 60', whole='--seeds 200', full='--seeds 1000', limit=7200),
     Part('memory', 'tests/hostile/memory', 'bully_memory', 'rustc'),
     # (the gate runs these by itself)
+    Part('programs', 'tests/programs', 'bully bully_bench bully_memory bully_simulator', whole=NONE),
     *(Part(name.replace('_', '-'), f'KIT/bin/rattle-test BUILT/bully_{name}', f'bully_{name}', whole=NONE) for name in ('model_tests', 'group_tests', 'agent_tests')),
     Part('cases', 'tests/cases/try', 'bully'),
     Part('logging', 'tests/logging/try', 'bully'),
