@@ -9,7 +9,8 @@
  * Each function answers a status. If that isn't BULLY_OK, nothing has changed and nothing was written but what the
  * function's comment says. Each tests its arguments, in the order in which the statuses stand in its comment:
  *
- * - BULLY_NULL: a pointer is null that must not be, or a length is above PTRDIFF_MAX bytes. A pointer to no items may be null.
+ * - BULLY_NULL: a pointer is null that must not be, or a length is above PTRDIFF_MAX bytes. A pointer with a `size_t` right after it
+ *   leads to so many items, any other one to one item. A pointer to no items may be null.
  * - BULLY_CLOSED: the handle isn't open.
  *
  * What no test can see, the program has to keep:

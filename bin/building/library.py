@@ -2,21 +2,20 @@
 C library. What it exports is what bully.h declares. Its folder has the layout of what is handed out: include/, lib/, and in lib/ by what
 pkg-config and CMake find it."""
 import os
-import re
 import shlex
 import shutil
 import subprocess
 import sys
 import tempfile
 from pathlib import Path
-from typing import Callable, List
+from typing import Callable, Dict, List
 
 from .crates import ARCHIVES, ROOT, Stopped, find_kit, read_crates, version_of_all, words_over_libraries
 from .kept import drop
+from .layer import HEADER, layer_of, read_header
 from .proving import Say, bring, build_all, crate_of
 from .running import all_jobs
 
-HEADER = ROOT / 'include' / 'bully.h'
 SHARED = 'libbully.so.0'
 # By what others find the library: templates, and where they stand in its folder.
 TEMPLATES = {
@@ -26,8 +25,6 @@ TEMPLATES = {
 }
 FILES = ('include/bully.h', 'lib/libbully.a', f'lib/{SHARED}', 'lib/libbully.so', *TEMPLATES.values())
 COMPILER = shlex.split(os.environ.get('CC') or 'cc')
-EXPORTED = re.compile(r'^(?:bully_status |const char \*)(bully_[a-z_]+)\(', re.MULTILINE)
-STATUS = re.compile(r'^ +BULLY_([A-Z_]+) = ([0-9]+)', re.MULTILINE)
 
 
 def must(words: List[str], folder: Path = ROOT) -> None:
@@ -67,22 +64,21 @@ def filled(template: str, version: str) -> str:
     return text
 
 
-def make_files(room: Path, archive: Path) -> None:
+def make_files(room: Path, archive: Path, made: Dict[str, str]) -> None:
     """Makes one object of the proved functions, the layer before them and the kit's heap of C, with the header's names; and libraries of it.
-    They stand in the room as they do in the folder, beside what they are made of."""
+    They stand in the room as they do in the folder, beside what they are made of, as what was made of the header."""
     for name in FILES:
         (room / name).parent.mkdir(parents=True, exist_ok=True)
-    whole, layer, shared, header = f'{room}/bully.o', f'{room}/layer.o', f'{room}/lib/{SHARED}', HEADER.read_text()
-    declared, statuses = sorted(EXPORTED.findall(header)), STATUS.findall(header.partition(' bully_status;')[2].partition('};')[0])
-    (room / 'declared').write_text(''.join(f'{name}\n' for name in declared))
-    (room / 'names.h').write_text(''.join(f'[{number}] = "{name}",\n' for name, number in statuses))
+    for name, text in made.items():
+        (room / name).write_text(text)
+    whole, layer, shared = f'{room}/bully.o', f'{room}/layer.o', f'{room}/lib/{SHARED}'
     flags = [f'-I{HEADER.parent}', f'-I{room}', '-std=c99', '-O2', '-fPIC', '-fno-lto', '-Wall', '-Wextra', f'-DBULLY_VERSION="{version_of_all()}"']
     must([*COMPILER, *flags, '-c', f'{ROOT}/bindings/c/bully.c', '-o', layer])
     must(['ld', '-r', '-z', 'noexecstack', '-o', whole, layer, str(archive), f'{find_kit()}/{ARCHIVES[1]}'])
     must(['objcopy', f'--keep-global-symbols={room}/declared', whole])
     must(['ar', 'rcsD', f'{room}/lib/libbully.a', whole])
     must([*COMPILER, '-shared', '-o', shared, whole, f'-Wl,-soname,{SHARED}', '-Wl,-z,defs', '-Wl,-z,now', '-Wl,--gc-sections'])
-    if not declared == defined('-g', whole) == defined('-D', shared):
+    if not made['declared'].split() == defined('-g', whole) == defined('-D', shared):
         raise Stopped('it was not built: its functions are not those of bully.h')
     shutil.copyfile(HEADER, room / 'include' / 'bully.h')
     (room / 'lib' / 'libbully.so').symlink_to(SHARED)
@@ -96,9 +92,10 @@ def make_library(folder: Path, archive_of: Callable[[Say], Path], say: Say) -> N
     if missing:
         raise Stopped(f'there is no {missing[0]} on the path')
     folder.mkdir(parents=True, exist_ok=True)
+    made = layer_of(read_header(HEADER.read_text()))
     archive = archive_of(say)
     with tempfile.TemporaryDirectory(prefix='.room.', dir=folder) as name:
-        make_files(Path(name), archive)
+        make_files(Path(name), archive, made)
         for each in FILES:
             (folder / each).parent.mkdir(parents=True, exist_ok=True)
             Path(name, each).replace(folder / each)

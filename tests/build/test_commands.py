@@ -9,14 +9,17 @@ from typing import List
 
 from stand_in import ROOT, Tree, is_there, waited
 
-HEADER = """typedef int bully_status;
+HEADER = """#include <stdint.h>
+typedef uint32_t bully_status;
 enum {
     BULLY_OK = 0,
 };
-bully_status bully_begin(int number);
+bully_status bully_begin(uint32_t number);
 """
+# (with the function behind the wrapper, since nothing is in the archive)
 LAYER = """#include "bully.h"
-bully_status bully_begin(int number) { return number; }
+#include "wrappers.h"
+bully_status bully_c_begin(uint32_t number) { return number; }
 """
 # What an archive has of the library, by the same names.
 LAYOUT = [
@@ -111,7 +114,8 @@ class Commands(unittest.TestCase):
     def test_library_is_made_of_the_archive_and_stays_if_that_is_not_proved(self) -> None:
         self.tree.list_crates({'base': '', 'bully_c staticlib': 'base'})
         self.tree.write('bully_c', 'src/lib.rt', '// the functions for C\n')
-        for name, text in (('include/bully.h', HEADER), ('bindings/c/bully.c', LAYER)):
+        reader = 'bindings/python/bully/header.py'
+        for name, text in (('include/bully.h', HEADER), ('bindings/c/bully.c', LAYER), (reader, (ROOT / reader).read_text())):
             (self.tree.top / name).parent.mkdir(parents=True)
             (self.tree.top / name).write_text(text)
         shutil.copytree(ROOT / 'bindings' / 'packaging', self.tree.top / 'bindings' / 'packaging')
@@ -128,6 +132,12 @@ class Commands(unittest.TestCase):
         self.tree.write('base', 'src/lib.rt', '// another base\n')
         (self.tree.room / 'refuse' / 'base').touch()
         self.assertEqual(self.tree.call('library', str(folder)).returncode, 1)
+        self.assertEqual({name: (folder / name).stat().st_ino for name in files_of(folder)}, before)
+        proved = len(self.tree.words())
+        (self.tree.top / 'include' / 'bully.h').write_text(HEADER.replace('uint32_t number', 'int number'))
+        refused, begun = self.tree.call('library', str(folder)), len(self.tree.words())
+        self.assertEqual((refused.returncode, begun), (1, proved))
+        self.assertIn('library: bully.h: number of bully_begin is no number of a known size', refused.stderr)
         self.assertEqual({name: (folder / name).stat().st_ino for name in files_of(folder)}, before)
         self.assertEqual([self.tree.call('library', *words).returncode for words in (('',), ('a', 'b'), ('--other', 'a'), ('--gated',), ('--gated', 'a', 'b'), ('--gate', 'a'))], [2] * 6)
 

@@ -166,6 +166,16 @@ comes_to_rest() {
     } | cmp -s - verdict
 }
 
+# Prints so many times a number, parted by spaces.
+numbers() {
+    yes "$2" | head -n "$1" | paste -s -d ' ' | tr -d '\n'
+}
+
+# Prints so many bytes of a row that has no form.
+long() {
+    head -c "$1" /dev/zero | tr '\0' x
+}
+
 # Prints the configuration of one node with a comment of so many bytes.
 comment() {
     cat one_node.toml

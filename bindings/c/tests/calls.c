@@ -10,6 +10,7 @@ int main(int count, char **words) {
         return 2;
     }
     try_names(words[2], words[3]);
+    try_nulls();
     try_arguments();
     try_headers();
     try_configurations();

@@ -50,15 +50,8 @@ static void try_zero(void) {
     EXPECT(length == 18 && memcmp(room, "bully,1,1,3\n3:a\0b\n", 18) == 0);
 }
 
-static void try_arguments_of_it(void) {
-    char room[ROOM];
+static void try_no_text(void) {
     size_t length = 77;
-    ANSWERS(NULL, bully_configuration(NULL, 1, room, sizeof room, &length));
-    ANSWERS(NULL, bully_configuration((const uint8_t *)"", TOO_MANY_BYTES, room, sizeof room, &length));
-    ANSWERS(NULL, bully_configuration((const uint8_t *)"", 0, NULL, 1, &length));
-    ANSWERS(NULL, bully_configuration((const uint8_t *)"", 0, room, TOO_MANY_BYTES, &length));
-    ANSWERS(NULL, bully_configuration((const uint8_t *)"", 0, room, sizeof room, NULL));
-    EXPECT(length == 77);
     ANSWERS(SHORT, bully_configuration(NULL, 0, NULL, 0, &length));
     EXPECT(length == strlen("Missing nodes"));
 }
@@ -69,5 +62,5 @@ void try_configurations(void) {
         try_one(told[at].text, told[at].status, told[at].told);
     }
     try_zero();
-    try_arguments_of_it();
+    try_no_text();
 }

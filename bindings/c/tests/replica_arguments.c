@@ -1,107 +1,12 @@
-/* Each argument of a replica's calls, and of bully_header, wrong in turn: null pointers, lengths that no memory has, closed handles,
- * pointers to no items, numbers of no node and of no event, and room that is too small. */
+/* Arguments of a replica's calls, and of bully_header: pointers to no items, numbers of no node and of no event, and room that is too
+ * small. (nulls.c tries what is null, too long, or not open.) */
 #include "shared.h"
 
 #include <string.h>
 
-/* ---- Null pointers, and closed handles ---- */
-
-static const uint16_t one_weight[1] = {1};
-
-static void try_null_of_header(void) {
-    bully_setup setup = setup_of(1, 1, 10);
-    char row[ROOM] = "as it was";
-    size_t length = 77;
-    ANSWERS(NULL, bully_header(NULL, NULL, 0, row, sizeof row, &length));
-    ANSWERS(NULL, bully_header(&setup, NULL, 1, row, sizeof row, &length));
-    ANSWERS(NULL, bully_header(&setup, one_weight, TOO_MANY_PAIRS, row, sizeof row, &length));
-    ANSWERS(NULL, bully_header(&setup, NULL, 0, NULL, 1, &length));
-    ANSWERS(NULL, bully_header(&setup, NULL, 0, row, TOO_MANY_BYTES, &length));
-    ANSWERS(NULL, bully_header(&setup, NULL, 0, row, sizeof row, NULL));
-    /* (also of a wrong setup) */
-    setup.nodes = 0;
-    ANSWERS(NULL, bully_header(&setup, NULL, 0, NULL, 1, &length));
-    EXPECT(length == 77 && strcmp(row, "as it was") == 0);
-}
+/* ---- Pointers to no items ---- */
 
 static const char one_header[] = "bully,1,1,1\n", one_row[] = "recover,1\n";
-
-/* Of a replica that is open, or isn't. */
-static void try_null_of_log(bully_replica *replica) {
-    char row[ROOM];
-    size_t length = 77;
-    ANSWERS(NULL, bully_replica_open(NULL, one_header, 12));
-    ANSWERS(NULL, bully_replica_open(replica, NULL, 12));
-    ANSWERS(NULL, bully_replica_open(replica, one_header, TOO_MANY_BYTES));
-    ANSWERS(NULL, bully_replica_open(replica, one_header, SIZE_MAX));
-    ANSWERS(NULL, bully_replica_close(NULL));
-    ANSWERS(NULL, bully_replica_learn(NULL, one_row, 10, &length));
-    ANSWERS(NULL, bully_replica_learn(replica, NULL, 10, &length));
-    ANSWERS(NULL, bully_replica_learn(replica, one_row, TOO_MANY_BYTES, &length));
-    ANSWERS(NULL, bully_replica_learn(replica, one_row, 10, NULL));
-    ANSWERS(NULL, bully_replica_next(NULL, 1, row, sizeof row, &length));
-    ANSWERS(NULL, bully_replica_next(replica, 1, NULL, 1, &length));
-    ANSWERS(NULL, bully_replica_next(replica, 1, row, TOO_MANY_BYTES, &length));
-    ANSWERS(NULL, bully_replica_next(replica, 0, row, sizeof row, NULL));
-    ANSWERS(NULL, bully_replica_event(NULL, 1, BULLY_EVENT_RECOVER, row, sizeof row, &length));
-    ANSWERS(NULL, bully_replica_event(replica, 1, BULLY_EVENT_RECOVER, NULL, 1, &length));
-    ANSWERS(NULL, bully_replica_event(replica, 1, BULLY_EVENT_RECOVER, row, TOO_MANY_BYTES, &length));
-    ANSWERS(NULL, bully_replica_event(replica, 0, 0, row, sizeof row, NULL));
-    EXPECT(length == 77);
-}
-
-static void try_null_of_sights(bully_replica *replica) {
-    bully_state state;
-    bully_group group;
-    uint16_t items[1];
-    size_t count = 77;
-    ANSWERS(NULL, bully_replica_show(NULL, 1, &state));
-    ANSWERS(NULL, bully_replica_show(replica, 0, NULL));
-    ANSWERS(NULL, bully_replica_up(NULL, 1, items, 1, &count));
-    ANSWERS(NULL, bully_replica_up(replica, 1, NULL, 1, &count));
-    ANSWERS(NULL, bully_replica_up(replica, 1, items, TOO_MANY_PAIRS, &count));
-    ANSWERS(NULL, bully_replica_up(replica, 0, items, 1, NULL));
-    ANSWERS(NULL, bully_replica_task(NULL, 1, items, 1, &count));
-    ANSWERS(NULL, bully_replica_task(replica, 1, NULL, 1, &count));
-    ANSWERS(NULL, bully_replica_task(replica, 1, items, TOO_MANY_PAIRS, &count));
-    ANSWERS(NULL, bully_replica_task(replica, 0, items, 1, NULL));
-    ANSWERS(NULL, bully_replica_group(NULL, &group));
-    ANSWERS(NULL, bully_replica_group(replica, NULL));
-    ANSWERS(NULL, bully_replica_planned(NULL, items, 1, &count));
-    ANSWERS(NULL, bully_replica_planned(replica, NULL, 1, &count));
-    ANSWERS(NULL, bully_replica_planned(replica, items, TOO_MANY_PAIRS, &count));
-    ANSWERS(NULL, bully_replica_planned(replica, items, 1, NULL));
-    EXPECT(count == 77);
-}
-
-/* What is written if the replica isn't open: nothing, whatever node is meant. */
-static void try_closed_replica(bully_replica *replica, uint16_t node) {
-    bully_state state;
-    bully_group group;
-    uint16_t items[1] = {77};
-    char row[ROOM] = "as it was";
-    size_t count = 77;
-    memset(&state, 77, sizeof state);
-    memset(&group, 77, sizeof group);
-    ANSWERS(CLOSED, bully_replica_close(replica));
-    ANSWERS(CLOSED, bully_replica_learn(replica, one_row, 10, &count));
-    ANSWERS(CLOSED, bully_replica_learn(replica, one_row, 9, &count));
-    ANSWERS(CLOSED, bully_replica_learn(replica, NULL, 0, &count));
-    ANSWERS(CLOSED, bully_replica_next(replica, node, row, sizeof row, &count));
-    ANSWERS(CLOSED, bully_replica_next(replica, node, NULL, 0, &count));
-    ANSWERS(CLOSED, bully_replica_event(replica, node, BULLY_EVENT_RECOVER, row, sizeof row, &count));
-    ANSWERS(CLOSED, bully_replica_event(replica, node, 0, NULL, 0, &count));
-    ANSWERS(CLOSED, bully_replica_show(replica, node, &state));
-    ANSWERS(CLOSED, bully_replica_up(replica, node, items, 1, &count));
-    ANSWERS(CLOSED, bully_replica_task(replica, node, items, 1, &count));
-    ANSWERS(CLOSED, bully_replica_group(replica, &group));
-    ANSWERS(CLOSED, bully_replica_planned(replica, items, 1, &count));
-    ANSWERS(CLOSED, bully_replica_planned(replica, NULL, 0, &count));
-    EXPECT(items[0] == 77 && count == 77 && strcmp(row, "as it was") == 0);
-    EXPECT(state.events == 0x4d4d4d4d && state.callee == 0x4d4d && group.rows == 0x4d4d4d4d && group.keeps == 0x4d4d);
-}
-
-/* ---- Pointers to no items ---- */
 
 static void try_no_rows(void) {
     bully_setup setup = setup_of(1, 1, 10);
@@ -129,25 +34,6 @@ static void try_no_rows(void) {
     ANSWERS(OK, bully_replica_planned(&replica, NULL, 0, &count));
     EXPECT(count == 0);
     ANSWERS(OK, bully_replica_close(&replica));
-}
-
-/* A null pointer is told before anything else, of an open replica and of a closed one. */
-static void try_null_of_replica(void) {
-    bully_replica replica = BULLY_REPLICA_CLOSED;
-    bully_group group = {77, 77, 77, 77, 77, 77, 77};
-    try_null_of_log(&replica);
-    try_null_of_sights(&replica);
-    EXPECT(replica.held == NULL);
-    try_closed_replica(&replica, 1);
-    try_closed_replica(&replica, 0);
-    ANSWERS(OK, bully_replica_open(&replica, one_header, 12));
-    try_null_of_log(&replica);
-    try_null_of_sights(&replica);
-    ANSWERS(OK, bully_replica_group(&replica, &group));
-    EXPECT(group.rows == 0 && group.events == 0 && group.nodes == 1);
-    ANSWERS(OK, bully_replica_close(&replica));
-    EXPECT(replica.held == NULL);
-    try_closed_replica(&replica, 1);
 }
 
 /* ---- What is no node, and no event ---- */
@@ -262,8 +148,6 @@ static void try_short(void) {
 }
 
 void try_replica_arguments(void) {
-    try_null_of_header();
-    try_null_of_replica();
     try_no_rows();
     try_bad_numbers();
     try_short();

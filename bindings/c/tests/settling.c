@@ -135,43 +135,6 @@ static void try_settling_of_three(void) {
 
 /* ---- Arguments ---- */
 
-static void try_null_of_settling(bully_replica *replica) {
-    char text[ROOM] = "as it was";
-    uint16_t partitions[1] = {77};
-    uint32_t number = 77;
-    size_t length = 77;
-    ANSWERS(NULL, bully_replica_settle(NULL, first, 1, first, 1, text, sizeof text, &length));
-    ANSWERS(NULL, bully_replica_settle(replica, NULL, 1, first, 1, text, sizeof text, &length));
-    ANSWERS(NULL, bully_replica_settle(replica, first, TOO_MANY_PAIRS, first, 1, text, sizeof text, &length));
-    ANSWERS(NULL, bully_replica_settle(replica, first, 1, NULL, 1, text, sizeof text, &length));
-    ANSWERS(NULL, bully_replica_settle(replica, first, 1, first, TOO_MANY_PAIRS, text, sizeof text, &length));
-    ANSWERS(NULL, bully_replica_settle(replica, first, 1, first, 1, NULL, 1, &length));
-    ANSWERS(NULL, bully_replica_settle(replica, first, 1, first, 1, text, TOO_MANY_BYTES, &length));
-    ANSWERS(NULL, bully_replica_settle(replica, none, 1, first, 1, text, sizeof text, NULL));
-    ANSWERS(NULL, bully_replica_is_at_rest(NULL, first, 1, 0, &number));
-    ANSWERS(NULL, bully_replica_is_at_rest(replica, NULL, 1, 0, &number));
-    ANSWERS(NULL, bully_replica_is_at_rest(replica, first, TOO_MANY_PAIRS, 0, &number));
-    ANSWERS(NULL, bully_replica_is_at_rest(replica, none, 1, 0, NULL));
-    ANSWERS(NULL, bully_replica_owned(NULL, 1, 0, &number, partitions, 1, &length));
-    ANSWERS(NULL, bully_replica_owned(replica, 0, 0, NULL, partitions, 1, &length));
-    ANSWERS(NULL, bully_replica_owned(replica, 0, 0, &number, NULL, 1, &length));
-    ANSWERS(NULL, bully_replica_owned(replica, 0, 0, &number, partitions, TOO_MANY_PAIRS, &length));
-    ANSWERS(NULL, bully_replica_owned(replica, 0, 0, &number, partitions, 1, NULL));
-    EXPECT(length == 77 && number == 77 && partitions[0] == 77 && strcmp(text, "as it was") == 0);
-}
-
-static void try_closed_settling(bully_replica *replica) {
-    char text[ROOM] = "as it was";
-    uint16_t partitions[1] = {77};
-    uint32_t number = 77;
-    size_t length = 77;
-    ANSWERS(CLOSED, bully_replica_settle(replica, none, 1, first, 1, text, sizeof text, &length));
-    ANSWERS(CLOSED, bully_replica_settle(replica, NULL, 0, NULL, 0, NULL, 0, &length));
-    ANSWERS(CLOSED, bully_replica_is_at_rest(replica, none, 1, 0, &number));
-    ANSWERS(CLOSED, bully_replica_owned(replica, 0, 0, &number, partitions, 1, &length));
-    EXPECT(length == 77 && number == 77 && partitions[0] == 77 && strcmp(text, "as it was") == 0);
-}
-
 static void try_bad_settling(bully_replica *replica) {
     static const uint16_t short_table[] = {1}, long_table[] = {1, 2, 1}, other_owner[] = {1, 3}, last_owner[] = {2, 65535};
     char text[ROOM] = "as it was";
@@ -209,12 +172,8 @@ void try_settling(void) {
     bully_replica replica = BULLY_REPLICA_CLOSED;
     try_settling_of_two();
     try_settling_of_three();
-    try_null_of_settling(&replica);
-    try_closed_settling(&replica);
     ANSWERS(OK, bully_replica_open(&replica, TWO, strlen(TWO)));
-    try_null_of_settling(&replica);
     try_bad_settling(&replica);
     try_short_settling(&replica);
     ANSWERS(OK, bully_replica_close(&replica));
-    try_closed_settling(&replica);
 }

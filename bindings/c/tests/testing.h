@@ -17,10 +17,6 @@ int tell_counts(void);
 /* How many items an array has. */
 #define COUNT(array) (sizeof(array) / sizeof *(array))
 
-/* Lengths above PTRDIFF_MAX bytes, of single bytes and of two. */
-#define TOO_MANY_BYTES ((size_t)PTRDIFF_MAX + 1)
-#define TOO_MANY_PAIRS ((size_t)PTRDIFF_MAX / 2 + 1)
-
 /* Room for any line and any row of the tests' groups. */
 #define ROOM 400
 
@@ -70,6 +66,7 @@ extern const uint16_t two_owners[2];
 
 /* The tests of each file. `folder` has the examples, and `version` is the library's. */
 void try_names(const char *version, const char *header_folder);
+void try_nulls(void);
 void try_arguments(void);
 void try_headers(void);
 void try_configurations(void);

@@ -3,9 +3,9 @@ from __future__ import annotations
 
 from typing import TYPE_CHECKING
 
-from .header import statuses
+from .header import own
 
-_STATUSES = statuses()
+_STATUSES = own().statuses()
 FAULTS: dict[int, type[BullyError]] = {}  # by their statuses
 
 

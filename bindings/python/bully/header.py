@@ -1,8 +1,10 @@
 """What `bully.h` declares, by its names and as ctypes takes it. That header is the one source of the statuses' numbers,
-of structures and of functions, so none of them is written down here a second time."""
+of structures and of functions, so none of them is written down here a second time. In the repository `bin/building`
+reads the header by this file alone, without its package."""
 from __future__ import annotations
 
 import ctypes
+import functools
 import os
 import re
 from collections.abc import Iterator, Mapping
@@ -21,12 +23,20 @@ _POINTERS: dict[str, Any] = {
 }  # fmt: skip
 
 
+class Declared(NamedTuple):
+    """What is declared: whether it is only read, its type, as `uint16_t *`, and its name."""
+
+    is_const: bool
+    kind: str
+    name: str
+
+
 class Function(NamedTuple):
-    """A function: its name, and the types of what it gives and takes."""
+    """A function: its name, the type of what it gives, and what it takes."""
 
     name: str
     gives: str
-    takes: tuple[str, ...]
+    takes: tuple[Declared, ...]
 
 
 def top_of_tree() -> Iterator[str]:
@@ -46,51 +56,48 @@ def _places() -> Iterator[str]:
 
 
 def _text() -> str:
-    """The header without its comments, and without what is the preprocessor's."""
+    """The header's text."""
     files = [os.path.join(place, FILE) for place in _places()]
     file = next(filter(os.path.exists, files), None)
     if not file:
         raise ImportError(f'{FILE} is in none of its places: {", ".join(files)}')
     with open(file, encoding='ascii') as header:
-        text = ''.join(piece.rpartition('*/')[2] for piece in header.read().split('/*'))
-    return '\n'.join(line for line in text.splitlines() if not line.startswith('#'))
+        return header.read()
 
 
-_TEXT = _text()
+class Header:
+    """What a header of this text declares. ImportError says what isn't understood here."""
+
+    def __init__(self, text: str) -> None:
+        uncommented = ''.join(piece.rpartition('*/')[2] for piece in text.split('/*'))
+        self._text = '\n'.join(line for line in uncommented.splitlines() if not line.startswith('#'))
+
+    def statuses(self) -> dict[str, int]:
+        """The numbers of the statuses by their names, as `OK`."""
+        [listed] = re.findall(r'typedef uint32_t bully_status;\s*enum \{(.*?)\}', self._text, re.DOTALL)
+        return {name: int(number) for name, number in re.findall(r'BULLY_(\w+) = (\d+)', listed)}
+
+    def structures(self) -> Iterator[tuple[str, list[Declared]]]:
+        """The structures, each with its fields in their order."""
+        for name, listed in re.findall(r'typedef struct (\w+) \{(.*?)\}', self._text, re.DOTALL):
+            yield name, list(map(_declared, listed.split(';')[:-1]))
+
+    def functions(self) -> Iterator[Function]:
+        """The functions, in their order."""
+        for told in self._text.split(';'):
+            head, bracket, behind = told.partition('(')
+            if bracket:
+                parameters = behind.rpartition(')')[0]
+                takes = [] if parameters == 'void' else parameters.split(',')
+                yield Function(_declared(head).name, _declared(head).kind, tuple(map(_declared, takes)))
 
 
-def statuses() -> dict[str, int]:
-    """The numbers of the statuses by their names, as `OK`."""
-    [listed] = re.findall(r'typedef uint32_t bully_status;\s*enum \{(.*?)\}', _TEXT, re.DOTALL)
-    return {name: int(number) for name, number in re.findall(r'BULLY_(\w+) = (\d+)', listed)}
-
-
-def structures() -> Iterator[tuple[str, list[tuple[str, Any]]]]:
-    """The structures, each with its fields in their order: their names with their types."""
-    for name, listed in re.findall(r'typedef struct (\w+) \{(.*?)\}', _TEXT, re.DOTALL):
-        yield name, [(field, type_of(kind, {})) for kind, field in map(_parted, listed.split(';')[:-1])]
-
-
-def functions() -> Iterator[Function]:
-    """The functions, in their order."""
-    for declared in _TEXT.split(';'):
-        head, bracket, parameters = declared.partition('(')
-        if bracket:
-            gives, name = _parted(head)
-            yield Function(name, gives, _taken(parameters.rstrip(')')))
-
-
-def _taken(parameters: str) -> tuple[str, ...]:
-    """The types of a function's parameters."""
-    return () if parameters == 'void' else tuple(_parted(one)[0] for one in parameters.split(','))
-
-
-def _parted(declared: str) -> tuple[str, str]:
-    """The type and the name of what is declared, as `uint16_t *` and `nodes`."""
-    found = re.fullmatch(r'(?:const )?(\w+ \*?)(\w+)', ' '.join(declared.split()))
+def _declared(told: str) -> Declared:
+    """What is declared, as `const uint16_t *nodes`."""
+    found = re.fullmatch(r'(const )?(\w+ \*?)(\w+)', ' '.join(told.split()))
     if not found:
-        raise ImportError(f'{FILE} declares what is not understood here: {declared}')
-    return found.group(1).rstrip(), found.group(2)
+        raise ImportError(f'{FILE} declares what is not understood here: {" ".join(told.split())}')
+    return Declared(bool(found.group(1)), found.group(2).rstrip(), found.group(3))
 
 
 def type_of(kind: str, structures: Mapping[str, Any]) -> Any:
@@ -101,3 +108,9 @@ def type_of(kind: str, structures: Mapping[str, Any]) -> Any:
     if target in structures:
         return ctypes.POINTER(structures[target])
     return ctypes.c_void_p if target.startswith('bully_') else _POINTERS[target]
+
+
+@functools.lru_cache(maxsize=None)
+def own() -> Header:
+    """The header that came with this package."""
+    return Header(_text())

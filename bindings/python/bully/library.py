@@ -9,7 +9,7 @@ from collections.abc import Callable, Iterable, Iterator, Sequence
 from typing import Any, NoReturn, TypeVar, Union
 
 from .faults import BadConfig, Short, TableLength, expect_ok
-from .header import HERE, functions, structures, top_of_tree, type_of
+from .header import HERE, own, top_of_tree, type_of
 from .values import Call, CallKind, Line, Owned, Rows, State, Status, Want
 
 FILE = 'libbully.so'
@@ -22,7 +22,8 @@ UINT64_MAX = 0xFFFF_FFFF_FFFF_FFFF
 
 # The header's structures, by its names.
 STRUCTURES: dict[str, type[ctypes.Structure]] = {
-    name: type(name, (ctypes.Structure,), {'_fields_': fields}) for name, fields in structures()
+    name: type(name, (ctypes.Structure,), {'_fields_': [(field.name, type_of(field.kind, {})) for field in fields]})
+    for name, fields in own().structures()
 }
 
 
@@ -38,7 +39,7 @@ _loaded: list[ctypes.CDLL] = []
 def _prototypes() -> list[tuple[str, Any, list[Any]]]:
     """The functions of the library, with the types of what they give and take."""
     typed = functools.partial(type_of, structures=STRUCTURES)
-    return [(name, typed(gives), list(map(typed, takes))) for name, gives, takes in functions()]
+    return [(name, typed(gives), [typed(one.kind) for one in takes]) for name, gives, takes in own().functions()]
 
 
 def _declared(library: ctypes.CDLL, prototypes: list[tuple[str, Any, list[Any]]]) -> ctypes.CDLL:

@@ -16,7 +16,7 @@ from typing import Any
 import bully
 from bully import Answer, CallKind, Status, VerdictKind, Want
 from bully.faults import FAULTS
-from bully.header import functions
+from bully.header import own
 from bully.values import Event
 from .places import PYTHON, ROOT
 
@@ -67,7 +67,7 @@ class Headers(unittest.TestCase):
         told = dict(re.findall(r'^\w.*\b(bully_\w+)\(([^)]*)\);$', self.text, re.MULTILINE))
         self.assertGreater(len(told), 50)
         wanted = {name: 0 if taken == 'void' else 1 + taken.count(',') for name, taken in told.items()}
-        self.assertEqual({name: len(takes) for name, _, takes in functions()}, wanted)
+        self.assertEqual({name: len(takes) for name, _, takes in own().functions()}, wanted)
 
     def test_statuses(self) -> None:
         """Each status of the header has its exception, which has its name, and no other number has a name."""

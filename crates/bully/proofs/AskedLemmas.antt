@@ -1,11 +1,12 @@
 -- From what an action asks for to what the words ask for, and where the trace stands.
-use Rattle.std.proofs.Common.{◌≡◌, ◌⊎◌, inl, inr, ℕ, Bool, true, false, List, [], Option, Some, None, arith, codes, refl, subst}
+use Rattle.std.proofs.Common.{◌≡◌, ◌⊎◌, inl, inr, ℕ, Bool, true, false, List, [], Option, Some, None, arith, refl, subst}
 use Rattle.std.specs.Prelude.{IfSome, MatchOption, is_some}
 use Rattle.std.specs.Io.KnownBytes.{Appends, Keeps}
 use Rattle.bully_cli.specs.Shells.{shell_named}
 use Rattle.bully_cli.specs.declared.shells.Shell.{Shell}
 use Rattle.bully_cli.specs.Words.{Asked, annotating, checking, completing, drawing, explaining, following, planning, playing, running, upgrading}
 use Rattle.bully.specs.Answer.{IsBadWord, IsCheckAnswer, IsShort, KnownBytes, is_given}
+use Rattle.bully.specs.BadWords.{shell_line}
 use Rattle.bully.specs.AskedAnswer.{IsAnswerFrom, IsAnswerTo, IsUnopened, path_asked}
 use Rattle.bully.specs.ConfigAnswer.{IsStopped}
 use Rattle.bully.specs.ExplainAnswer.{IsConfigExplained, IsExplainAnswer}
@@ -30,12 +31,13 @@ module _ (Opens : KnownBytes → Type 0) (what : Asked) (output output' errors e
       → IsAnswerFrom Opens what input output output' errors errors' status
   unopened input path some kept told = rw some (inl (kept, told))
 
--- the words of `explain`
-pub explained-to : (file config json : Option (List ℕ)) (input output output' errors errors' : KnownBytes) (status : ℕ)
-    → MatchOption config (IfSome input (λ bytes. IsExplainAnswer (is_given json) bytes output output' errors errors' status)) (λ _. IsConfigExplained (is_some file) (is_given json) output output' errors errors' status)
-    → IsAnswerTo (explaining file config json) input output output' errors errors' status
-explained-to file None json input output output' errors errors' status answered = answered
-explained-to file (Some path) json input output output' errors errors' status answered = answered
+-- the words of `explain`, of a trace of which so much is given
+pub explained-to : (file config json : Option (List ℕ)) (given known output output' errors errors' : KnownBytes) (status : ℕ) → given ≡ known
+    → MatchOption config (IfSome given (λ bytes. IsExplainAnswer (is_given json) bytes output output' errors errors' status)) (λ _. IsConfigExplained (is_some file) (is_given json) output output' errors errors' status)
+    → IsAnswerTo (explaining file config json) known output output' errors errors' status
+explained-to file None json given known output output' errors errors' status same answered =
+    subst (λ known. IfSome known (λ bytes. IsExplainAnswer (is_given json) bytes output output' errors errors' status)) same answered
+explained-to file (Some path) json given known output output' errors errors' status same answered = answered
 
 -- ---- there is no memory for the words
 
@@ -56,7 +58,7 @@ module _ (output output' errors errors' : KnownBytes) (status : ℕ) (short : Is
   short-config false true = inr short
   short-config false false = ([], inr (inr stopped))
 
-  short-shell : (named : Option Shell) → MatchOption named (IsBadWord (codes "bully: words: Shell\n") output output' errors errors' status ⊎ IsShort output output' errors errors' status)
+  short-shell : (named : Option Shell) → MatchOption named (IsBadWord shell_line output output' errors errors' status ⊎ IsShort output output' errors errors' status)
       (λ shell. ((text : List ℕ) × Appends output output' text × Keeps errors errors' × (status ≡ 0)) ⊎ IsStopped output output' errors errors' status)
   short-shell None = inr short
   short-shell (Some it) = inr stopped

@@ -1,5 +1,5 @@
 -- From what a film and a picture of it ensure to what the program answers to `draw`.
-use Rattle.std.proofs.Common.{◌≡◌, ◌⊎◌, ◌∙◌, inl, inr, ℕ, zero, suc, ◌<◌, ◌+◌, List, [], ◌∷◌, ◌++◌, Option, Some, None, Result, Ok, Err, codes, get_or, map, take, refl, sym, ap, subst, arith}
+use Rattle.std.proofs.Common.{◌≡◌, ◌⊎◌, ◌∙◌, inl, inr, ℕ, zero, suc, ◌<◌, ◌+◌, List, [], ◌∷◌, ◌++◌, Option, Some, None, Result, Ok, Err, get_or, map, take, refl, sym, ap, subst, arith}
 use Rattle.std.specs.Prelude.{IfOk, IfSome, MatchOption, length, option_map, slice_get}
 use Rattle.std.specs.Io.KnownBytes.{Appends}
 use Rattle.std.proofs.lemmas.List.{map-append, take_more}
@@ -26,6 +26,7 @@ use Rattle.bully_picture.specs.declared.claims.Claims.{Claims}
 use Rattle.bully.specs.declared.drawing.Drawing.{Drawing}
 use Rattle.bully.specs.declared.drawing.Form.{Form}
 use Rattle.bully.specs.Answer.{IsBadWord, IsShort, is_given, IsUntaken, KnownBytes, Tells, stop_line, verdict_status}
+use Rattle.bully.specs.BadWords.{html_line, rows_line}
 use Rattle.bully.specs.ConfigAnswer.{IsNotDone}
 use Rattle.bully.specs.DrawAnswer.{IsBelow, IsDrawAnswer, IsFormAnswer, IsNamedPicture, IsPictureAnswer, IsPictureBy, IsPictureIn, IsPictureOf, IsSvgOf, IsTextOf, IsWordRefused, drawing_asked, form_asked, names_in, window_asked}
 use Rattle.bully.specs.Wanted.{ReadsAs}
@@ -155,7 +156,7 @@ window-answer (Some bytes) window form words output output' errors errors' statu
 
 -- the rows are no window
 pub no-window : (remaining : KnownBytes) (form : Form) (words : Drawn) (output output' errors errors' : KnownBytes) (status : ℕ) → window_asked words.rows ≡ None
-    → IsBadWord (codes "bully: words: Rows\n") output output' errors errors' status
+    → IsBadWord rows_line output output' errors errors' status
     → IfSome remaining (λ bytes. IsFormAnswer bytes words form output output' errors errors' status)
 no-window None form words output output' errors errors' status is told = tt
 no-window (Some bytes) form words output output' errors errors' status is told = rw is (inl told)
@@ -170,7 +171,7 @@ form-answer (Some bytes) form words output output' errors errors' status is answ
 
 -- two are
 pub two-forms : (remaining : KnownBytes) (words : Drawn) (output output' errors errors' : KnownBytes) (status : ℕ)
-    → form_asked (is_given words.text) (is_given words.html) ≡ None → IsBadWord (codes "bully: words: Html\n") output output' errors errors' status
+    → form_asked (is_given words.text) (is_given words.html) ≡ None → IsBadWord html_line output output' errors errors' status
     → IfSome remaining (λ bytes. IsDrawAnswer bytes words output output' errors errors' status)
 two-forms None words output output' errors errors' status is told = tt
 two-forms (Some bytes) words output output' errors errors' status is told = rw is (inl told)
@@ -185,12 +186,12 @@ short-answer (Some bytes) words output output' errors errors' status (keeps, tol
     by_names drawing None = inr (inr (Stop.OutOfMemory, (λ _. keeps), (λ e. absurd (grind (arith, e))), told, stopped))
     by_names drawing (Some path) = ([], inr (inr (Stop.OutOfMemory, (λ _. keeps), told, stopped)))
 
-    by_window : (form : Form) (window : Option WindowState) → MatchOption window (IsWordRefused (codes "bully: words: Rows\n") output output' errors errors' status)
+    by_window : (form : Form) (window : Option WindowState) → MatchOption window (IsWordRefused rows_line output output' errors errors' status)
         (λ window. IsNamedPicture bytes words.names (drawing_asked words form window) output output' errors errors' status)
     by_window form None = inr (keeps, told, stopped)
     by_window form (Some window) = by_names (drawing_asked words form window) words.names
 
-    by_form : (form : Option Form) → MatchOption form (IsWordRefused (codes "bully: words: Html\n") output output' errors errors' status)
+    by_form : (form : Option Form) → MatchOption form (IsWordRefused html_line output output' errors errors' status)
         (λ form. IsFormAnswer bytes words form output output' errors errors' status)
     by_form None = inr (keeps, told, stopped)
     by_form (Some form) = by_window form (window_asked words.rows)

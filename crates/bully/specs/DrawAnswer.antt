@@ -1,5 +1,5 @@
 -- What the program answers to `draw`: the status, and what then stands on the output and on the errors.
-use Rattle.std.specs.Prelude.{◌≡◌, ◌⊎◌, ℕ, Bool, true, false, List, [], ◌++◌, Option, Some, None, MatchOption, Ok, codes, length, slice_get, if◌then◌else◌}
+use Rattle.std.specs.Prelude.{◌≡◌, ◌⊎◌, ℕ, Bool, true, false, List, [], ◌++◌, Option, Some, None, MatchOption, Ok, length, slice_get, if◌then◌else◌}
 use Rattle.std.specs.Io.KnownBytes.{Appends, Keeps}
 use Rattle.bully_rows.specs.declared.trace.Row.{Row}
 use Rattle.bully_rows.specs.Rows.{records_of, trace_of}
@@ -24,6 +24,7 @@ use Rattle.bully_picture.specs.declared.claims.Claims.{Claims}
 use Rattle.bully.specs.declared.drawing.Drawing.{Drawing}
 use Rattle.bully.specs.declared.drawing.Form.{Form}
 use Rattle.bully.specs.Answer.{IsBadWord, IsShort, IsUntaken, KnownBytes, is_given, verdict_status}
+use Rattle.bully.specs.BadWords.{html_line, rows_line}
 use Rattle.bully.specs.ConfigAnswer.{IsNotDone}
 use Rattle.bully.specs.Wanted.{ReadsAs}
 
@@ -138,12 +139,12 @@ IsWordRefused line output output' errors errors' status = IsBadWord line output 
 -- the answer to `draw` in this form
 abbrev pub IsFormAnswer : List ℕ → Drawn → Form → KnownBytes → KnownBytes → KnownBytes → KnownBytes → ℕ → Type 0
 IsFormAnswer bytes words form output output' errors errors' status =
-    MatchOption (window_asked words.rows) (IsWordRefused (codes "bully: words: Rows\n") output output' errors errors' status)
+    MatchOption (window_asked words.rows) (IsWordRefused rows_line output output' errors errors' status)
     (λ window. IsNamedPicture bytes words.names (drawing_asked words form window) output output' errors errors' status)
 
 -- the answer to `draw` with these bytes on the input. Exactly two forms at once and the rows that can't be shown are refused, before all
 -- else; then may be the configuration whose names are asked for
 abbrev pub IsDrawAnswer : List ℕ → Drawn → KnownBytes → KnownBytes → KnownBytes → KnownBytes → ℕ → Type 0
 IsDrawAnswer bytes words output output' errors errors' status =
-    MatchOption (form_asked (is_given words.text) (is_given words.html)) (IsWordRefused (codes "bully: words: Html\n") output output' errors errors' status)
+    MatchOption (form_asked (is_given words.text) (is_given words.html)) (IsWordRefused html_line output output' errors errors' status)
     (λ form. IsFormAnswer bytes words form output output' errors errors' status)

@@ -1,5 +1,5 @@
 -- What the program answers to `explain`: the status, and what then stands on the output and on the errors.
-use Rattle.std.specs.Prelude.{◌≡◌, ◌⊎◌, ℕ, Bool, true, false, List, ◌++◌, None, Some, Ok, Err, codes}
+use Rattle.std.specs.Prelude.{◌≡◌, ◌⊎◌, ℕ, Bool, true, false, List, ◌++◌, None, Some, Ok, Err}
 use Rattle.std.specs.Io.KnownBytes.{Appends, Keeps}
 use Rattle.bully_rows.specs.declared.trace.TraceFault.{TraceFault}
 use Rattle.bully_rows.specs.Rows.{records_of, trace_of}
@@ -13,6 +13,7 @@ use Rattle.bully_config.specs.declared.fault.ConfigFault.{ConfigFault}
 use Rattle.bully_draft.specs.ConfigTold.{IsConfigText}
 use Rattle.bully_explain.specs.SheetText.{IsFormText, IsSheetText}
 use Rattle.bully.specs.Answer.{IsBadWord, IsShort, IsStopAnswer, KnownBytes, Tells, row_line, verdict_status}
+use Rattle.bully.specs.BadWords.{file_line, json_line}
 use Rattle.bully.specs.ConfigAnswer.{IsStopped}
 use Rattle.bully.specs.RefusalText.{refusal_line}
 use Rattle.bully.specs.Wanted.{ReadsAs}
@@ -56,7 +57,7 @@ IsConfigExplainAnswer bytes output output' errors errors' status =
 -- the answer to `explain --config`, where a FILE may be given, and `--json`: each is a bad word
 abbrev pub IsConfigExplained : Bool → Bool → KnownBytes → KnownBytes → KnownBytes → KnownBytes → ℕ → Type 0
 IsConfigExplained true is_json output output' errors errors' status =
-    IsBadWord (codes "bully: words: File\n") output output' errors errors' status ⊎ IsShort output output' errors errors' status
+    IsBadWord file_line output output' errors errors' status ⊎ IsShort output output' errors errors' status
 IsConfigExplained false true output output' errors errors' status =
-    IsBadWord (codes "bully: words: Json\n") output output' errors errors' status ⊎ IsShort output output' errors errors' status
+    IsBadWord json_line output output' errors errors' status ⊎ IsShort output output' errors errors' status
 IsConfigExplained false false output output' errors errors' status = (bytes : List ℕ) × IsConfigExplainAnswer bytes output output' errors errors' status

@@ -1,5 +1,5 @@
 -- What the program answers to `follow` and to `completion`: the status, and what then stands on the errors.
-use Rattle.std.specs.Prelude.{◌≡◌, ◌⊎◌, ℕ, List, Some, Err, MatchOption, codes}
+use Rattle.std.specs.Prelude.{◌≡◌, ◌⊎◌, ℕ, List, Some, Err, MatchOption}
 use Rattle.std.specs.Io.KnownBytes.{Appends, Keeps}
 use Rattle.bully_cli.specs.Shells.{shell_named}
 use Rattle.bully_rows.specs.declared.trace.TraceFault.{TraceFault}
@@ -7,6 +7,7 @@ use Rattle.bully_rows.specs.Rows.{records_of, trace_of}
 use Rattle.bully_trace.specs.declared.verdict.Verdict.{Verdict}
 use Rattle.bully_follow.specs.Followed.{IsFollowedAs}
 use Rattle.bully.specs.Answer.{IsBadWord, IsShort, KnownBytes, Tells, row_line, stop_line, verdict_status}
+use Rattle.bully.specs.BadWords.{shell_line}
 use Rattle.bully.specs.ConfigAnswer.{IsStopped}
 use Rattle.bully.specs.declared.telling.Stop.{Stop}
 
@@ -22,5 +23,5 @@ IsFollowAnswer bytes errors errors' status =
 abbrev pub IsCompletionAnswer : List ℕ → KnownBytes → KnownBytes → KnownBytes → KnownBytes → ℕ → Type 0
 IsCompletionAnswer name output output' errors errors' status =
     MatchOption (shell_named name)
-    (IsBadWord (codes "bully: words: Shell\n") output output' errors errors' status ⊎ IsShort output output' errors errors' status)
+    (IsBadWord shell_line output output' errors errors' status ⊎ IsShort output output' errors errors' status)
     (λ shell. ((text : List ℕ) × Appends output output' text × Keeps errors errors' × (status ≡ 0)) ⊎ IsStopped output output' errors errors' status)

@@ -1,6 +1,8 @@
 pub mod Answer
+pub mod BadWords
 pub mod AnnotateAnswer
 pub mod ExplainAnswer
+pub mod Filming
 pub mod PlanText
 pub mod RefusalText
 pub mod Wanted

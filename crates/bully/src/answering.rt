@@ -3,7 +3,7 @@ ghost use Rattle.clap.specs.Words.{kind_of};
 ghost use Rattle.bully_cli.specs.Words.{Asked, ParsesAs, asked_for, asks_for_help, is_help, is_mistake, text_of, texts_of};
 ghost use Rattle.bully.specs.Answer.{IsAnswer, Tells, stop_line};
 ghost use Rattle.bully.specs.AskedAnswer.{IsAnswerFrom, IsAnswerTo, follows, path_asked};
-ghost use Rattle.bully.specs.Inputs.{remaining_in};
+ghost use Rattle.bully.specs.Inputs.{bounded_in, remaining_in};
 
 use crate::annotating::answer_annotate;
 use crate::checking::answer_check;
@@ -19,6 +19,7 @@ use crate::tables::answer_table;
 use crate::telling::{Stop, answer_stop, finish};
 use crate::upgrading::answer_upgrade;
 use bully_cli::{Action, action_of};
+use bully_text::BoundedRows;
 use clap::Error;
 use clap::error::ErrorKind;
 use std::convert::AsStr;
@@ -46,8 +47,8 @@ pub fn answer<
     W: Write,
     E: Write,
 >(rt: &H, words: &[S], input: R, output: &mut W, errors: &mut E) -> u8
-    ensures check { map S.text words.now ≡ codes "check" ∷ [] → IfSome (R.remaining input) (λ bytes. IsAnswer bytes (W.contents output.old) (W.contents output.new) (E.contents errors.old) (E.contents errors.new) result) }
-    ensures asked { (what : Asked) → ParsesAs (map S.text words.now) what → IsAnswerFrom (λ known. (file : H.File) × (known ≡ H.File.remaining file)) what (R.remaining input) (W.contents output.old) (W.contents output.new) (E.contents errors.old) (E.contents errors.new) result }
+    ensures check { map S.text words.now ≡ codes "check" ∷ [] → IfSome (bounded_in (R.remaining input)) (λ bytes. IsAnswer bytes (W.contents output.old) (W.contents output.new) (E.contents errors.old) (E.contents errors.new) result) }
+    ensures asked { (what : Asked) → ParsesAs (map S.text words.now) what → IsAnswerFrom (λ known. (file : H.File) × (known ≡ bounded_in (H.File.remaining file))) what (bounded_in (R.remaining input)) (W.contents output.old) (W.contents output.new) (E.contents errors.old) (E.contents errors.new) result }
     ensures mistake { is_mistake (map S.text words.now) ≡ true → ((result ≡ 2) ⊎ ((result ≡ 4) × Tells (E.contents errors.old) (E.contents errors.new) (stop_line Stop.OutOfMemory))) × (output.new ≡ output.old) }
     ensures help { asks_for_help (map S.text words.now) ≡ true → ((result ≡ 0) × (errors.new ≡ errors.old)) ⊎ ((result ≡ 4) × (stop : Stop) × Tells (E.contents errors.old) (E.contents errors.new) (stop_line stop)) }
     ensures silent { result ≡ 2 → output.new ≡ output.old }
@@ -68,7 +69,7 @@ fn act<H: Files + AllocGlobal + Clock + Threads + Wait + Sync, R: Read + Drop, W
     output: &mut W,
     errors: &mut E,
 ) -> u8
-    ensures answer { IsAnswerFrom (λ known. (file : H.File) × (known ≡ H.File.remaining file)) (texts_of action.now) (R.remaining input) (W.contents output.old) (W.contents output.new) (E.contents errors.old) (E.contents errors.new) result }
+    ensures answer { IsAnswerFrom (λ known. (file : H.File) × (known ≡ bounded_in (H.File.remaining file))) (texts_of action.now) (bounded_in (R.remaining input)) (W.contents output.old) (W.contents output.new) (E.contents errors.old) (E.contents errors.new) result }
     ensures silent { result ≡ 2 → output.new ≡ output.old }
     ensures unwritten { result ≡ 3 → (output.new ≡ output.old) ⊎ follows (Some (texts_of action.now)) }
     ensures status { result ≤ 4 }
@@ -106,7 +107,7 @@ fn path_of<'a>(action: &Action<'a>) -> Option<&'a str>
     if path == "-" { None } else { Some(path) }
 }
 
-// Does this with the trace on the input, and tells the status.
+// Does this with the trace on the input, whose rows are bounded, and tells the status.
 fn act_on<
     H: Files + AllocGlobal + Clock + Threads + Wait + Sync,
     R: Read + Drop,
@@ -114,21 +115,31 @@ fn act_on<
     W: Write,
     E: Write,
 >(rt: &H, action: &Action<'_>, input: Input<R, F>, output: &mut W, errors: &mut E) -> u8
-    ensures answer { IsAnswerTo (texts_of action.now) (remaining_in R.remaining F.remaining input) (W.contents output.old) (W.contents output.new) (E.contents errors.old) (E.contents errors.new) result }
+    ensures answer { IsAnswerTo (texts_of action.now) (bounded_in (remaining_in R.remaining F.remaining input)) (W.contents output.old) (W.contents output.new) (E.contents errors.old) (E.contents errors.new) result }
     ensures silent { result ≡ 2 → output.new ≡ output.old }
     ensures unwritten { result ≡ 3 → (output.new ≡ output.old) ⊎ follows (Some (texts_of action.now)) }
     ensures status { result ≤ 4 }
 {
     let alloc = rt.alloc();
     match action {
-        Action::Check(words) => answer_check(alloc, is_given(words.json), input, output, errors),
-        Action::Explain(words) => answer_explain(rt, words, input, output, errors),
+        Action::Check(words) => {
+            answer_check(
+                alloc,
+                is_given(words.json),
+                BoundedRows::new(input),
+                output,
+                errors,
+            )
+        }
+        Action::Explain(words) => {
+            answer_explain(rt, words, BoundedRows::new(input), output, errors)
+        }
         Action::Follow(words) => {
             answer_follow(rt, alloc, is_given(words.json), input, output, errors)
         }
-        Action::Upgrade(_) => answer_upgrade(alloc, input, output, errors),
-        Action::Annotate(_) => answer_annotate(alloc, input, output, errors),
-        Action::Draw(words) => answer_draw(rt, words, input, output, errors),
+        Action::Upgrade(_) => answer_upgrade(alloc, BoundedRows::new(input), output, errors),
+        Action::Annotate(_) => answer_annotate(alloc, BoundedRows::new(input), output, errors),
+        Action::Draw(words) => answer_draw(rt, words, BoundedRows::new(input), output, errors),
         Action::Play(path) => answer_play(rt, path, output, errors),
         Action::Run(path) => answer_run(rt, path, output, errors),
         Action::Table(words) => answer_table(rt, words, output, errors),

@@ -19,7 +19,10 @@ pub fn answer_completion<W: Write, E: Write>(
     ensures status { result ≤ 4 }
 {
     let Some(shell) = Shell::named(shell) else {
-        tell(errors, "bully: words: Shell\n");
+        tell(
+            errors,
+            "bully: words: Shell: the shell has to be bash, zsh or fish\n",
+        );
         return 2;
     };
     match completion(alloc, shell) {

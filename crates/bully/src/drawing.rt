@@ -1,14 +1,18 @@
-ghost use Rattle.std.specs.Prelude.{◌≡◌, ◌≤◌, ◌⊎◌, ℕ, List, IfOk, IfSome, OnOk, map, option_map, string_bytes};
+ghost use Rattle.std.specs.Prelude.{◌≡◌, ◌≤◌, ◌⊎◌, ℕ, List, IfErr, IfOk, IfSome, OnOk, map, option_map, string_bytes};
 ghost use Rattle.std.specs.Io.KnownBytes.{Appends};
 ghost use Rattle.bully.specs.Answer.{Tells, stop_line, verdict_status};
 ghost use Rattle.bully_cli.specs.Words.{drawn_of, text_of};
 ghost use Rattle.bully.specs.DrawAnswer.{IsBelow, IsDrawAnswer, IsFormAnswer, IsNamedPicture, IsPictureAnswer, IsPictureBy, IsPictureIn, IsPictureOf, IsSvgOf, claims_asked, form_asked, names_in, window_asked};
+ghost use Rattle.bully_film.specs.Film.{IsFilmOf};
 ghost use Rattle.bully_picture.specs.Title.{Begins};
+ghost use Rattle.bully_rows.specs.RecordsLeft.{EndsReading};
+ghost use Rattle.bully_rows.specs.Rows.{OfTrace};
 ghost use Rattle.bully_rows.specs.TraceText.{line_of, row_fields};
 
 use crate::checking::verdict_status;
 use crate::configs::{bytes_at, config_of};
 use crate::explaining::write_sheet;
+use crate::filming::{RuledFilm, film_alone, film_with_rules};
 use crate::flags::is_given;
 use crate::refusals::{Refusal, answer_refusal};
 use crate::telling::{Stop, answer_fault, answer_stop, tell};
@@ -16,10 +20,10 @@ use bully_base::{Node, OutOfMemory};
 use bully_cli::DrawWords;
 use bully_config::Config;
 use bully_explain::reason;
-use bully_film::{FinishedFilm, Window, film_of};
+use bully_film::{FinishedFilm, Window};
 use bully_page::html_page;
 use bully_picture::{Around, Claims, svg_picture, text_picture};
-use bully_rows::{Row, push_row};
+use bully_rows::{Row, TraceFault, push_row};
 use std::alloc::Global;
 use std::io::{Read, Write};
 use std::rt::Files;
@@ -57,7 +61,10 @@ pub fn answer_draw<H: Files + AllocGlobal, R: Read + Drop, W: Write, E: Write>(
     match form_of(is_given(words.text), is_given(words.html)) {
         Some(form) => draw_as(rt, words, form, input, output, errors),
         None => {
-            tell(errors, "bully: words: Html\n");
+            tell(
+                errors,
+                "bully: words: Html: give --html or --text, not both\n",
+            );
             2
         }
     }
@@ -99,7 +106,10 @@ fn draw_as<H: Files + AllocGlobal, R: Read + Drop, W: Write, E: Write>(
             draw_words(rt, words.names, drawing, input, output, errors)
         }
         None => {
-            tell(errors, "bully: words: Rows\n");
+            tell(
+                errors,
+                "bully: words: Rows: --rows takes FROM-TO, as 2-50: row 1 is the header, FROM is at most TO, and 2000 rows are the most\n",
+            );
             2
         }
     }
@@ -197,29 +207,44 @@ fn draw_input<R: Read + Drop, W: Write, E: Write>(
     ensures silent { (result ≡ 2) ⊎ (result ≡ 3) → output.new ≡ output.old }
     ensures status { result ≤ 4 }
 {
-    match film_of(alloc, input, drawing.window) {
-        Ok(finished) => draw_finished(alloc, &finished, drawing, names, output, errors),
+    match film_for(alloc, drawing, input) {
+        Ok(film) => draw_finished(alloc, &film, drawing, names, output, errors),
         Err(fault) => answer_fault(alloc, fault, errors),
+    }
+}
+
+// The film of the trace on the input, with the rules where a page is drawn.
+fn film_for<R: Read + Drop>(
+    alloc: Global,
+    drawing: Drawing,
+    input: R,
+) -> Result<RuledFilm, TraceFault>
+    ensures told { IfOk result (λ film. OfTrace (R.remaining input) (IsFilmOf drawing.window film.finished)) }
+    ensures fault { IfErr result (EndsReading (R.remaining input)) }
+{
+    match drawing.form {
+        Form::Page => film_with_rules(alloc, input, drawing.window),
+        Form::Svg | Form::Text => film_alone(alloc, input, drawing.window),
     }
 }
 
 // Draws what a film shows.
 fn draw_finished<W: Write, E: Write>(
     alloc: Global,
-    finished: &FinishedFilm,
+    film: &RuledFilm,
     drawing: Drawing,
     names: Option<&Config>,
     output: &mut W,
     errors: &mut E,
 ) -> u8
-    ensures answer { ((picture : List ℕ) × IsPictureOf drawing finished.now (names_in (option_map (λ c. c.now) names.entry)) picture × (((result ≡ verdict_status finished.now.verdict) × Appends (W.contents output.old) (W.contents output.new) picture × (errors.new ≡ errors.old))
+    ensures answer { ((picture : List ℕ) × IsPictureOf drawing film.now.finished (names_in (option_map (λ c. c.now) names.entry)) picture × (((result ≡ verdict_status film.now.finished.verdict) × Appends (W.contents output.old) (W.contents output.new) picture × (errors.new ≡ errors.old))
         ⊎ ((result ≡ 4) × Tells (E.contents errors.old) (E.contents errors.new) (stop_line Stop.Write))))
         ⊎ ((result ≡ 4) × (output.new ≡ output.old) × Tells (E.contents errors.old) (E.contents errors.new) (stop_line Stop.OutOfMemory)) }
     ensures status { (result ≤ 1) ⊎ (result ≡ 4) }
 {
-    match picture_of(alloc, finished, drawing, names) {
+    match picture_of(alloc, film, drawing, names) {
         Ok(picture) => write_sheet(
-            verdict_status(finished.verdict),
+            verdict_status(film.finished.verdict),
             picture.as_str(),
             output,
             errors,
@@ -231,15 +256,21 @@ fn draw_finished<W: Write, E: Write>(
 // The picture of what a film shows.
 fn picture_of(
     alloc: Global,
-    finished: &FinishedFilm,
+    film: &RuledFilm,
     drawing: Drawing,
     names: Option<&Config>,
 ) -> Result<String, OutOfMemory>
-    ensures { IfOk result (λ picture. IsPictureOf drawing finished.now (names_in (option_map (λ c. c.now) names.entry)) (string_bytes picture)) }
+    ensures { IfOk result (λ picture. IsPictureOf drawing film.now.finished (names_in (option_map (λ c. c.now) names.entry)) (string_bytes picture)) }
 {
-    let below = below(alloc, finished)?;
+    let below = below(alloc, film)?;
     let names = names_of(alloc, names)?;
-    picture_in(alloc, finished, drawing, names.as_slice(), below.as_str())
+    picture_in(
+        alloc,
+        &film.finished,
+        drawing,
+        names.as_slice(),
+        below.as_str(),
+    )
 }
 
 // The same above this text, with these names.
@@ -294,23 +325,24 @@ fn page_of(
     html_page(alloc, finished, picture.as_str(), names, claims, below)
 }
 
-// The line of the row that decided, and why it did; nothing of a lawful trace.
-fn below(alloc: Global, finished: &FinishedFilm) -> Result<String, OutOfMemory>
-    ensures { IfOk result (λ below. IsBelow finished.now.stop (string_bytes below)) }
+// The line of the row that decided, why it did, and the rules that it breaks; nothing of a lawful trace.
+fn below(alloc: Global, film: &RuledFilm) -> Result<String, OutOfMemory>
+    ensures { IfOk result (λ below. IsBelow film.now.finished.stop (string_bytes below)) }
 {
-    match &finished.stop {
-        Some(row) => reason_of(alloc, finished, row),
+    match &film.finished.stop {
+        Some(row) => reason_of(alloc, film, row),
         None => Ok(String::new(alloc)),
     }
 }
 
-// The line of the row that decided, and why it did.
-fn reason_of(alloc: Global, finished: &FinishedFilm, row: &Row) -> Result<String, OutOfMemory>
+// The line of the row that decided, why it did, and the rules that it breaks.
+fn reason_of(alloc: Global, film: &RuledFilm, row: &Row) -> Result<String, OutOfMemory>
     ensures { IfOk result (λ text. Begins (string_bytes text) (line_of (row_fields row.now))) }
 {
     let mut text = String::new(alloc);
     push_row(&mut text, row)?;
-    push_why(alloc, &mut text, finished, row)?;
+    push_why(alloc, &mut text, &film.finished, row)?;
+    text.push_str(film.rules.as_str())?;
     Ok(text)
 }
 

@@ -3,6 +3,7 @@ ghost use Rattle.std.specs.Io.KnownBytes.{Appends};
 ghost use Rattle.bully.specs.Answer.{Tells, is_given, row_line, stop_line, verdict_status};
 ghost use Rattle.bully.specs.ConfigAnswer.{IsStopped};
 ghost use Rattle.bully_cli.specs.Words.{text_of};
+ghost use Rattle.bully_text.specs.Bounded.{bounded_left};
 ghost use Rattle.bully.specs.RefusalText.{refusal_line};
 ghost use Rattle.std.specs.Str.{IsUtf8};
 ghost use Rattle.bully.specs.ExplainAnswer.{IsConfigExplainAnswer, IsConfigExplained, IsExplainAnswer, sheet_told};
@@ -19,6 +20,7 @@ use bully_draft::explain_config;
 use bully_explain::explain;
 use bully_json::sheet_line;
 use bully_rows::TraceFault;
+use bully_text::BoundedRows;
 use bully_trace::Verdict;
 use std::alloc::Global;
 use std::io::{Read, Write};
@@ -30,11 +32,11 @@ use std::str;
 pub fn answer_explain<H: Files + AllocGlobal, R: Read + Drop, W: Write, E: Write>(
     rt: &H,
     words: &ExplainWords<'_>,
-    input: R,
+    input: BoundedRows<R>,
     output: &mut W,
     errors: &mut E,
 ) -> u8
-    ensures answer { MatchOption (text_of words.now.config) (IfSome (R.remaining input) (λ bytes. IsExplainAnswer (is_given (text_of words.now.json)) bytes (W.contents output.old) (W.contents output.new) (E.contents errors.old) (E.contents errors.new) result)) (λ _. IsConfigExplained (is_some (text_of words.now.file)) (is_given (text_of words.now.json)) (W.contents output.old) (W.contents output.new) (E.contents errors.old) (E.contents errors.new) result) }
+    ensures answer { MatchOption (text_of words.now.config) (IfSome (bounded_left R.remaining input) (λ bytes. IsExplainAnswer (is_given (text_of words.now.json)) bytes (W.contents output.old) (W.contents output.new) (E.contents errors.old) (E.contents errors.new) result)) (λ _. IsConfigExplained (is_some (text_of words.now.file)) (is_given (text_of words.now.json)) (W.contents output.old) (W.contents output.new) (E.contents errors.old) (E.contents errors.new) result) }
     ensures silent { (result ≡ 2) ⊎ (result ≡ 3) → output.new ≡ output.old }
     ensures status { result ≤ 4 }
 {
@@ -43,11 +45,17 @@ pub fn answer_explain<H: Files + AllocGlobal, R: Read + Drop, W: Write, E: Write
         return explain_trace(rt.alloc(), is_json, input, output, errors);
     };
     if words.file.is_some() {
-        tell(errors, "bully: words: File\n");
+        tell(
+            errors,
+            "bully: words: File: give FILE or --config, not both\n",
+        );
         return 2;
     }
     if is_json {
-        tell(errors, "bully: words: Json\n");
+        tell(
+            errors,
+            "bully: words: Json: give --config or --json, not both\n",
+        );
         return 2;
     }
     answer_explain_config(rt, path, output, errors)
@@ -58,11 +66,11 @@ pub fn answer_explain<H: Files + AllocGlobal, R: Read + Drop, W: Write, E: Write
 fn explain_trace<R: Read + Drop, W: Write, E: Write>(
     alloc: Global,
     is_json: bool,
-    input: R,
+    input: BoundedRows<R>,
     output: &mut W,
     errors: &mut E,
 ) -> u8
-    ensures answer { IfSome (R.remaining input) (λ bytes. IsExplainAnswer is_json bytes (W.contents output.old) (W.contents output.new) (E.contents errors.old) (E.contents errors.new) result) }
+    ensures answer { IfSome (bounded_left R.remaining input) (λ bytes. IsExplainAnswer is_json bytes (W.contents output.old) (W.contents output.new) (E.contents errors.old) (E.contents errors.new) result) }
     ensures silent { (result ≡ 2) ⊎ (result ≡ 3) → output.new ≡ output.old }
     ensures status { result ≤ 4 }
 {

@@ -1,6 +1,6 @@
 ghost use Rattle.std.specs.Prelude.{◌≢◌, ◌≤◌, IfSome};
 ghost use Rattle.bully.specs.FollowAnswer.{IsFollowAnswer};
-ghost use Rattle.bully.specs.Inputs.{remaining_in};
+ghost use Rattle.bully.specs.Inputs.{bounded_in, remaining_in};
 
 use crate::checking::verdict_status;
 use crate::growing::Growing;
@@ -10,6 +10,7 @@ use bully_account::Account;
 use bully_base::OutOfMemory;
 use bully_explain::account_sheet;
 use bully_follow::{Explainer, Telling, follow};
+use bully_text::BoundedRows;
 use std::alloc::Global;
 use std::fs::OpenFile;
 use std::io::{Read, Write};
@@ -37,14 +38,21 @@ pub fn answer_follow<C: Clock, R: Read + Drop, F: Read + OpenFile + Drop, W: Wri
     output: &mut W,
     errors: &mut E,
 ) -> u8
-    ensures answer { IfSome (remaining_in R.remaining F.remaining input) (λ bytes. IsFollowAnswer bytes (E.contents errors.old) (E.contents errors.new) result) }
+    ensures answer { IfSome (bounded_in (remaining_in R.remaining F.remaining input)) (λ bytes. IsFollowAnswer bytes (E.contents errors.old) (E.contents errors.new) result) }
     ensures words { result ≢ 2 }
     ensures status { result ≤ 4 }
 {
     match input {
-        Input::Given(reader) => follow_input(clock, alloc, is_json, reader, output, errors),
+        Input::Given(reader) => follow_input(
+            clock,
+            alloc,
+            is_json,
+            BoundedRows::new(reader),
+            output,
+            errors,
+        ),
         Input::Opened(file) => {
-            let file = Growing::new(clock, file);
+            let file = BoundedRows::new(Growing::new(clock, file));
             follow_input(clock, alloc, is_json, file, output, errors)
         }
     }

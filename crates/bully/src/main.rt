@@ -15,6 +15,7 @@ mod completing;
 mod configs;
 mod drawing;
 mod explaining;
+mod filming;
 mod flags;
 mod following;
 mod growing;

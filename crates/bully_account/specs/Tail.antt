@@ -1,5 +1,5 @@
 -- A reader that keeps what it gave last, and the line at which a row of it starts.
-use Rattle.std.specs.Prelude.{◌≡◌, ℕ, ◌+◌, ◌-◌, ◌^◌, ◌<◌, ◌≤◌, ◌==◌, ◌&&◌, Bool, not, List, [], ◌∷◌, length, take, slice_index, count_by, nat_le, if◌then◌else◌}
+use Rattle.std.specs.Prelude.{◌≡◌, ℕ, ◌+◌, ◌-◌, ◌^◌, ◌<◌, ◌≤◌, ◌==◌, ◌&&◌, Bool, not, List, [], ◌∷◌, length, take, slice_index, count_by, get_or, nat_le, if◌then◌else◌}
 use Rattle.bully_account.specs.declared.TheConstants.{BYTES_KEPT}
 use Rattle.bully_account.specs.declared.tail.TailReader.{TailReader}
 
@@ -45,3 +45,7 @@ feeds_within (field ∷ fields) = feeds field + feeds_within fields
 -- the line at which a row starts that ends in this line: less the line feed that ended it, if one did, and those within its fields
 abbrev pub start_line : ℕ → Bool → List (List ℕ) → ℕ
 start_line line ended fields = line - (if ended then 1 else 0) - feeds_within fields
+
+-- the last of the fields; of none it is empty
+abbrev pub last_field : List (List ℕ) → List ℕ
+last_field fields = get_or fields (length fields - 1) []

@@ -21,7 +21,7 @@ pub use bully_calls::EventKind;
 pub use memory::{Memory, Note, What};
 pub use possible::possible_now;
 pub use showing::{NodeSheet, NodeSummary, node_sheet, shown_of};
-pub use tail::{TailReader, line_of};
+pub use tail::{TailReader, line_of, opened_at};
 pub use telling::{TraceReport, tell};
 
 /// How many of its last rows a node has remembered.

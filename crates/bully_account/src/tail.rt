@@ -1,6 +1,6 @@
-ghost use Rattle.std.specs.Prelude.{◌≡◌, ◌-◌};
+ghost use Rattle.std.specs.Prelude.{◌≡◌, ◌-◌, ◌==◌};
 ghost use Rattle.csv.specs.Records.{fields_of};
-ghost use Rattle.bully_account.specs.Tail.{ends_line, feeds, feeds_within, start_line};
+ghost use Rattle.bully_account.specs.Tail.{ends_line, feeds, feeds_within, last_field, start_line};
 
 use crate::BYTES_KEPT;
 use csv::{ByteRecord, Position};
@@ -84,6 +84,20 @@ impl<R: Read> TailReader<R> {
         self.count = kept;
     }
 
+    /// The reader of the bytes.
+    pub fn reader(&self) -> &R
+        ensures { result.now ≡ source_of self.now }
+    {
+        &self.reader
+    }
+
+    /// Whether a row that ends at this place is the last of what was given.
+    pub fn ends_at(&self, end: Position) -> bool
+        ensures { end_of self.now < 2 ^ 64 → result ≡ (end.byte == end_of self.now) }
+    {
+        end.byte == self.before.saturating_add(self.count as u64)
+    }
+
     /// Whether a line ended with the byte before which there are so many others; not where it isn't kept any more, nor where
     /// there was nothing more: then it was the end of the input that ended the last row, and what stands there is within it, or
     /// there is no line feed.
@@ -110,6 +124,16 @@ pub fn line_of<R: Read>(source: &TailReader<R>, end: Position, fields: &ByteReco
         end.line
     };
     before_feeds(last, fields)
+}
+
+/// The line in which the last of these fields starts, which nothing ended before this place.
+pub fn opened_at(end: Position, fields: &ByteRecord) -> u64
+    ensures { result ≡ end.line - feeds (last_field (fields_of fields.now)) }
+{
+    match fields.get(fields.len().saturating_sub(1)) {
+        Some(field) => end.line.saturating_sub(feeds(field) as u64),
+        None => end.line,
+    }
 }
 
 // The line from which one gets to this one by the line feeds within the fields.

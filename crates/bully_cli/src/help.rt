@@ -211,7 +211,7 @@ pub const COMPLETION: &str = "\
     Statuses: 0 written, 2 another shell, 4 Write or OutOfMemory.\n\
     \n\
     Faults, each one line on standard error:\n  \
-    bully: words: Shell            it is another shell\n  \
+    bully: words: Shell: ..        it is another shell\n  \
     bully: Write                   not all of the output could be written\n  \
     bully: OutOfMemory             an allocation failed\n\
     \n\

@@ -3,12 +3,14 @@ ghost use Rattle.bully_account.specs.TraceReport.{IsUntold};
 ghost use Rattle.bully_explain.specs.SheetText.{BeginsSheet, IsFormText, IsSheetOf};
 ghost use Rattle.bully_rows.specs.RecordsLeft.{EndsReading, IsUnread};
 ghost use Rattle.bully_rows.specs.Rows.{is_of_form};
+ghost use Rattle.bully_text.specs.Bounded.{bounded_left};
 
 use crate::form_text::form_text;
 use crate::sheet_text::sheet_text;
 use bully_account::{Account, NodeSheet, TailReader, TraceReport, tell};
 use bully_base::OutOfMemory;
 use bully_rows::{RowReader, TraceFault};
+use bully_text::BoundedRows;
 use bully_trace::Verdict;
 use std::alloc::Global;
 use std::io::Read;
@@ -26,11 +28,11 @@ pub struct Sheet {
 /// it is read, and none is kept but the one that decides; of each node its last rows are remembered, and where its call was
 /// started. Refused where there is nothing to explain: as `Read` where the reader fails, at the row behind those that were
 /// read; and as `OutOfMemory`, at row 0, where the account or the sheet can't be made. The rule: docs/FORMATS.md.
-pub fn explain<R: Read + Drop>(alloc: Global, reader: R) -> Result<Sheet, TraceFault>
-    ensures told { IfOk result (λ sheet. IsSheetOf (R.remaining reader) sheet.nodes.items (string_bytes sheet.text) sheet.told) }
+pub fn explain<R: Read + Drop>(alloc: Global, reader: BoundedRows<R>) -> Result<Sheet, TraceFault>
+    ensures told { IfOk result (λ sheet. IsSheetOf (bounded_left R.remaining reader) sheet.nodes.items (string_bytes sheet.text) sheet.told) }
     ensures form { IfOk result (λ sheet. IfErr sheet.told (λ fault. is_of_form fault.cause ≡ true)) }
     ensures sheets { IfOk result (λ sheet. IfErr sheet.told (λ fault. sheet.nodes.items ≡ [])) }
-    ensures fault { IfErr result (EndsReading (R.remaining reader)) }
+    ensures fault { IfErr result (EndsReading (bounded_left R.remaining reader)) }
     ensures untold { IfErr result IsUntold }
 {
     let mut rows = RowReader::open(alloc, TailReader::new(reader));
@@ -41,7 +43,7 @@ pub fn explain<R: Read + Drop>(alloc: Global, reader: R) -> Result<Sheet, TraceF
 // The sheet of the rows of a text of which none was read. They are taken to the account, which their header makes.
 fn read_sheet<R: Read + Drop>(
     alloc: Global,
-    rows: &mut RowReader<TailReader<R>>,
+    rows: &mut RowReader<TailReader<BoundedRows<R>>>,
     account: &mut Option<Account>,
 ) -> Result<Sheet, TraceFault>
     requires { account.old ≡ None }
@@ -63,7 +65,7 @@ fn read_sheet<R: Read + Drop>(
 // The text of the sheet.
 fn text_of<R: Read + Drop>(
     alloc: Global,
-    rows: &RowReader<TailReader<R>>,
+    rows: &RowReader<TailReader<BoundedRows<R>>>,
     account: &Option<Account>,
     told: &TraceReport,
 ) -> Result<String, OutOfMemory>

@@ -2,10 +2,11 @@ ghost use Rattle.std.specs.Prelude.{IfOk, string_bytes};
 ghost use Rattle.bully_explain.specs.SheetText.{AppendsForm, IsFormText};
 
 use crate::words::push_row_place;
-use bully_account::{Account, TailReader, line_of};
+use bully_account::{Account, TailReader, line_of, opened_at};
 use bully_base::OutOfMemory;
 use bully_draft::{Draft, push_header_misfit, push_row_misfit, push_row_shown};
 use bully_rows::{ROWS_MAX, RowReader, TraceCause, TraceFault};
+use bully_text::{BoundedRows, ROW_BYTES_MAX};
 use csv::ByteRecord;
 use std::alloc::Global;
 use std::io::Read;
@@ -14,7 +15,7 @@ use std::io::Read;
 #[tactic(auto, using(crate::proofs::SheetLemmas::form_more))]
 pub fn form_text<R: Read + Drop>(
     alloc: Global,
-    rows: &RowReader<TailReader<R>>,
+    rows: &RowReader<TailReader<BoundedRows<R>>>,
     account: &Option<Account>,
     fault: TraceFault,
 ) -> Result<String, OutOfMemory>
@@ -30,7 +31,7 @@ pub fn form_text<R: Read + Drop>(
 #[tactic(auto, using(crate::proofs::SheetLemmas::form_whole))]
 fn form_head<R: Read + Drop>(
     alloc: Global,
-    rows: &RowReader<TailReader<R>>,
+    rows: &RowReader<TailReader<BoundedRows<R>>>,
     fault: TraceFault,
 ) -> Result<String, OutOfMemory>
     ensures { IfOk result (λ text. IsFormText fault (string_bytes text)) }
@@ -43,7 +44,7 @@ fn form_head<R: Read + Drop>(
 // Appends the same.
 fn push_form_head<R: Read + Drop>(
     text: &mut Draft,
-    rows: &RowReader<TailReader<R>>,
+    rows: &RowReader<TailReader<BoundedRows<R>>>,
     fault: TraceFault,
 )
     ensures { AppendsForm fault text.old text.new }
@@ -75,7 +76,7 @@ fn push_faulty_row(text: &mut Draft, line: u64, fields: &ByteRecord, fault: Trac
 // What stands behind the head of the sheet: why the row at the fault, or the lack of one, makes no trace.
 fn form_rest<R: Read + Drop>(
     alloc: Global,
-    rows: &RowReader<TailReader<R>>,
+    rows: &RowReader<TailReader<BoundedRows<R>>>,
     account: &Option<Account>,
     cause: TraceCause,
 ) -> Result<String, OutOfMemory> {
@@ -84,11 +85,34 @@ fn form_rest<R: Read + Drop>(
         text.push_str(
             "a trace begins with a header, as bully,1,3,12: the word bully, the version, how many nodes and how many partitions there are",
         );
-    } else {
+    } else if !push_unended(&mut text, rows) {
         push_why(&mut text, rows.fields(), account, cause);
     }
     text.push_str("\n");
     text.finish()
+}
+
+// Appends why the row read last has no end, and tells whether it has none: a quote in it is never closed, or it has more bytes than it may.
+fn push_unended<R: Read + Drop>(
+    text: &mut Draft,
+    rows: &RowReader<TailReader<BoundedRows<R>>>,
+) -> bool {
+    let source = rows.source();
+    let bounded = source.reader();
+    if !source.ends_at(rows.end()) || !(bounded.is_in_quotes() || bounded.is_cut()) {
+        return false;
+    }
+    if bounded.is_in_quotes() {
+        let line = opened_at(rows.end(), rows.fields());
+        text.push_between("a quote was opened in line ", line, " and never closed");
+    }
+    if bounded.is_in_quotes() && bounded.is_cut() {
+        text.push_str(": ");
+    }
+    if bounded.is_cut() {
+        text.push_between("the row has more than ", ROW_BYTES_MAX, " bytes");
+    }
+    true
 }
 
 // Appends why the row of these fields is none of a trace. Of no other cause is there a sheet.

@@ -21,4 +21,4 @@ mod words;
 
 pub use bully_account::{EventKind, NodeSheet, NodeSummary};
 pub use explaining::{Sheet, account_sheet, explain};
-pub use sheet_text::reason;
+pub use sheet_text::{account_rules, reason};

@@ -1,4 +1,4 @@
-ghost use Rattle.std.specs.Prelude.{◌≡◌, ◌++◌, IfOk, string_bytes};
+ghost use Rattle.std.specs.Prelude.{◌≡◌, ◌++◌, None, [], IfOk, string_bytes};
 ghost use Rattle.std.specs.Option.{option_copied};
 ghost use Rattle.bully_rows.specs.TraceText.{line_of, row_fields};
 ghost use Rattle.bully_world.specs.State.{world_of};
@@ -144,7 +144,44 @@ fn push_stopped(
     let node = node_of(&stop.row);
     let sheet = sheet_of(nodes, node);
     push_reason(text, account.world(), account.verdict(), &stop.row, sheet);
-    match sheet {
+    push_stop_rules(text, account, stop, nodes, plan);
+    if let Some(sheet) = sheet {
+        text.push_str("\n");
+        push_node(text, node, sheet, account.memory(node));
+    }
+    push_others(text, nodes, node);
+}
+
+/// The lines of the rules that the row breaks which decided, and that of the step at which its node stands, as a sheet has them; nothing of a
+/// lawful trace. Refused where an allocation fails.
+pub fn account_rules(alloc: Global, account: &Account) -> Result<String, OutOfMemory>
+    ensures { IfOk result (λ text. account.now.stop ≡ None → string_bytes text ≡ []) }
+{
+    match account.stop() {
+        Some(stop) => rules_of(alloc, account, stop),
+        None => Ok(String::new(alloc)),
+    }
+}
+
+// The same of the row that decided.
+fn rules_of(alloc: Global, account: &Account, stop: &Stop) -> Result<String, OutOfMemory> {
+    let nodes = account.nodes(alloc)?;
+    let plan = plan_of(alloc, account, node_of(&stop.row))?;
+    let mut text = Draft::new(alloc);
+    push_stop_rules(&mut text, account, stop, nodes.as_slice(), plan.as_ref());
+    text.finish()
+}
+
+// Appends the lines of the rules that the row breaks which decided, and that of the step at which its node stands.
+fn push_stop_rules(
+    text: &mut Draft,
+    account: &Account,
+    stop: &Stop,
+    nodes: &[NodeSheet],
+    plan: Option<&Table>,
+) {
+    let node = node_of(&stop.row);
+    match sheet_of(nodes, node) {
         Some(sheet) => {
             let shown = &sheet.shown;
             let context = DecisionContext {
@@ -155,12 +192,9 @@ fn push_stopped(
                 plan,
             };
             push_rules(text, &context, &stop.row);
-            text.push_str("\n");
-            push_node(text, node, sheet, account.memory(node));
         }
         None => push_nodes_rule(text, account.world().setup()),
     }
-    push_others(text, nodes, node);
 }
 
 // The node that the row names.

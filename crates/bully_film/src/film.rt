@@ -345,10 +345,10 @@ fn keep(scenes: &mut VecDeque<Scene>, window: Window, scene: Scene) -> Result<()
     Ok(())
 }
 
-// The same row.
+/// The same row. Refused where an allocation fails.
 // (out of line, as one comes once)
 #[inline(never)]
-fn copy_row(alloc: Global, row: &Row) -> Result<Row, OutOfMemory>
+pub fn copy_row(alloc: Global, row: &Row) -> Result<Row, OutOfMemory>
     ensures { IfOk result (λ copy. copy ≡ row.now) }
 {
     match row {

@@ -20,9 +20,9 @@ mod stretches;
 mod whole;
 mod window;
 
-pub use film::FinishedFilm;
+pub use film::{Film, FinishedFilm, copy_row};
 pub use lane::lane_of;
-pub use reading::film_of;
+pub use reading::{film_of, finished_film};
 pub use said::Said;
 pub use scene::{Change, Scene};
 pub use slots::{End, HeldCall, Holding, end_at};

@@ -1,5 +1,6 @@
-ghost use Rattle.std.specs.Prelude.{IfErr, IfOk};
+ghost use Rattle.std.specs.Prelude.{ℕ, List, Option, IfErr, IfOk};
 ghost use Rattle.bully_film.specs.Film.{AreAllFilmed, IsFilmOf};
+ghost use Rattle.bully_film.specs.Window.{WindowState};
 ghost use Rattle.bully_rows.specs.RecordsLeft.{EndsReading};
 ghost use Rattle.bully_rows.specs.Rows.{OfTrace};
 
@@ -20,11 +21,20 @@ pub fn film_of<R: Read + Drop>(
     ensures told { IfOk result (λ finished. OfTrace (R.remaining reader) (IsFilmOf window finished)) }
     ensures fault { IfErr result (EndsReading (R.remaining reader)) }
 {
-    let mut film = film_text(alloc, reader, window)?;
-    match film.close(alloc) {
-        Ok(()) => Ok(film.into_finished(alloc)),
+    let film = film_text(alloc, reader, window)?;
+    match finished_film(alloc, film) {
+        Ok(finished) => Ok(finished),
         Err(short) => Err(TraceFault::from(short)),
     }
+}
+
+/// What a film of all rows of a text shows. Refused where an allocation fails.
+pub fn finished_film(alloc: Global, film: Film) -> Result<FinishedFilm, OutOfMemory>
+    ensures { (known : Option (List ℕ)) (window : WindowState) → AreAllFilmed known window film → IfOk result (λ finished. OfTrace known (IsFilmOf window finished)) }
+{
+    let mut film = film;
+    film.close(alloc)?;
+    Ok(film.into_finished(alloc))
 }
 
 // Films all rows of a text.

@@ -1,6 +1,7 @@
 use Rattle.std.proofs.Common.{◌⊎◌, inl, inr, None, Some, ap, sym, subst, map, codes}
 use Rattle.clap.specs.Words.{fault_of}
 use Rattle.bully_cli.specs.Words.{Asked, ParsesAs, checking, program, texts_of}
+use Rattle.bully.specs.Inputs.{bounded_in}
 use Rattle.bully.specs.declared.telling.Stop.{Stop}
 use Rattle.bully.proofs.KnownBytesLemmas.{keeps-same}
 use Rattle.bully.proofs.AskedLemmas.{answers-same, short-from}
@@ -19,12 +20,12 @@ alone = checking None (Some (codes "false"))
 pub returns-in-Err-clause-asked : goal.returns-in-Err-clause-asked
 returns-in-Err-clause-asked g c = λ what parses.
     let stopped = c.answer_words.ensures.memory (c.in-Err.ensures.parsed what parses) in
-    short-from _ _ _ _ _ (keeps-same _ _ (ap g.W.Write.contents stopped.1), stopped.2, stopped.0) _ what (g.R.Read.remaining c.args.input)
+    short-from _ _ _ _ _ (keeps-same _ _ (ap g.W.Write.contents stopped.1), stopped.2, stopped.0) _ what (bounded_in (g.R.Read.remaining c.args.input))
 
 pub returns-in-Err-clause-check : goal.returns-in-Err-clause-check
 returns-in-Err-clause-check g c = λ only.
     let stopped = c.answer_words.ensures.memory (c.in-Err.ensures.parsed alone (subst (λ words. ParsesAs words alone) (sym only) check-parses)) in
-    short-from _ _ _ _ _ (keeps-same _ _ (ap g.W.Write.contents stopped.1), stopped.2, stopped.0) (λ _. ⊥) alone (g.R.Read.remaining c.args.input)
+    short-from _ _ _ _ _ (keeps-same _ _ (ap g.W.Write.contents stopped.1), stopped.2, stopped.0) (λ _. ⊥) alone (bounded_in (g.R.Read.remaining c.args.input))
 
 pub returns-in-Err-clause-mistake : goal.returns-in-Err-clause-mistake
 returns-in-Err-clause-mistake g c = λ mistake.

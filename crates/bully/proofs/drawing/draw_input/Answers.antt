@@ -5,7 +5,7 @@ use Rattle.bully.proofs.drawing.draw_input.Goals as goal
 
 pub returns-in-Ok-clause-answer : goal.returns-in-Ok-clause-answer
 returns-in-Ok-clause-answer g c =
-    drawn-answer g.W.Write.contents g.E.Write.contents (g.R.Read.remaining c.args.input) _ _ c.in-Ok.finished _ _ _ _ c.draw_finished.result c.in-Ok.ensures.told c.draw_finished.ensures.answer
+    drawn-answer g.W.Write.contents g.E.Write.contents (g.R.Read.remaining c.args.input) _ _ c.in-Ok.film.finished _ _ _ _ c.draw_finished.result c.in-Ok.ensures.told c.draw_finished.ensures.answer
 
 pub returns-in-Err-clause-answer : goal.returns-in-Err-clause-answer
 returns-in-Err-clause-answer g c =

@@ -5,7 +5,7 @@ use Rattle.bully.proofs.drawing.picture_of.Goals as goal
 
 pub returns : goal.returns
 returns c =
-    let finished = c.args.finished.now in
+    let finished = c.args.film.now.finished in
     picture-above string_bytes c.picture_in.result c.args.drawing finished _ (names_in (option_map (λ s. s.now) c.args.names)) c.as_str.result.now
     (subst (IsBelow finished.stop) (sym c.as_str.ensures.value) c.in_ok-below.ensures)
     (subst (λ given. map (λ s. s.now) given ≡ names_in (option_map (λ s. s.now) c.args.names)) (sym c.as_slice.ensures.value) c.in_ok-names.ensures)
