@@ -21,10 +21,10 @@ import time
 from functools import partial
 from pathlib import Path
 
-from tests.waiting import wait_until
 from .groups import HERE, PATIENCE, Group
 from .processes import children
 from .soaking import Recorded
+from .waiting import wait_until
 
 OFFSETS = (100_000, -60)  # seconds by which the clock of the second member is ahead
 WORKER = str(HERE / 'worker.py')

@@ -25,11 +25,11 @@ from bully.gateway import (
 )  # fmt: skip
 from bully.logs import Log
 from bully.memory import MemoryLog
-from tests.calls import Calls, answer_of
-from tests.etcd_servers import PROGRAM, Server, Servers
-from tests.steps import OPENING, Clock
 from .asking import KeptLog, made, opened
+from .calls import Calls, answer_of
 from .cluster import Cluster, weather_of
+from .etcd_servers import PROGRAM, Server, Servers
+from .steps import OPENING, Clock
 
 KEYS = [b'g/a/%d' % number for number in range(4)] + [b'g/b/%d' % number for number in range(4)]
 FIELDS = ('key', 'value', 'create_revision', 'mod_revision')

@@ -31,7 +31,7 @@ import tempfile
 from pathlib import Path
 from typing import NoReturn
 
-from tests.etcd_servers import PROGRAM, Servers
+from .etcd_servers import PROGRAM, Servers
 from .faults import SERVERS, Faults, addresses, places
 from .groups import NAMES, Group
 from .locks import time_lock

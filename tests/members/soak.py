@@ -26,7 +26,7 @@ import sys
 import tempfile
 from pathlib import Path
 
-from tests.etcd_servers import PROGRAM, Servers
+from .etcd_servers import PROGRAM, Servers
 from .faults import addresses
 from .groups import NAMES, Group
 from .soaking import Recorded, Soak, see_faults
