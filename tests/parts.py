@@ -49,6 +49,7 @@ PARTS = [
     Part('build', 'tests/build/try'),
     Part('c', 'bindings/c/try BUILT/library', 'library', 'gcc g++'),
     Part('rust', 'bindings/rust/try BUILT/library', 'library', 'cargo'),
+    Part('package', 'tests/members/run package BUILT/library', 'library'),
     Part('rules', 'tests/members/rules BUILT/library', 'library',
          full='--any 3000 --settle 5000 --bugs --explore 100000 --restarts 100 --seeds 1 3000', limit=7200),
     Part('bugs', f'{MEMBERS} --bugs', 'library'),
@@ -116,7 +117,7 @@ class Run:
         lacking = [tool for tool in part.tools.split() if not shutil.which(tool)]
         missing = [name for name in needs if not (self.built / name).exists()]
         if lacking or missing:
-            return f'not tried: {part.name}: there is no {(missing or lacking)[0]}\n0 passed, {len(missing)} failed, {0 if missing else 1} skipped', 0, 0.0
+            return f'skipped: {part.name}: there is no {(missing or lacking)[0]}\n0 passed, {len(missing)} failed, {0 if missing else 1} skipped', 0, 0.0
         words = f'{part.words} {"" if more == NONE else more}'.replace('BUILT', str(self.built)).replace('KIT', str(find_kit())).split()
         with tempfile.TemporaryFile() as said:
             began = time.monotonic()
