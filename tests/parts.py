@@ -114,10 +114,12 @@ class Run:
         """What the part said, its status, and how many seconds it took, once all is done that it needs."""
         needs, more = part.needs.split(), part.more(self.how)
         self.wait_for(needs)
-        lacking = [tool for tool in part.tools.split() if not shutil.which(tool)]
         missing = [name for name in needs if not (self.built / name).exists()]
-        if lacking or missing:
-            return f'skipped: {part.name}: there is no {(missing or lacking)[0]}\n0 passed, {len(missing)} failed, {0 if missing else 1} skipped', 0, 0.0
+        lacking = [tool for tool in part.tools.split() if not shutil.which(tool)]
+        if missing:
+            return f'FAILED: {part.name}: {missing[0]} is not built\n0 passed, 1 failed', 1, 0.0
+        if lacking:
+            return f'skipped: {part.name}: there is no {lacking[0]}\n0 passed, 0 failed, 1 skipped', 0, 0.0
         words = f'{part.words} {"" if more == NONE else more}'.replace('BUILT', str(self.built)).replace('KIT', str(find_kit())).split()
         with tempfile.TemporaryFile() as said:
             began = time.monotonic()
