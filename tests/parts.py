@@ -46,10 +46,10 @@ PARTS = [
     Part('versions', 'tests/release/compare'),
     Part('wrong-bodies', 'tests/edits/try'),
     Part('wrong-members', 'tests/members/wrong --fit'),
-    Part('first-build', 'tests/release/first_build'),
     Part('build', 'tests/build/try'),
     Part('c', 'bindings/c/try BUILT/library', 'library', 'gcc g++'),
     Part('rust', 'bindings/rust/try BUILT/library', 'library', 'cargo'),
+    Part('package', 'tests/members/run package BUILT/library', 'library'),
     Part('rules', 'tests/members/rules BUILT/library', 'library',
          full='--any 3000 --settle 5000 --bugs --explore 100000 --restarts 100 --seeds 1 3000', limit=7200),
     Part('bugs', f'{MEMBERS} --bugs', 'library'),
@@ -68,6 +68,7 @@ PARTS = [
          short='--seeds 60', whole='--seeds 200', full='--seeds 1000', limit=7200),
     Part('memory', 'tests/hostile/memory', 'bully_memory', 'rustc'),
     # (the gate runs these by itself)
+    Part('programs', 'tests/programs', 'bully bully_bench bully_memory bully_simulator', whole=NONE),
     *(Part(name.replace('_', '-'), f'KIT/bin/rattle-test BUILT/bully_{name}', f'bully_{name}', whole=NONE) for name in ('model_tests', 'group_tests', 'agent_tests')),
     Part('cases', 'tests/cases/try', 'bully'),
     Part('logging', 'tests/logging/try', 'bully'),
@@ -113,10 +114,12 @@ class Run:
         """What the part said, its status, and how many seconds it took, once all is done that it needs."""
         needs, more = part.needs.split(), part.more(self.how)
         self.wait_for(needs)
-        lacking = [tool for tool in part.tools.split() if not shutil.which(tool)]
         missing = [name for name in needs if not (self.built / name).exists()]
-        if lacking or missing:
-            return f'not tried: {part.name}: there is no {(missing or lacking)[0]}\n0 passed, {len(missing)} failed, {0 if missing else 1} skipped', 0, 0.0
+        lacking = [tool for tool in part.tools.split() if not shutil.which(tool)]
+        if missing:
+            return f'FAILED: {part.name}: {missing[0]} is not built\n0 passed, 1 failed', 1, 0.0
+        if lacking:
+            return f'skipped: {part.name}: there is no {lacking[0]}\n0 passed, 0 failed, 1 skipped', 0, 0.0
         words = f'{part.words} {"" if more == NONE else more}'.replace('BUILT', str(self.built)).replace('KIT', str(find_kit())).split()
         with tempfile.TemporaryFile() as said:
             began = time.monotonic()

@@ -62,7 +62,7 @@ class Unproved(unittest.TestCase):
     def test_all_parts_run_over_what_is_built_and_one_without_its_tool_is_skipped(self) -> None:
         ran = self.call()
         self.assertEqual((ran.stdout.splitlines()[-1], ran.returncode), ('2 passed, 0 failed, 1 skipped', 0), ran.stderr)
-        self.assertIn('not tried: lacking: there is no no-such-tool\n', ran.stdout)
+        self.assertIn('skipped: lacking: there is no no-such-tool\n', ran.stdout)
         self.assertIn('stand-in it\n', ran.stdout)
         self.assertEqual(self.tried(), ['alone', 'over-it few'])
         words = (self.tree.room / 'compiled').read_text().split()

@@ -21,10 +21,10 @@ import time
 from functools import partial
 from pathlib import Path
 
-from tests.waiting import wait_until
 from .groups import HERE, PATIENCE, Group
 from .processes import children
 from .soaking import Recorded
+from .waiting import wait_until
 
 OFFSETS = (100_000, -60)  # seconds by which the clock of the second member is ahead
 WORKER = str(HERE / 'worker.py')
@@ -135,7 +135,7 @@ def main() -> int:
     options = words()
     os.environ['BULLY_LIBRARY'] = str(options.library.resolve())
     if os.getuid() != 0 or not os.path.exists('/proc/self/ns/time'):
-        print('tests/members/clocks: skipped, since it takes root and time namespaces\n0 passed, 0 failed')
+        print('tests/members/clocks: skipped, since it takes root and time namespaces\n0 passed, 0 failed, 1 skipped')
         return 0
     with tempfile.TemporaryDirectory() as room:
         groups = [try_in(Path(room, str(number)), offset, options) for number, offset in enumerate(OFFSETS)]

@@ -25,11 +25,11 @@ from bully.gateway import (
 )  # fmt: skip
 from bully.logs import Log
 from bully.memory import MemoryLog
-from tests.calls import Calls, answer_of
-from tests.etcd_servers import PROGRAM, Server, Servers
-from tests.steps import OPENING, Clock
 from .asking import KeptLog, made, opened
+from .calls import Calls, answer_of
 from .cluster import Cluster, weather_of
+from .etcd_servers import PROGRAM, Server, Servers
+from .steps import OPENING, Clock
 
 KEYS = [b'g/a/%d' % number for number in range(4)] + [b'g/b/%d' % number for number in range(4)]
 FIELDS = ('key', 'value', 'create_revision', 'mod_revision')
@@ -243,7 +243,7 @@ def main() -> int:
     options = words()
     os.environ['BULLY_LIBRARY'] = str(options.library.resolve())
     if not PROGRAM:
-        print('tests/members/compare: skipped, since no program `etcd` is on the path\n0 passed, 0 failed')
+        print('tests/members/compare: skipped, since no program `etcd` is on the path\n0 passed, 0 failed, 1 skipped')
         return 0
     servers = Servers()
     try:

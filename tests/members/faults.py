@@ -8,10 +8,10 @@ from collections.abc import Callable, Sequence
 from functools import partial
 
 from bully.gateway import Endpoint
-from tests.etcd_servers import Place, Server, Servers
-from tests.waiting import wait_until
+from .etcd_servers import Place, Server, Servers
 from .groups import NAMES, PATIENCE, Group
 from .namespaces import CLIENTS, PEERS, Network
+from .waiting import wait_until
 
 SERVERS = ('s0', 's1', 's2')
 CLIENT_PORT, PEER_PORT = 2379, 2380

@@ -16,7 +16,7 @@ from bully.command import parser
 from bully.logs import Log, Unanswered
 from bully.stores import store_of
 from bully.view import GroupView, LogView
-from tests.places import environment
+from places import environment
 from .processes import children, close_all, own_memory, processor_seconds, send_all, workers_of
 from .tables import kept, most_kept, owners_by_name
 

@@ -9,8 +9,8 @@ import time
 from collections.abc import Sequence
 from contextlib import suppress
 
-from tests.etcd_servers import Servers
-from tests.waiting import wait_until
+from .etcd_servers import Servers
+from .waiting import wait_until
 
 PATIENCE = 30.0
 

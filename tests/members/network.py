@@ -31,7 +31,7 @@ import tempfile
 from pathlib import Path
 from typing import NoReturn
 
-from tests.etcd_servers import PROGRAM, Servers
+from .etcd_servers import PROGRAM, Servers
 from .faults import SERVERS, Faults, addresses, places
 from .groups import NAMES, Group
 from .locks import time_lock
@@ -114,7 +114,7 @@ def main() -> int:
     os.environ['BULLY_LIBRARY'] = str(options.library.resolve())
     if PROGRAM is None:
         print('tests/members/network: skipped, since no program `etcd` is on the path')
-        print('0 passed, 0 failed')
+        print('0 passed, 0 failed, 1 skipped')
         return 0
     for number in (signal.SIGTERM, signal.SIGHUP):
         signal.signal(number, end)

@@ -288,9 +288,10 @@ class Plain:
     def _step_of_work(self, now: int) -> Step | None:
         """Rules 1 to 4: work that may not go on stops, one thing is asked at a time, and nothing just behind what wasn't
         answered."""
-        is_stopping = self.work is not None and self.work.way is Way.STOPPING
-        works = self.work is not None and not is_stopping
-        if works and (self.work.way is Way.LOST or not self._goes_on(now, self.work.token)):
+        work = self.work
+        is_stopping = work is not None and work.way is Way.STOPPING
+        works = work is not None and not is_stopping
+        if work is not None and works and (work.way is Way.LOST or not self._goes_on(now, work.token)):
             return Stop()
         if self.asked is not None:
             return Rest(self.sure_until - now if works else self.ttl)

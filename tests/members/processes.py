@@ -1,17 +1,93 @@
 """Processes that a test looks at, and the waiting for them."""
 from __future__ import annotations
 
+import contextlib
+import ctypes
 import os
+import re
 import select
 import signal
+import unittest
 from collections.abc import Iterable
-from contextlib import suppress
 from pathlib import Path
 from typing import NamedTuple
 
-from tests.processes import has_stopped
-
 TICK = 1 / os.sysconf('SC_CLK_TCK')
+PTRACE_SEIZE, WAIT_ALL = 0x4206, 0x40000000
+frozen: set[int] = set()
+
+
+def freeze(test: unittest.TestCase, process: int) -> None:
+    """The process can't be ended from now on, up to `thaw` from the same thread: who is killed stays there until its
+    tracer has waited for it."""
+    traced = ctypes.CDLL(None, use_errno=True).ptrace(PTRACE_SEIZE, process, None, None)
+    test.assertEqual(traced, 0, os.strerror(ctypes.get_errno()))
+    frozen.add(process)
+    test.addCleanup(thaw, process)
+
+
+def thaw(process: int) -> None:
+    """It ends, if it hasn't been thawed before."""
+    if process in frozen:
+        frozen.remove(process)
+        os.kill(process, signal.SIGKILL)
+        os.waitpid(process, WAIT_ALL)
+
+
+def is_running(process: int) -> bool:
+    """Whether the process is there, and not only its status."""
+    try:
+        return Path(f'/proc/{process}/stat').read_text().rsplit(')', 1)[1].split()[0] != 'Z'
+    except OSError:
+        return False
+
+
+def name_of(process: int) -> str:
+    """The program that it runs, in short."""
+    return Path(f'/proc/{process}/comm').read_text().strip()
+
+
+def descriptors_of(process: int) -> int:
+    """How many descriptors it has."""
+    return len(list(Path(f'/proc/{process}/fd').iterdir()))
+
+
+def has_stopped(process: int) -> bool:
+    """Whether all of the process is stopped by a signal."""
+    stats = Path(f'/proc/{process}/task').glob('*/stat')
+    return all(stat.read_text().rsplit(')', 1)[1].split()[0] == 'T' for stat in stats)
+
+
+def waits_for(process: int, number: int) -> bool:
+    """Whether the process holds the signal back, or hears it."""
+    masks = re.findall(r'^Sig(?:Blk|Cgt):\t([0-9a-f]+)$', Path(f'/proc/{process}/status').read_text(), re.MULTILINE)
+    return any(int(mask, 16) >> number - 1 & 1 for mask in masks)
+
+
+def has_loaded(process: int, name: str) -> bool:
+    """Whether the process has loaded a file whose name has these words."""
+    return name in Path(f'/proc/{process}/maps').read_text()
+
+
+def parent_of(process: int) -> int:
+    return int(Path(f'/proc/{process}/stat').read_text().rsplit(')', 1)[1].split()[1])
+
+
+def end(process: int) -> None:
+    """It ends, if it is there."""
+    with contextlib.suppress(ProcessLookupError):
+        os.kill(process, signal.SIGKILL)
+
+
+def full_pipe() -> tuple[int, int]:
+    """A pipe that has no room, and how it is read."""
+    reads, writes = os.pipe()
+    os.set_blocking(writes, False)
+    with contextlib.suppress(BlockingIOError):
+        while os.write(writes, bytes(4096)):
+            pass
+    os.set_blocking(writes, True)
+    return reads, writes
 
 
 def children(process: int) -> list[int]:
@@ -35,7 +111,7 @@ class Process(NamedTuple):
     @property
     def is_stopped(self) -> bool:
         """Whether it is there, and is stopped by a signal."""
-        with suppress(OSError):  # it ends
+        with contextlib.suppress(OSError):  # it ends
             return has_stopped(self.number) and not self.has_ended
         return False
 
@@ -55,7 +131,7 @@ def family(member: int) -> dict[str, Process]:
     if len(guards) != 1 or len(workers) != 1:
         return {}
     found: dict[str, Process] = {}
-    with suppress(ProcessLookupError):
+    with contextlib.suppress(ProcessLookupError):
         for name, number in (('member', member), ('guard', guards[0]), ('worker', workers[0])):
             found[name] = Process(number, os.pidfd_open(number))
     if len(found) == 3 and children(guards[0]) == workers and not any(each.has_ended for each in found.values()):
@@ -73,7 +149,7 @@ def close_all(processes: Iterable[Process]) -> None:
 def send_all(processes: Iterable[Process], number: int) -> None:
     """Sends a signal to processes, as far as they are still there."""
     for process in processes:
-        with suppress(ProcessLookupError):
+        with contextlib.suppress(ProcessLookupError):
             signal.pidfd_send_signal(process.descriptor, number)
 
 

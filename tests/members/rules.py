@@ -31,7 +31,7 @@ import sys
 from collections import Counter
 from pathlib import Path
 
-from tests.places import ROOT
+from places import ROOT
 from . import proved
 from .exploring import ALL, CONDITIONS, WHOLE, Bounds, Explorer
 from .lockstep import Both, refused_alike, tell_anything

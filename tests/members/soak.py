@@ -26,7 +26,7 @@ import sys
 import tempfile
 from pathlib import Path
 
-from tests.etcd_servers import PROGRAM, Servers
+from .etcd_servers import PROGRAM, Servers
 from .faults import addresses
 from .groups import NAMES, Group
 from .soaking import Recorded, Soak, see_faults
@@ -104,7 +104,7 @@ def main() -> int:
     options = words()
     os.environ['BULLY_LIBRARY'] = str(options.library.resolve())
     if options.store == 'etcd' and PROGRAM is None:
-        print('tests/members/soak: skipped, since no program `etcd` is on the path\n0 passed, 0 failed')
+        print('tests/members/soak: skipped, since no program `etcd` is on the path\n0 passed, 0 failed, 1 skipped')
         return 0
     for number in (signal.SIGTERM, signal.SIGHUP):
         signal.signal(

@@ -14,12 +14,12 @@ from functools import partial
 from pathlib import Path
 from typing import NamedTuple, TypeVar
 
-from tests.etcd_servers import Server, Servers
-from tests.waiting import wait_until
+from .etcd_servers import Server, Servers
 from .faults import SETTLED
 from .groups import HERE, NAMES, PATIENCE, Group, Work, told_seconds
 from .processes import Process, close_all, family, send_all
 from .recorder import Record, Unit
+from .waiting import wait_until
 
 REST_MAX = 12.0  # seconds that the group gets to come to rest: who comes again and again counts later and later
 BEGIN_MAX = 1.0  # seconds behind its end, within which a member is begun again

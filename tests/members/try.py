@@ -22,7 +22,7 @@ import sys
 import tempfile
 from pathlib import Path
 
-from tests.etcd_servers import Servers
+from .etcd_servers import Servers
 from .groups import NAMES, Group
 
 FEW, PARTITIONS_OF_FEW, PARTITIONS = 3, 12, 24  # how many nodes there are first, and their partitions; and those of all

@@ -23,13 +23,14 @@ from pathlib import Path
 from typing import NamedTuple
 
 from bully.guard import adopt, end_children
-from tests.places import PYTHON, ROOT
+from counts import Counts
+from places import PYTHON, ROOT
 
 BUGS = Path(__file__).with_name('wrong-bodies.txt')
 LONGEST = 400.0  # seconds that a test takes at most, with what it cleans up
 RUN = """
 import sys, unittest
-from tests.counting import CountingResult
+from counting import CountingResult
 tests = unittest.defaultTestLoader.loadTestsFromName(sys.argv[1])
 result = unittest.TextTestRunner(resultclass=CountingResult).run(tests)
 print('passed' if result.passed and not result.failed else 'failed' if result.failed else 'skipped')
@@ -76,12 +77,13 @@ class Room:
     """A copy of the package and its tests, in which a bug is planted."""
 
     def __init__(self, folder: Path, library: Path) -> None:
-        self.python = folder / 'bindings' / 'python'
-        told = {'BULLY_LIBRARY': str(library.resolve()), 'PYTHONPATH': str(self.python), 'PYTHONDONTWRITEBYTECODE': '1'}
+        self.python, tests = folder / 'bindings' / 'python', folder / 'tests'
+        told = {'BULLY_LIBRARY': str(library.resolve()), 'PYTHONPATH': f'{tests}:{self.python}', 'PYTHONDONTWRITEBYTECODE': '1'}
         self.environment = {**os.environ, **told}
-        for each in ('examples', 'docs', 'include', 'tests', 'crates'):
+        for each in ('examples', 'docs', 'include', 'crates'):
             (folder / each).symlink_to(ROOT / each)
-        shutil.copytree(PYTHON, self.python, ignore=shutil.ignore_patterns('__pycache__'))
+        for source, copy in ((PYTHON, self.python), (ROOT / 'tests', tests)):
+            shutil.copytree(source, copy, symlinks=True, ignore=shutil.ignore_patterns('__pycache__'))
 
     def renew(self) -> None:
         shutil.copytree(
@@ -111,30 +113,24 @@ def main(words: list[str]) -> int:
     if not words:
         print(__doc__, file=sys.stderr)
         return 2
-    failed = 0
+    counts, is_tried = Counts(), not words[0].startswith('-')
     planted = bugs(words[1] if words[1:] else '')
+    if not planted:
+        counts.hold(False, 'there is no such bug')
     for bug in planted:
+        why = 'its text does not stand once in ' + bug.file if not bug.fits else '' if bug.has_test else f'there is no {bug.test}'
         if words[0] == '--list':
             print(f'{bug.told}: {bug.test}')
-        elif not bug.fits or not bug.has_test:
-            why = f'there is no {bug.test}' if bug.fits else f'its text does not stand once in {bug.file}'
-            print(f'FAILED: {bug.told}: {why}')
-            failed += 1
-    if not words[0].startswith('-'):
-        failed += sum(
-            not is_found for is_found in tried([bug for bug in planted if bug.fits and bug.has_test], Path(words[0]))
-        )
-    if not planted:
-        print('FAILED: there is no such bug')
-        failed = 1
-    print(f'{max(0, len(planted) - failed)} passed, {failed} failed')
-    return 1 if failed else 0
+        if why or not is_tried:
+            counts.hold(not why, f'{bug.told}: {why}')
+    if is_tried:
+        try_all([bug for bug in planted if bug.fits and bug.has_test], Path(words[0]), counts)
+    return counts.end()
 
 
-def tried(planted: list[Bug], library: Path) -> list[bool]:
+def try_all(planted: list[Bug], library: Path, counts: Counts) -> None:
     """Whether each bug is found, by a test that passes without it."""
     passing: set[str] = set()
-    found: list[bool] = []
     adopt()
     with tempfile.TemporaryDirectory() as folder:
         room = Room(Path(folder), library)
@@ -144,15 +140,10 @@ def tried(planted: list[Bug], library: Path) -> list[bool]:
             bug.plant(room.python / 'bully')
             begun = time.monotonic()
             behind = room.outcome(bug.test)
-            found.append((before, behind) == ('passed', 'failed'))
             passing.update([bug.test] if before == 'passed' else [])
-            why = (
-                f'found in {time.monotonic() - begun:.1f} s'
-                if found[-1]
-                else f'FAILED: {before} without it, and {behind} with it'
-            )
-            print(f'{why}: {bug.told}: {bug.test}', flush=True)
-    return found
+            told = f'{bug.told}: {bug.test}'
+            counts.hold((before, behind) == ('passed', 'failed'), f'{before} without it, and {behind} with it: {told}')
+            print(f'{behind} in {time.monotonic() - begun:.1f} s: {told}', flush=True)
 
 
 if __name__ == '__main__':

@@ -1,1 +1,2 @@
-"""Tests of the package `bully`, and what others take of them: `python3 -m unittest` in the folder above runs them."""
+"""Tests of the binding of the package `bully`: agents, groups, replicas, settlements and the rules of a member, by the library. `try` in the
+folder above runs them."""

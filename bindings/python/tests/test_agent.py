@@ -9,7 +9,7 @@ from collections.abc import Callable
 
 import bully
 from bully import Agent, Answer, Call, CallKind, Setup, State, Status, Want, plan_table
-from .places import ROOT
+from places import ROOT
 from .traces import EXAMPLES, LARGEST, TWO, end_of
 
 

@@ -17,7 +17,7 @@ from bully.member import (
     TTL_MAX, TTL_MIN, Ask, Begin, Core, End, Ending, Life, Opening, Presence, Present, Promise, Request, Rest, Seen,
     Step, Stop, StoreAnswer, Unknown, Until, Wait, Way, Work,
 )  # fmt: skip
-from .places import ROOT
+from places import ROOT
 
 TWO = 'bully,1,2,2'
 ONE = Opening('bully,1,1,1', 7, 1, 22)

@@ -7,7 +7,7 @@ from collections.abc import Iterable, Sequence
 
 import bully
 from bully import NotLearned, Refused, Replica, Setup, Status, check
-from .places import ROOT
+from places import ROOT
 from .replicas import Member, shown
 from .traces import BAD_ROWS, EXAMPLES, VERDICTS, end_of, log_of, text_of
 

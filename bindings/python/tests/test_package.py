@@ -18,7 +18,7 @@ from bully import Answer, CallKind, Status, VerdictKind, Want
 from bully.faults import FAULTS
 from bully.header import own
 from bully.values import Event
-from .places import PYTHON, ROOT
+from places import PYTHON, ROOT
 
 
 class Head(unittest.TestCase):

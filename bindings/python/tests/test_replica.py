@@ -11,7 +11,7 @@ from typing import Any
 
 import bully
 from bully import Call, CallKind, NotLearned, Replica, Setup, State, Status, Want, check
-from .places import ROOT
+from places import ROOT
 from .replicas import ELECTION_OF_THREE, ELECTION_OF_TWO, Member, go_to_rest, shown
 from .traces import BAD_HEADERS, LARGEST, TWO, log_of, text_of
 

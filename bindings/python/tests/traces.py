@@ -6,7 +6,7 @@ from collections.abc import Iterable, Sequence
 
 import bully
 from bully import Setup, State
-from .places import ROOT
+from places import ROOT
 
 EXAMPLES = sorted((ROOT / 'examples').glob('*.csv'))
 TWO = Setup(2, 3)

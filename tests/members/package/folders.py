@@ -1,0 +1,62 @@
+"""Tests with a folder of their own."""
+from __future__ import annotations
+
+import tempfile
+import unittest
+from pathlib import Path
+
+from bully.logs import Log
+from bully.sqlite import SqliteLog
+from ..steps import OPENING
+
+
+class WithFolder(unittest.TestCase):
+    """Tests with a folder of their own."""
+
+    def setUp(self) -> None:
+        folder = tempfile.TemporaryDirectory()
+        self.addCleanup(folder.cleanup)
+        self.folder = Path(folder.name)
+
+
+class InFolder(WithFolder):
+    """The same, with a log in a file."""
+
+    def setUp(self) -> None:
+        super().setUp()
+        self.path = self.folder / 'group.db'
+
+    def opened(self) -> SqliteLog:
+        return self.closing(SqliteLog(self.path))
+
+    def closing(self, log: SqliteLog) -> SqliteLog:
+        self.addCleanup(log.close)
+        return log
+
+
+class WithLogs(WithFolder):
+    """The same, with a log in a file for each that is made."""
+
+    def setUp(self) -> None:
+        super().setUp()
+        self.paths: list[Path] = []
+
+    @property
+    def path(self) -> Path:
+        """The last one that was made, or is to be made."""
+        return self.paths[-1] if self.paths else self.folder / 'group.db'
+
+    def created(self) -> SqliteLog:
+        self.paths.append(self.folder / f'group{len(self.paths)}.db')
+        return self.closing(SqliteLog.create(self.path, OPENING))
+
+    def opened(self, patience: float = 1.0) -> SqliteLog:
+        return self.closing(SqliteLog(self.path, patience))
+
+    def handle(self, log: Log) -> Log:
+        assert isinstance(log, SqliteLog)
+        return self.closing(SqliteLog(log.path, 20.0))
+
+    def closing(self, log: SqliteLog) -> SqliteLog:
+        self.addCleanup(log.close)
+        return log

@@ -1,0 +1,67 @@
+"""A member and its page, which tests ask."""
+from __future__ import annotations
+
+import http.client
+import socket
+import threading
+import unittest
+
+from bully import page, view
+from bully.epochs import Opening
+from bully.running import Member
+from bully.worker import Workers
+from ..steps import HEADER
+from ..waiting import PATIENCE, wait_until
+from .threads import Troubled
+
+
+class Paged(unittest.TestCase):
+    """A test with a member that has a page."""
+
+    NAMES = ('a"\\b', '<script>alert(1)</script>', 'c')
+
+    def setUp(self) -> None:
+        self.make(2.0)
+
+    def make(self, ttl: float, log: Troubled | None = None) -> None:
+        """A member over this log, or a new one, and its page."""
+        self.log = log or Troubled(Opening.first(HEADER, self.NAMES))
+        self.member = Member(self.log, 2, lambda assignment: None, lambda assignment: None, ttl)
+        self.workers = Workers(['true'], self.NAMES[1], 0.0)
+        self.page = page.Page(('127.0.0.1', 0), self.NAMES[1])
+        self.addCleanup(self.page.close)
+        self.page.show(view.LogView(self.log, self.member.behind), self.member, self.workers)
+
+    def get(self, target: str, method: str = 'GET', **headers: str) -> tuple[int, str, str]:
+        """The status, the kind and the text of an answer."""
+        connection = http.client.HTTPConnection('127.0.0.1', self.page.port, timeout=PATIENCE)
+        connection.request(method, target, headers=headers)
+        answer = connection.getresponse()
+        text = answer.read().decode()
+        connection.close()
+        return answer.status, answer.getheader('Content-Type') or '', text
+
+    def status(self, target: str, method: str = 'GET') -> int:
+        """The status of an answer."""
+        return self.get(target, method)[0]
+
+    def begin(self) -> None:
+        """The member takes part, until the test is over."""
+        self.run_apart(self.member)
+        wait_until(self.member.assignment)
+
+    def run_apart(self, member: Member) -> None:
+        """It runs in a thread, until the test is over."""
+        thread = threading.Thread(target=member.run)
+        thread.start()
+        self.addCleanup(thread.join)
+        self.addCleanup(member.leave)
+
+    def client(self) -> socket.socket:
+        """A connection that hasn't asked."""
+        return socket.create_connection(('127.0.0.1', self.page.port), PATIENCE)
+
+    def measured(self) -> dict[str, float]:
+        """The metrics, by their names and labels."""
+        lines = self.get('/metrics')[2].splitlines()
+        return {name: float(value) for name, value in (line.rsplit(' ', 1) for line in lines if line[0] != '#')}

@@ -1,0 +1,430 @@
+"""Tests of the command `bully-member`, but for `run`."""
+from __future__ import annotations
+
+import contextlib
+import json
+import sqlite3
+import threading
+import time
+from collections.abc import Callable
+from pathlib import Path
+from unittest import mock
+
+from bully import command, configs, stores
+from bully.clocks import SECOND
+from bully.logs import Log
+from bully.member import Life, Promise
+from bully.running import Member
+from ..steps import HEADER, LONG
+from ..waiting import wait_until
+from .configurations import TOP, toml
+from .folders import InFolder
+from .member_processes import call
+from .threads import put
+
+
+WISH = "update epochs set wish = json_set(opening, '$.epoch', 2,"
+
+
+class Commands(InFolder):
+    """`bully-member`, but for `run`."""
+
+    def setUp(self) -> None:
+        super().setUp()
+        self.config = self.folder / 'group.toml'
+        self.config.write_bytes(toml(TOP))
+
+    def of_log(self, *words: str) -> tuple[int, str, str]:
+        return call(*words, '--log', f'sqlite:{self.path}')
+
+    def test_life_of_a_log(self) -> None:
+        self.assertEqual(self.of_log('init', '--config', str(self.config)), (0, '', ''))
+        put(self.opened(), 'recover,2')
+        self.assertEqual(self.of_log('history'), (0, f'{HEADER}\nrecover,2\n', ''))
+        status, said, _ = self.of_log('status')
+        self.assertEqual(status, 1, 'nobody works')
+        self.assertIn('epoch 1, events 1, token -', said)
+        self.assertIn('b     election  no', said)
+        self.assertEqual(json.loads(self.of_log('status', '--json')[1])['nodes'][1]['status'], 'election')
+
+    def test_who_may_use_a_file(self) -> None:
+        """Its owner alone, if the group of its folder isn't let in, too. Of a file that is there it is said who may."""
+        init = ['init', '--config', str(self.config)]
+        self.folder.chmod(0o700)
+        status, _, told = self.of_log(*init, '--group-access')
+        self.assertEqual((status, self.path.exists()), (4, False))
+        self.assertIn(f'chmod g+rwxs {self.folder}', told)
+        for mode, words in ((0o600, ()), (0o660, ('--group-access',))):
+            self.folder.chmod(0o2770)
+            self.assertEqual(self.of_log(*init, *words), (0, '', ''))
+            self.assertEqual(self.path.stat().st_mode & 0o7777, mode)
+            self.assertEqual(self.of_log('status')[2], '')
+            self.path.chmod(0o604)
+            self.assertIn(f'{self.path}: of mode 0604, so each user who reaches', self.of_log('status')[2])
+            self.path.unlink()
+        etcd = ['--log', 'etcd://127.0.0.1:1/group', '--group-access']
+        self.assertEqual(call(*init, *etcd), (2, '', 'bully-member: --group-access is for a log in a file\n'))
+
+    def test_epochs(self) -> None:
+        """A group is resized twice, and what is old is taken away."""
+        self.of_log('init', '--config', str(self.config))
+        put(self.opened(), 'recover,2')
+        new = self.folder / 'new.toml'
+        resize = ['resize', '--config', str(new)]
+        new.write_bytes(toml({**TOP, 'nodes': 2, 'names': ['c', 'd'], 'partitions': 4}))
+        for _ in range(2):
+            self.assertEqual(self.of_log(*resize), (0, 'epoch 2: 2 nodes, 4 partitions\n', ''))
+        self.assertEqual(self.of_log('history', '--epoch', '1'), (0, f'{HEADER}\nrecover,2\n', ''))
+        self.assertEqual(self.of_log('history'), (0, 'bully,1,2,4\n', ''))
+        self.assertTrue(self.of_log('status')[1].startswith('epoch 2, events 0, token -, coordinator -\n'))
+        new.write_bytes(toml({**TOP, 'weights': [1, 2, 3]}))
+        self.assertEqual(self.of_log(*resize)[1], 'epoch 3: 3 nodes, 6 partitions\n')
+        self.assertEqual(self.of_log('prune', '--keep', '2'), (0, 'epochs 2 to 3 are there\n', ''))
+        status, said, told = self.of_log('history', '--epoch', '1')
+        self.assertEqual(
+            (status, said, told), (4, '', f'bully-member: {self.path}: epoch 1 is not there, but 2 to 3\n')
+        )
+        self.assertEqual(self.of_log('prune', '--keep', '1'), (0, 'epoch 3 is there\n', ''))
+        for words in (['prune', '--keep', '0'], ['prune'], ['history', '--epoch', 'x'], ['resize']):
+            self.assertEqual(self.of_log(*words)[0], 2)
+
+    def test_begins_later(self) -> None:
+        """A log may begin behind the epochs of another one, so that its tokens are higher."""
+        self.assertEqual(self.of_log('init', '--config', str(self.config), '--epoch', '7'), (0, '', ''))
+        self.assertTrue(self.of_log('status')[1].startswith('epoch 7, events 0, token -, coordinator -\n'))
+        put(self.opened(), 'recover,2')
+        self.assertEqual(self.of_log('history', '--epoch', '7'), (0, f'{HEADER}\nrecover,2\n', ''))
+        new = self.wished()
+        self.assertEqual(self.of_log('resize', '--config', str(new))[1], 'epoch 8: 3 nodes, 4 partitions\n')
+        self.assertEqual(self.of_log('prune', '--keep', '1'), (0, 'epoch 8 is there\n', ''))
+        with Member(self.opened(), 'b', print, print, settings=configs.settings_in(str(self.config))) as member:
+            self.assertEqual(member.node, 2)
+        for epoch in ('0', 'x', '4000000001'):
+            self.assertEqual(self.of_log('init', '--config', str(self.config), '--epoch', epoch)[0], 2)
+
+    def test_bad_rows(self) -> None:
+        """What is no row, no event, no wish or no opening is told with its place, and by the status that a new try
+        doesn't help."""
+        cases = (
+            ("insert into log values (1, 1, char(10), 0)", 'what stands at place 1 of epoch 1 is no row'),
+            ("insert into log values (1, 1, 'recover,1' || char(13, 10), 0)", 'stands at place 1 of epoch 1 is no row'),
+            ("insert into log values (1, 1, 'end,bully,1,3,6' || char(10), 0)", 'row 3: A row has no form of a row'),
+            ("insert into log values (1, 1, cast(x'ff0a' as text), 0)", 'decode'),
+            ("update epochs set wish = 'x'", 'epoch 2 has no opening'),
+            (f"{WISH} '$.header', 'x')", 'epoch 2 has no opening: x is no header'),
+            (f"{WISH} '$.names', json_array(1, 2, 3))", 'epoch 2 has no opening: names'),
+            ("update epochs set wish = json_set(opening, '$.epoch', 2, '$.limit', 5)", 'epoch 2 has no opening: names'),
+            (f"{WISH} '$.table', json_array(1, 2, 3, 1, 2, 4))", 'epoch 2 has no opening: names'),
+            (f"{WISH} '$.header', 'bully,2,3,6,1 1 0,clear')", 'epoch 2 has no opening: '),
+            ("update epochs set wish = opening", 'epoch 2 has the opening of epoch 1'),
+            ("update epochs set opening = json_set(opening, '$.header', 'bully,1,4,6')", '1,4,6 is told of 3 nodes'),
+        )  # fmt: skip
+        for number, (asked, told) in enumerate(cases):
+            self.path = self.folder / f'{number}.db'
+            self.of_log('init', '--config', str(self.config))
+            put(self.opened(), 'recover,2')
+            with contextlib.closing(sqlite3.connect(self.path, isolation_level=None)) as file:
+                file.execute(asked)
+                if 'into log' in asked:
+                    file.execute('update epochs set count = 2')
+            run = ['run', '--quiet', '--log', f'sqlite:{self.path}', '--node', 'a', '--', 'true']
+            with self.subTest(asked=asked):
+                asks: list[Callable[[], tuple[int, str, str]]] = [lambda: self.of_log('status'), lambda: call(*run)]
+                for ask in asks:  # a member would go on, where `status` is well
+                    status, said, why = ask()
+                    self.assertEqual((status, said), (3, ''))
+                    self.assertIn(told, why)
+
+    def test_repair(self) -> None:
+        """What is damaged is told, and cut once that is wanted and nobody is present. What is lawful stays, and tokens
+        are new."""
+        no_row, missing = 'row 5: A row has no form of a row', 'rows are missing, or something else is between them'
+        cases = (
+            ("update log set rows = rows || char(10) || 'start,2' || char(10)", 5, ['', 'start,2'], "'' is no row"),
+            ("update log set rows = rows || 'end,bully,1,3,6' || char(10)", 4, ['end,bully,1,3,6'], no_row),
+            ("insert into log values (1, 3, cast(x'ff0a' as text), 0)", 4, ['\ufffd'], no_row),
+            ("insert into log values (1, 4, 'x' || char(10), 0)", 5, ['x'], missing),
+        )  # fmt: skip
+        for number, (asked, count, rows, why) in enumerate(cases):
+            self.path = self.folder / f'{number}.db'
+            self.of_log('init', '--config', str(self.config))
+            put(self.opened(), 'recover,2', 'recover,1', 'recover,3')
+            with contextlib.closing(sqlite3.connect(self.path, isolation_level=None)) as file:
+                file.execute(asked)
+                file.execute('update epochs set count = ?', (count,))
+            told = f'epoch 1, place 3: {why}; {len(rows)} rows of {count} are cut, and epoch 2 begins\n' + ''.join(
+                f'{row!r}\n' for row in rows
+            )
+            with self.subTest(asked=asked):
+                for words in ((), ('--cut', '2')):
+                    status, said, refused = self.of_log('repair', *words)
+                    self.assertEqual((status, said), (1, told))
+                    self.assertIn('nothing is cut: --cut 3 cuts that, once', refused)
+                log = self.opened()
+                self.assertTrue(log.take('c', Life(1, 1), Promise(1, count), 1000 * SECOND))
+                self.assertEqual(
+                    self.of_log('repair', '--cut', '3'),
+                    (1, told, 'bully-member: nothing is cut: somebody is present\n'),
+                )
+                log.release('c', Life(1, 1))
+                self.assertEqual(self.of_log('repair', '--cut', '3'), (0, told, ''))
+                self.assertEqual(
+                    self.of_log('history', '--epoch', '1')[1], f'{HEADER}\nrecover,2\nrecover,1\nrecover,3\n'
+                )
+                self.assertTrue(self.of_log('status')[1].startswith('epoch 2, events 0, token -'))
+                self.assertEqual(self.of_log('repair'), (0, 'epoch 2: nothing is damaged\n', ''))
+
+    def test_repair_of_a_wish(self) -> None:
+        """What can't be read of a wish or of orders is taken back. A presence that is none isn't taken for one."""
+        self.of_log('init', '--config', str(self.config))
+        self.take(self.opened(), 'a')
+        with contextlib.closing(sqlite3.connect(self.path, isolation_level=None)) as file:
+            file.execute("update presence set life = 'x'")
+            status, said, why = self.of_log('repair')
+            self.assertEqual((status, said), (3, ''))
+            self.assertIn('the presence of a is none', why)
+            file.execute('delete from presence')
+        for change in (
+            "update epochs set wish = 'x'",
+            "update changes set orders = 'x'",
+            "update changes set orders = '{}'",
+        ):
+            with contextlib.closing(sqlite3.connect(self.path, isolation_level=None)) as file:
+                file.execute(change)
+            self.assertEqual(self.of_log('status')[0], 3)
+            said = 'epoch 1: what was wished for or ordered could not be read, and is taken back\n'
+            self.assertEqual(self.of_log('repair'), (0, said, ''))
+            self.assertEqual(self.of_log('status')[0], 1, 'nobody works')
+
+    def test_times(self) -> None:
+        """Each row behind the time of its append, of UTC; a trace has none."""
+        self.of_log('init', '--config', str(self.config))
+        with mock.patch.object(time, 'time_ns', lambda: 1_700_000_000_007_000_000):
+            put(self.opened(), 'recover,2', 'start,2')
+        with contextlib.closing(sqlite3.connect(self.path, isolation_level=None)) as file:
+            file.execute("insert into log values (1, 2, 'move,2' || char(10), null)")
+            file.execute('update epochs set count = 3')
+        told = f',{HEADER}\n2023-11-14T22:13:20.007Z,recover,2\n2023-11-14T22:13:20.007Z,start,2\n,move,2\n'
+        for words in ((), ('--epoch', '1')):
+            self.assertEqual(self.of_log('history', '--times', *words), (0, told, ''))
+            self.assertEqual(self.of_log('history', *words), (0, f'{HEADER}\nrecover,2\nstart,2\nmove,2\n', ''))
+
+    def test_drain(self) -> None:
+        """It is told, waited for, and refused where nobody would work."""
+        self.of_log('init', '--config', str(self.config))
+        log = self.opened()
+        lives = self.take(log, 'a', 'b')
+        late = (1, '', 'bully-member: b is drained, and has not left yet\n')
+        self.assertEqual(self.of_log('drain', 'b', '--seconds', '0.01'), late, 'it never leaves')
+        status, said, _ = self.of_log('status')
+        self.assertRegex(said, '\nb +down +yes, drained +- ')
+        self.assertRegex(said, '\na +down +yes +- ')
+        last = 'bully-member: a is the last one that is there and not drained, so nobody would work; --all takes it\n'
+        self.assertEqual(self.of_log('drain', 'a'), (2, '', last))
+        self.assertEqual(log.look(1, 0).orders.drained, {'b'})
+        log.release('b', lives['b'])
+        self.assertEqual(self.of_log('drain', 'b'), (0, 'b is drained\n', ''))
+        told = json.loads(self.of_log('status', '--json')[1])
+        self.assertEqual(
+            [(node['present'], node['drained']) for node in told['nodes']],
+            [(True, False), (False, True), (False, False)],
+        )
+        self.assertEqual(self.of_log('drain', 'a', '--all', '--seconds', '0.01')[0], 1)
+        self.assertEqual(self.of_log('undrain', 'b'), (0, 'b is not drained\n', ''))
+        self.assertEqual(log.look(1, 0).orders.drained, {'a'})
+        for words in (['drain', 'x'], ['undrain', 'x']):
+            self.assertEqual(
+                self.of_log(*words), (5, '', 'bully-member: the group has no node x in epoch 1, but a, b, c\n')
+            )
+        self.assertEqual((self.of_log('drain')[0], self.of_log('pause', 'a')[0]), (2, 2))
+
+    def test_pause(self) -> None:
+        self.of_log('init', '--config', str(self.config))
+        log = self.opened()
+        lives = self.take(log, 'a', 'b')
+        for _ in range(2):
+            self.assertEqual(self.of_log('pause'), (0, 'the group is paused\n', ''))
+        self.assertEqual(log.look(1, 0).orders.lives, lives)
+        self.assertIn('coordinator -; paused: who works goes on, and nobody settles\n', self.of_log('status')[1])
+        self.assertEqual(json.loads(self.of_log('status', '--json')[1])['paused'], True)
+        self.assertEqual(
+            self.of_log('drain', 'b'), (0, 'b is drained, and leaves once the group is not paused any more\n', '')
+        )
+        new = self.wished()
+        paused = 'bully-member: the group is paused, so no epoch ends; bully-member resume has it go on\n'
+        self.assertEqual(self.of_log('resize', '--config', str(new)), (1, '', paused))
+        for _ in range(2):
+            self.assertEqual(self.of_log('resume'), (0, 'the group is not paused\n', ''))
+        self.assertEqual((log.look(1, 0).orders.lives, log.look(1, 0).wish), (None, None))
+
+    def take(self, log: Log, *names: str) -> dict[str, Life]:
+        """These are present, for long, and work."""
+        epoch, lives = log.epochs()[-1], {name: Life(7, number) for number, name in enumerate(names, 1)}
+        place = len(log.read(epoch, 0))
+        self.assertTrue(all(log.take(name, life, Promise(epoch, place), LONG) for name, life in lives.items()))
+        return lives
+
+    def test_a_mistyped_resize(self) -> None:
+        """One by which all that are present would end is refused, unless that is meant."""
+        self.of_log('init', '--config', str(self.config))
+        log, new = self.opened(), self.folder / 'new.toml'
+        new.write_bytes(toml({**TOP, 'names': ['A', 'B', 'C']}))
+        resize = ['resize', '--config', str(new), '--seconds', '0.01']
+        lives = self.take(log, 'a', 'b')
+        status, _, said = self.of_log(*resize)
+        self.assertEqual((status, log.look(1, 0).wish), (3, None))
+        self.assertEqual(
+            said, f'bully-member: {new}: none of those present (a, b) is in it, so all would end; --all-new takes it\n'
+        )
+        self.assertEqual(
+            (self.of_log(*resize, '--all-new')[0], log.epochs()[-1]), (1, 1), 'these never promise anything'
+        )
+        self.assertEqual(getattr(log.look(1, 0).wish, 'names'), ('A', 'B', 'C'))
+        self.assertEqual(self.of_log('resize', '--cancel'), (0, 'epoch 1: nothing else is wished for\n', ''))
+        self.assertIsNone(log.look(1, 0).wish)
+        for name, life in lives.items():
+            log.release(name, life)
+        self.assertEqual(self.of_log(*resize)[0], 0, 'nobody would end')
+        self.assertEqual(log.opening().names, ('A', 'B', 'C'))
+        for words in (['resize'], [*resize, '--cancel']):
+            self.assertEqual(self.of_log(*words)[0], 2)
+
+    def test_switchover(self) -> None:
+        """Another node gets the highest number, and keeps its weight."""
+        self.config.write_bytes(toml({**TOP, 'weights': [1, 2, 3]}))
+        self.of_log('init', '--config', str(self.config))
+        log = self.opened()
+        self.assertEqual(
+            self.of_log('switchover', '--node', 'a'), (1, '', 'bully-member: a is not present, so it would not lead\n')
+        )
+        names = [Member(self.opened(), name, lambda work: None, lambda work: None, ttl=10.0) for name in 'abc']
+        threads = [threading.Thread(target=member.run) for member in names]
+        for member, thread in zip(names, threads):
+            self.addCleanup(thread.join)
+            self.addCleanup(member.leave)
+            thread.start()
+        wait_until(lambda: self.leaders(names) == {'c'})
+        status, before, _ = self.of_log('status', '--json')
+        self.assertEqual(status, 0)
+        self.assertEqual(self.of_log('switchover', '--node', 'a'), (0, 'epoch 2: a leads\n', ''))
+        wait_until(lambda: self.leaders(names) == {'a'})
+        self.assertEqual(
+            json.loads(self.of_log('status', '--json')[1])['owners'], json.loads(before)['owners'], 'none moves'
+        )
+        self.assertEqual((log.opening().names, log.opening().settings.setup.weights), (('b', 'c', 'a'), (2, 3, 1)))
+        self.assertEqual(self.of_log('switchover', '--node', 'a'), (0, 'epoch 2: a leads\n', ''), 'it does already')
+
+    def leaders(self, members: list[Member]) -> set[str | None]:
+        """Whom they work under; none, if one doesn't work."""
+        works = [member.assignment() for member in members]
+        return {None if work is None else work.settings.name(work.coordinator) for work in works}
+
+    def test_health(self) -> None:
+        """The status of `status` is 0 exactly if each partition may be worked on."""
+        self.of_log('init', '--config', str(self.config))
+        stops = threading.Event()
+        member = Member(self.opened(), 'b', lambda work: None, lambda work: None if stops.wait() else None, ttl=10.0)
+        thread = threading.Thread(target=member.run)
+        self.assertEqual(self.of_log('status')[0], 1)
+        thread.start()
+        self.addCleanup(thread.join)
+        self.addCleanup(stops.set)
+        self.addCleanup(member.leave)
+        wait_until(member.assignment)
+        status, said, _ = self.of_log('status', '--json')
+        self.assertEqual((status, json.loads(said)['at_rest']), (0, True))
+        log, end = self.opened(), Promise(1, len(self.opened().read(1, 0)))
+        for number in (1, 2):  # a process that comes again and again
+            self.assertTrue(log.take('c', Life(8, number), end, LONG))
+            status, said, _ = self.of_log('status')
+            self.assertEqual(status, 0, said)
+            self.assertRegex(said, 'coordinator b\n')
+            log.release('c', Life(8, number))
+        self.assertEqual(self.of_log('resize', '--config', str(self.wished()), '--seconds', '0.01')[0], 1)
+        status, said, _ = self.of_log('status')
+        self.assertEqual(status, 1)
+        self.assertRegex(said, 'coordinator b; not idle yet: b for [0-9.]+ s\n')
+
+    def wished(self) -> Path:
+        """A configuration of other settings."""
+        new = self.folder / 'new.toml'
+        new.write_bytes(toml({**TOP, 'partitions': 4}))
+        return new
+
+    def test_one_ttl(self) -> None:
+        """That of the log is all members', over all epochs."""
+        self.of_log('init', '--config', str(self.config), '--ttl', '3')
+        words = ['run', '--log', f'sqlite:{self.path}', '--node', 'a', '--ttl', '2', '--', 'true']
+        self.assertEqual(call(*words), (2, '', 'bully-member: --ttl is 2, and the log has 3 for all members\n'))
+        new = self.wished()
+        self.assertEqual(self.of_log('resize', '--config', str(new))[0], 0)
+        store = stores.FileStore(str(self.path))
+        self.assertEqual(
+            (command.ttl_of(store, None), command.ttl_of(store, 3.0), self.opened().opening().epoch), (3.0, 3.0, 2)
+        )
+
+    def test_old_and_new_configurations(self) -> None:
+        """A member may be started by any that the group has or had. Who is in none of the current epoch is refused."""
+        self.of_log('init', '--config', str(self.config))
+        new = self.folder / 'new.toml'
+        new.write_bytes(toml({**TOP, 'nodes': 2, 'names': ['c', 'd']}))
+        log = self.opened()
+        for path, node, told in (
+            (new, 'd', 'the log is of another group: bully,1,3,6 of a, b, c'),
+            (None, 'd', 'the group has no node d'),
+        ):
+            words = [
+                'run', '--log', f'sqlite:{self.path}', *(['--config', str(path)] if path else []), '--node', node, '--',
+                'true',
+            ]  # fmt: skip
+            status, _, said = call(*words)
+            self.assertEqual(status, 3 if path else 5)
+            self.assertIn(told, said)
+        self.of_log('resize', '--config', str(new))
+        log.prune(2)
+        for path, name in ((self.config, 'c'), (new, 'd')):
+            with Member(self.opened(), name, print, print, settings=configs.settings_in(str(path))) as member:
+                self.assertEqual(member.node, ('c', 'd').index(name) + 1)
+        words = ['run', '--log', f'sqlite:{self.path}', '--config', str(self.config), '--node', 'a', '--', 'true']
+        self.assertEqual(call(*words), (5, '', 'bully-member: the group has no node a in epoch 2, but c, d\n'))
+
+    def test_refused(self) -> None:
+        config, log = str(self.config), f'sqlite:{self.path}'
+        run = ['run', '--config', config, '--log', log]
+        self.assertEqual(call('status', '--log', log)[0], 4)
+        self.of_log('init', '--config', config)
+        calls: list[tuple[list[str], int]] = [
+            (['init', '--config', config, '--log', log], 7),
+            (['init', '--config', str(self.folder / 'none'), '--log', log], 4), (['status', '--log', 'etcd:x'], 2),
+            (['init', '--config', config, '--log', 'etcd://127.0.0.1/x/failing/y'], 2),
+            ([], 2), (['start'], 2), ([*run, '--node', 'd', '--', 'true'], 2), ([*run, '--node', 'a'], 2),
+            ([*run, '--node', 'a', '--ttl', '0', '--', 'true'], 2),
+            ([*run, '--node', 'a', '--listen', 'x', '--', 'true'], 2),
+            ([*run, '--node', 'a', '--give-up', '-1', '--', 'true'], 2),
+            ([*run, '--node', 'a', '--give-up', 'never', '--', 'true'], 2),
+        ]  # fmt: skip
+        for words, wanted in calls:
+            with self.subTest(words=words):
+                status, said, told = call(*words)
+                self.assertEqual((status, said), (wanted, ''))
+                self.assertNotEqual(told, '')
+        self.config.write_bytes(toml({**TOP, 'partitions': 7}))
+        self.assertEqual(call(*run, '--node', 'a', '--', 'true')[0], 3)
+        self.config.write_bytes(b'nodes = 1')
+        self.assertEqual(
+            call(*run, '--node', 'a', '--', 'true'), (3, '', f'bully-member: {config}: Missing partitions\n')
+        )
+
+    def test_odd_names(self) -> None:
+        self.config.write_bytes(toml({**TOP, 'names': ['a\x1b[2J\nb', 'c\u202ed', '\u00e4 z']}))
+        self.of_log('init', '--config', str(self.config))
+        status, said, _ = self.of_log('status')
+        self.assertEqual(status, 1)
+        self.assertEqual([line.split('  ')[0] for line in said.splitlines()[2:]], ['a?[2J?b', 'c?d', '\u00e4 z'])
+        self.config.write_bytes(toml({**TOP, 'names': ['a\0', 'b', 'c']}))
+        status, _, told = call(
+            'run', '--log', f'sqlite:{self.path}', '--config', str(self.config), '--node', 'b', '--', 'true'
+        )
+        self.assertEqual(
+            (status, told), (3, f'bully-member: {self.config}: a name has a zero character, which no environment holds\n')
+        )

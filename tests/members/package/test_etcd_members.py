@@ -1,0 +1,472 @@
+"""Tests of the command `bully-member` and of members over etcd; without the program `etcd` on the path they are
+skipped."""
+from __future__ import annotations
+
+import json
+import os
+import signal
+import sys
+import time
+from collections.abc import Sequence
+from typing import Any
+from unittest import mock
+
+from bully import check, command, history, stores
+from bully.epochs import Opening, Token
+from bully.etcd import EtcdLog
+from bully.logs import Log
+from places import ROOT
+from ..etcd_servers import (
+    NUMBERS, OLDER, Server, WithCertificates, WithEtcd, add_users, alone, begin_alone, prune_in_part, put_older,
+)  # fmt: skip
+from ..processes import children, is_running
+from ..steps import HEADER
+from ..waiting import wait_until
+from .away_laws import Away
+from .configurations import TOP, toml
+from .folders import WithFolder
+from .member_processes import BEGINS, TALKS, MemberProcess, call
+from .threads import put
+
+TTL = 2  # seconds
+SLOW = 20.0  # seconds that a log of the test's own waits for answers
+NAMES: list[str] = TOP['names']
+PASSWORD = 'BULLY_ETCD_PASSWORD'
+# Tells when two work on one partition, or one by a token below the last one's; else each unit of work is a line in the
+# file of its partition.
+WORKER = [sys.executable, '-I', '-S', str(ROOT / 'tests' / 'members' / 'worker.py')]
+
+
+def setUpModule() -> None:
+    begin_alone(__name__)
+
+
+class OverEtcd(WithEtcd, WithFolder):
+    """Tests with a configuration, and members in processes."""
+
+    def setUp(self) -> None:
+        WithEtcd.setUp(self)
+        WithFolder.setUp(self)
+        self.work = self.folder / 'work'
+        self.work.mkdir()
+        self.config = self.configured('group.toml')
+
+    def configured(self, name: str, **more: Any) -> str:
+        """A configuration, which has more than that of three nodes."""
+        path = self.folder / name
+        path.write_bytes(toml({**TOP, **more}))
+        return str(path)
+
+    def of_log(self, *words: str) -> tuple[int, str, str]:
+        """What a command that may be tried again comes to over the log, once that answers in time."""
+        ended: list[tuple[int, str, str]] = []
+
+        def is_answered() -> bool:
+            ended[:] = [call(words[0], '--log', self.address, *words[1:])]
+            return not ended[0][2].endswith(': it did not answer in time\n')
+
+        wait_until(is_answered)
+        return ended[0]
+
+    def make(self, **more: Any) -> None:
+        """The log of the configuration."""
+        self.created(self.address, Opening.first(HEADER, NAMES), SLOW, **more)
+
+    def begin(self, node: str, worker: Sequence[str], *more: str, **environment: str) -> MemberProcess:
+        """A member of this node."""
+        folder = self.folder / f'{node}-{next(NUMBERS)}'
+        folder.mkdir()
+        member = MemberProcess(
+            folder, ['--log', self.address, '--node', node, '--ttl', str(TTL), *more], worker, **environment
+        )
+        self.addCleanup(member.kill)
+        return member
+
+    def begin_work(self, node: str, *more: str) -> MemberProcess:
+        """A member of this node, whose worker tells what it works on."""
+        return self.begin(node, [*WORKER, str(self.work)], *more)
+
+    def worked(self) -> dict[int, tuple[int, str]]:
+        """By which token, and for which node, each partition was worked on last. A row without its end is still being
+        written, or its worker was killed meanwhile."""
+        files = [file for file in self.work.iterdir() if file.name != 'faults']
+        found = {int(file.name): file.read_text().split('\n')[:-1] for file in files}
+        return {
+            partition: (int(lines[-1].split()[0]), lines[-1].split()[1]) for partition, lines in found.items() if lines
+        }
+
+    def share(self, behind: int, partitions: int, *names: str) -> int:
+        """These nodes, and no others, work on so many partitions by one token behind that one, once they do. The
+        token."""
+        tokens: set[int] = set()
+
+        def do_share() -> bool:
+            worked = self.worked()
+            tokens.clear()
+            tokens.update(token for token, _ in worked.values())
+            return (
+                len(worked) == partitions
+                and len(tokens) == 1
+                and min(tokens) > behind
+                and {name for _, name in worked.values()} == set(names)
+            )
+
+        wait_until(do_share)
+        return tokens.pop()
+
+    def judge(self, *epochs: int) -> None:
+        """No two worked on one partition at once, nobody by an old token, and these epochs are lawful."""
+        self.assertFalse((self.work / 'faults').exists(), 'two have worked on one partition, or one by an old token')
+        for epoch in epochs:
+            self.assertTrue(
+                check(
+                    ''.join(f'{row}\n' for row in history.trace(self.opened(patience=SLOW), epoch)).encode()
+                ).is_lawful
+            )
+
+    def end(self, *members: MemberProcess) -> None:
+        """They leave in order, one by one, and nobody is present any more."""
+        for member in members:
+            self.assertEqual(member.end(), 0, member.said)
+        log = self.opened(patience=SLOW)
+        self.assertEqual(dict(log.look(log.epochs()[-1], 0).presences), {})
+
+
+class Commands(OverEtcd):
+    """`bully-member`, but for `run`."""
+
+    def test_life_of_a_log(self) -> None:
+        self.assertEqual(
+            self.of_log('status'),
+            (4, '', f'bully-member: {self.address}: there is none; bully-member init makes a log\n'),
+        )
+        self.assertEqual(call('init', '--log', self.address, '--config', self.config), (0, '', ''))
+        self.assertEqual(
+            self.of_log('init', '--config', self.config),
+            (7, '', f'bully-member: {self.address}: there is a log already\n'),
+        )
+        put(self.opened(), 'recover,2')
+        self.assertEqual(self.of_log('history'), (0, f'{HEADER}\nrecover,2\n', ''))
+        status, said, _ = self.of_log('status')
+        self.assertEqual((status, said.splitlines()[0]), (1, 'epoch 1, events 1, token -, coordinator -'))
+        self.assertEqual(
+            [node['status'] for node in json.loads(self.of_log('status', '--json')[1])['nodes']],
+            ['down', 'election', 'down'],
+        )
+        new = self.configured('new.toml', nodes=2, names=['c', 'd'], partitions=4)
+        for _ in range(2):
+            self.assertEqual(self.of_log('resize', '--config', new), (0, 'epoch 2: 2 nodes, 4 partitions\n', ''))
+        self.assertEqual(self.of_log('history', '--epoch', '1'), (0, f'{HEADER}\nrecover,2\n', ''))
+        self.assertEqual(self.of_log('history'), (0, 'bully,1,2,4\n', ''))
+        self.assertEqual(self.of_log('prune', '--keep', '1'), (0, 'epoch 2 is there\n', ''))
+        self.assertEqual(self.server.keys(f'{self.prefix}/log/'), {})
+        gone = f'bully-member: {self.address}: epoch 1 is not there, but 2\n'
+        self.assertEqual(self.of_log('history', '--epoch', '1'), (4, '', gone))
+
+    def test_bad_words(self) -> None:
+        certificates = [word for name in ('cacert', 'cert', 'key') for word in (f'--{name}', str(self.folder / 'none'))]
+        secure = self.address.replace('etcd:', 'etcds:')
+        for words, status, why in (
+            (['etcd://x'], 2, 'has to be'), (['etcd:x'], 2, 'has to be'), (['etcd://127.0.0.1:1/log'], 2, '`log`'),
+            ([self.address, '--cacert', 'x'], 2, 'etcds://'),
+            ([self.address, '--cert', 'x', '--key', 'y'], 2, 'etcds://'), ([secure, '--cert', 'x'], 2, '--key'),
+            ([secure, *certificates], 4, 'none'), (['sqlite:x', '--user', 'x'], 2, '--user'),
+            ([self.address, '--user', 'x'], 2, PASSWORD), ([self.address, '--password-file', 'x'], 2, '--user'),
+            ([self.address, '--user', 'x', '--password-file', '/nowhere/file'], 4, '/nowhere/file'),
+        ):  # fmt: skip
+            with self.subTest(words=words):
+                ended, said, told = call('status', '--log', *words)
+                self.assertEqual((ended, said, told.count('\n')), (status, '', 1))
+                self.assertTrue(told.startswith('bully-member: '), told)
+                self.assertIn(why, told)
+
+    def test_passwords(self) -> None:
+        """Of the environment, in which it doesn't stay, or of the first line of a file."""
+        options = command.parser().parse_args(['status', '--log', self.address, '--user', 'x'])
+        with mock.patch.dict(os.environ, {PASSWORD: ' a b '}):
+            store = stores.store_of(options)
+            self.assertNotIn(PASSWORD, os.environ)
+        assert isinstance(store, stores.EtcdStore)
+        self.assertEqual(store.password, ' a b ')
+        (self.folder / 'password').write_text(' c d \r\nmore')
+        (self.folder / 'password').chmod(0o600)
+        options.password_file = str(self.folder / 'password')
+        store = stores.store_of(options)
+        assert isinstance(store, stores.EtcdStore)
+        self.assertEqual((store.user, store.password), ('x', ' c d '))
+        self.assertNotIn('c d', repr(store))
+
+    def test_an_older_form(self) -> None:
+        """Its history is written, and all else is refused."""
+        put_older(self.server, self.prefix)
+        before = self.server.keys(self.prefix)
+        form = 'a log by an older version, and not of form 3; history writes it as a trace, and init makes another log'
+        for words in (
+            ['status'],
+            ['resize', '--config', self.config],
+            ['prune', '--keep', '1'],
+            ['run', '--quiet', '--node', 'a', '--', 'true'],
+        ):
+            with self.subTest(words=words):
+                self.assertEqual(self.of_log(*words), (6, '', f'bully-member: {self.address}: {form}\n'))
+        self.assertEqual(
+            self.of_log('init', '--config', self.config),
+            (7, '', f'bully-member: {self.address}: there is a log already\n'),
+        )
+        for epoch, rows in OLDER.items():
+            self.assertEqual(
+                self.of_log('history', '--epoch', str(epoch)), (0, ''.join(f'{row}\n' for row in rows), '')
+            )
+        self.assertEqual(self.of_log('history')[1], ''.join(f'{row}\n' for row in OLDER[max(OLDER)]))
+        self.assertEqual(self.server.keys(self.prefix), before)
+
+
+class Runs(OverEtcd):
+    """`bully-member run`, by one member."""
+
+    def test_in_order(self) -> None:
+        self.make()
+        member = self.begin('b', ['sh', '-c', BEGINS], '--config', self.config)
+        worker, told = member.worker(), member.environment()
+        self.assertEqual(
+            [told[f'BULLY_{name}'] for name in ('NODE', 'COORDINATOR', 'PARTITIONS')], ['b', 'b', '0 1 2 3 4 5']
+        )
+        settings_told = json.loads(told['BULLY_SETTINGS'])
+        self.assertEqual(
+            (settings_told['names'], settings_told['partitions'], settings_told['ttl']), (NAMES, 6, float(TTL))
+        )
+        log, token = self.opened(), Token(int(told['BULLY_TOKEN']))
+        rows = list(log.read(1, 0))
+        self.assertEqual((token.epoch, rows[token.events - 1]), (1, 'plan,2,2 2 2 2 2 2'))
+        self.assertEqual(set(log.look(1, 0).presences), {'b'})
+        self.end(member)
+        self.assertFalse(is_running(worker))
+        self.assertEqual(log.read(1, 0)[-1], 'crash,2')
+        self.assertEqual(self.server.keys(f'{self.prefix}/presence/'), {})
+        self.judge(1)
+
+    def test_talks(self) -> None:
+        """A worker stays over a change of the group, and hears of it."""
+        self.make()
+        member = self.begin('b', ['sh', '-c', TALKS], '--talk')
+        worker, (begun,) = member.worker(), member.told(1)
+        self.assertEqual(
+            (begun['partitions'], begun['coordinator'], Token(begun['begin']).epoch), ([0, 1, 2, 3, 4, 5], 'b', 1)
+        )
+        new = self.configured('new.toml', nodes=2, names=['b', 'd'], partitions=3)
+        self.assertEqual(self.of_log('resize', '--config', new)[0], 0)
+        _, stopped, again = member.told(3)
+        self.assertEqual((stopped, again['partitions'], Token(again['begin']).epoch), ({'stop': True}, [0, 1, 2], 2))
+        self.assertTrue(is_running(worker))
+        self.assertEqual(member.worker(), worker)
+        self.end(member)
+        self.assertFalse(is_running(worker))
+
+    def test_removed(self) -> None:
+        """A member of a log that is removed ends, and its worker does."""
+        self.make()
+        member = self.begin('b', ['sh', '-c', BEGINS])
+        worker = member.worker()
+        self.server.delete(f'{self.prefix}/', f'{self.prefix}0')
+        self.assertEqual(member.wait(), 4)
+        self.assertIn(f'bully-member: {self.address}: the log was removed\n', member.said)
+        self.assertFalse(is_running(worker))
+
+    def test_users(self) -> None:
+        """A member logs in by a password that its worker doesn't get. A wrong one ends it."""
+        servers = self.servers()
+        add_users(servers.each[0])
+        self.address = servers.address('x')
+        right, wrong, empty = (self.folder / name for name in ('right', 'wrong', 'empty'))
+        for file, password in ((right, 'member password\n'), (wrong, 'x\n'), (empty, '\n')):
+            file.write_text(password)
+            file.chmod(0o600)
+        user = ['--user', 'member', '--ttl', '10']  # since to log in takes long
+        self.make(user='member', password='member password')
+        cases: list[tuple[list[str], dict[str, str]]] = [
+            ([], {PASSWORD: 'member password'}),
+            (['--password-file', str(right)], {}),
+        ]
+        for words, environment in cases:
+            with self.subTest(words=words):
+                member = self.begin('b', ['sh', '-c', BEGINS], *user, *words, **environment)
+                member.worker()
+                self.assertEqual(member.environment()['BULLY_NODE'], 'b')
+                self.assertNotIn(PASSWORD, member.environment())
+                self.assertNotIn('member password', (member.folder / 'env').read_text())
+                self.assertEqual(member.end(), 0)
+        for file in (wrong, empty):
+            member = self.begin('b', ['sh', '-c', BEGINS], *user, '--password-file', str(file))
+            self.assertEqual(member.wait(), 4)
+            self.assertRegex(member.said, 'bully-member: 127.0.0.1:[0-9]+: .*(authentication failed|user name)')
+            self.assertFalse((member.folder / 'begun').exists())
+
+    def test_none_answers(self) -> None:
+        """A member that is started while no server answers waits for one."""
+        server = self.server_of_its_own()
+        self.make()
+        for away, back in ((server.pause, server.resume), (server.kill, server.start)):
+            with self.subTest(away=away.__name__):
+                away()
+                member = self.begin('b', ['sh', '-c', BEGINS])
+                wait_until(lambda: member.said.count(f'bully-member: 127.0.0.1:{server.port}: ') > 1)
+                self.assertFalse((member.folder / 'begun').exists())
+                back()
+                member.worker()
+                self.end(member)
+
+    def test_away(self) -> None:
+        """While no server answers its work ends before its presence may, and goes on once one does."""
+        server = self.server_of_its_own()
+        self.make()
+        member = self.begin_work('b')
+        token = self.share(0, 6, 'b')
+        for away, back in ((server.pause, server.resume), (server.kill, server.start)):
+            with self.subTest(away=away.__name__):
+                worker, said = self.worker_of(member), member.said
+                begun = time.time()
+                away()
+                wait_until(lambda: not is_running(worker))
+                last = max(file.stat().st_mtime for file in self.work.iterdir())
+                self.assertTrue(begun < last < begun + TTL, f'it worked for {last - begun:.3f} s')
+                self.assertIsNone(member.process.poll())
+                self.assertIn(f'node b: 127.0.0.1:{server.port}: ', member.said[len(said) :])
+                back()
+                wait_until(lambda: min(file.stat().st_mtime for file in self.work.iterdir()) > last)
+                self.assertNotEqual(self.worker_of(member), worker)
+                self.assertGreaterEqual(self.share(0, 6, 'b'), token)
+        self.end(member)
+        self.judge(1)
+
+    def server_of_its_own(self) -> Server:
+        """The only server of an etcd, at which the log is."""
+        servers = self.servers()
+        self.address = servers.address('x')
+        return servers.each[0]
+
+    def worker_of(self, member: MemberProcess) -> int:
+        """The worker below the member's guard, once there is one."""
+        (guard,) = children(member.process.pid)
+        wait_until(lambda: children(guard))
+        return children(guard)[0]
+
+
+class Certificates(OverEtcd, WithCertificates):
+    """Members over TLS."""
+
+    def test_run(self) -> None:
+        self.address = self.secure_both().address('x', kind='etcds')
+        files = {
+            name: str(self.certificates / file)
+            for name, file in (('cacert', 'mine.pem'), ('cert', 'client.pem'), ('key', 'client.key'))
+        }
+        words = [word for name, file in files.items() for word in (f'--{name}', file)]
+        self.make(tls=self.tls(client='client'))
+        member = self.begin('b', ['sh', '-c', BEGINS], *words)
+        worker = member.worker()
+        self.assertEqual(member.environment()['BULLY_PARTITIONS'], '0 1 2 3 4 5')
+        self.assertEqual(member.end(), 0)
+        self.assertFalse(is_running(worker))
+        status, said, _ = self.of_log('history', *words)
+        self.assertEqual((status, said.splitlines()[-1]), (0, 'crash,2'))
+        self.assertTrue(check(said.encode()).is_lawful)
+        other = ['--cacert', str(self.certificates / 'other.pem'), *words[2:]]
+        cases: list[list[str]] = [[], words[:2], words[2:], other]
+        for fewer in cases:
+            with self.subTest(words=fewer):
+                member = self.begin('b', ['sh', '-c', BEGINS], *fewer)
+                self.assertEqual(member.wait(), 4)
+                self.assertRegex(member.said, 'bully-member: 127.0.0.1:[0-9]+: TLS: ')
+
+
+class Groups(OverEtcd):
+    """Members of one group, each in a process of its own."""
+
+    def test_one_is_killed(self) -> None:
+        """The others take over, and share again with it once it is back."""
+        self.make()
+        members = {name: self.begin_work(name) for name in NAMES}
+        token = self.share(0, 6, 'a', 'b', 'c')
+        killed = members.pop('c')
+        killed.kill()
+        self.assertEqual(killed.process.returncode, -signal.SIGKILL)
+        token = self.share(token, 6, 'a', 'b')
+        self.assertIn('crash,3', list(self.opened().read(1, 0)))
+        members['c'] = self.begin_work('c')
+        self.share(token, 6, 'a', 'b', 'c')
+        self.judge(1)
+        self.end(*members.values())
+        self.judge(1)
+
+    def test_a_server_and_a_member_are_killed(self) -> None:
+        """The members go on by the servers that are left."""
+        servers = self.servers(3)
+        self.address = servers.address('x')
+        self.make()
+        members = {name: self.begin_work(name, '--ttl', '5') for name in NAMES}
+        token = self.share(0, 6, 'a', 'b', 'c')
+        leader = servers.leader()
+        leader.kill()
+        self.assertTrue(leader.has_ended)
+        members.pop('c').kill()
+        self.share(token, 6, 'a', 'b')
+        self.end(*members.values())
+        self.judge(1)
+
+    def test_resized(self) -> None:
+        """Members go on by their names in a new epoch, also one that was paused until the old one was taken away. Who
+        has none there ends."""
+        self.make()
+        members = {name: self.begin_work(name) for name in NAMES}
+        token = self.share(0, 6, 'a', 'b', 'c')
+        paused = members['a'].process
+        paused.send_signal(signal.SIGSTOP)
+        token = self.share(token, 6, 'b', 'c')
+        new = self.configured('new.toml', nodes=3, names=['c', 'x', 'a'], partitions=12)
+        self.assertEqual(self.of_log('resize', '--config', new), (0, 'epoch 2: 3 nodes, 12 partitions\n', ''))
+        self.judge(1)
+        self.assertEqual(self.of_log('prune', '--keep', '1')[:2], (0, 'epoch 2 is there\n'))
+        leaver = members.pop('b')
+        self.assertEqual(leaver.wait(), 5)
+        self.assertIn('node b: its node is not in the group any more', leaver.said)
+        token = self.share(token, 12, 'c')
+        self.assertEqual(Token(token).epoch, 2)
+        paused.send_signal(signal.SIGCONT)
+        self.share(token, 12, 'a', 'c')
+        self.assertIn('node a: goes on in epoch 2 as number 3', members['a'].said)
+        self.end(*members.values())
+        self.judge(2)
+
+
+class AwayOverEtcd(WithEtcd, Away):
+    """A member that was away while its epoch ended and was taken away."""
+
+    def created(self, address: str = '', opening: Opening = Away.AWAY, patience: float = 5.0, **more: Any) -> EtcdLog:
+        """Each below a prefix of its own."""
+        self.address = alone(f'{self.prefix}/{next(NUMBERS)}')
+        return super().created(self.address, opening, patience, **more)
+
+    def handle(self, log: Log) -> Log:
+        return self.opened()
+
+    is_in_part = False  # whether who takes an epoch away ends in the middle of that
+
+    def take_away(self) -> None:
+        assert isinstance(self.log, EtcdLog)
+        if self.is_in_part:
+            prune_in_part(self.log, 2)
+        else:
+            super().take_away()
+
+    def test_in_part(self) -> None:
+        """It goes on, too, if more rows than it knows were there, and a part of them is left."""
+        self.is_in_part = True
+        self.pause('wait')
+        wait_until(lambda: not self.log.look(1, 0).presences)
+        place = len(self.log.read(1, 0))
+        for row in ('crash,1', 'recover,2', 'crash,2'):
+            put(self.log, row)
+        self.pass_epoch('c', 'b')
+        left = self.server.keys(f'{self.address.split("/", 3)[3]}/log/0000000001/')
+        self.assertEqual([int(key[-10:]) for key in left], [place + 1, place + 2])
+        self.see_it_work()

@@ -1,0 +1,204 @@
+"""Tests of what a log in etcd waits for, by watches."""
+from __future__ import annotations
+
+import contextlib
+import random
+import threading
+import time
+from collections.abc import Callable
+from unittest import mock
+
+from bully import etcd, gateway
+from bully.etcd import EtcdLog
+from bully.gateway import Client
+from bully.logs import DamagedLog, NoLog, Unanswered
+from bully.member import Life, Promise, Until
+from bully.orders import Orders
+from ..etcd_servers import Json, begin_alone, coded, decoded
+from ..steps import EMPTY, LONG, OPENING, A, B, add, present
+from ..waiting import PATIENCE
+from .in_etcd import TXN, InEtcd
+
+
+def setUpModule() -> None:
+    begin_alone(__name__)
+
+
+class Watching(InEtcd):
+    """What a wait asks, and what its watch may miss."""
+
+    def setUp(self) -> None:
+        super().setUp()
+        self.between = self.proxy()
+        self.direct = self.begun()
+        self.log = self.opened(self.between.address(self.prefix))
+
+    def wait(self, place: int, seconds: float | None = None, until: Until = Until.NEWS) -> float:
+        """How long it took."""
+        begun = time.monotonic()
+        self.log.wait(1, place, {'a': A}, until, PATIENCE if seconds is None else seconds)
+        return time.monotonic() - begun
+
+    def test_a_watch_that_breaks(self) -> None:
+        """It is begun again, and what came meanwhile is seen."""
+        self.assertGreaterEqual(self.wait(0, 0.1), 0.1)
+        add(self.direct, ['recover,1'])
+        for lost in (TXN, b'POST /v3/watch'):
+            self.log._break_watch()
+            self.log._broken = 0.0
+            self.between.lose('answer', lost)
+            with contextlib.suppress(Unanswered):
+                self.wait(1, 0.5)
+            self.assertTrue(self.between.lost.is_set())
+        later = threading.Timer(0.1, lambda: add(self.direct, ['recover,2']))
+        later.start()
+        self.assertLess(self.wait(1), PATIENCE)
+        later.join()
+
+    def test_old_events(self) -> None:
+        """What a watch tells late of what a look has found already is no news, nor does it bring back what is gone."""
+        self.assertTrue(self.direct.take('b', B, EMPTY, LONG))
+        found = self.server.keys(f'{self.prefix}/presence/')
+        self.direct.release('b', B)
+        self.log.look(1, 0)
+        for key, pair in found.items():
+            self.log._news.see({'kv': {**pair, 'key': coded(key)}})
+        self.assertEqual((set(self.log._news.presences()), self.log._news.is_fresh), ({'a'}, True))
+
+    def test_begin_of_a_watch(self) -> None:
+        """What comes between the look and the watch is seen."""
+        watch = Client.watch
+        self.assertTrue(self.direct.append(1, 0, ['recover,1']))
+        acts: list[tuple[Callable[[], object], Until]] = [
+            (lambda: self.direct.promise('a', A, Promise(1, 1)), Until.ALL_IDLE),
+            (lambda: self.direct.append(1, 1, ['recover,1']), Until.NEWS),
+            (lambda: self.direct.ask(OPENING.after(None), 1), Until.NEWS),
+            (lambda: self.direct.order(Orders(frozenset('b')), None), Until.NEWS),
+            (lambda: self.direct.take('b', B, Promise(1, 2), LONG), Until.NEWS),
+        ]  # fmt: skip
+        for act, until in acts:
+            self.log._end_watch()
+            place, done = len(self.log.look(1, 0).rows), []
+
+            def begin(client: Client, told: Json) -> gateway.Subscription:
+                done.append(act())
+                return watch(client, told)
+
+            with mock.patch.object(Client, 'watch', begin):
+                self.assertLess(self.wait(place, until=until), PATIENCE)
+            self.assertEqual(done, [True])
+
+    def test_rest(self) -> None:
+        """Nothing is asked while nothing happens, also over many waits; and one look is enough for the first one."""
+        self.log.look(1, 0)
+        asked = self.between.requests
+        self.wait(0, 0.1)
+        self.assertEqual(self.between.requests, asked + 1, 'the watch')
+        for _ in range(5):
+            self.wait(0, 0.1)
+        self.assertEqual(self.between.requests, asked + 1)
+
+    def test_promises_among_many(self) -> None:
+        """They are told only where they are waited for: a watch is begun anew for that, without a look."""
+        self.assertTrue(self.direct.promise('a', A, Promise(1, 5)))
+        with mock.patch.object(etcd, 'FEW', 0):
+            self.log.look(1, 0)
+            self.wait(0, 0.1)
+            asked, seen = self.between.requests, self.seen()
+            self.assertTrue(self.direct.promise('a', A, Promise(1, 7)))
+            self.wait(0, 0.3)
+            self.assertEqual((self.between.requests, seen), (asked, []))
+            self.wait(0, 0.1, Until.ANY_IDLE)
+            self.assertEqual(self.between.requests, asked + 1)
+            self.assertTrue(self.direct.promise('a', A, Promise(1, 8)))
+            self.wait(0, 0.3, Until.ANY_IDLE)
+        self.assertIn(f'{self.prefix}/presence/promise/a', seen)
+
+    def seen(self) -> list[str]:
+        """The keys of all events from now on."""
+        found: list[str] = []
+        see = etcd.News.see
+
+        def note(news: etcd.News, event: Json) -> None:
+            found.append(decoded(event['kv']['key']))
+            see(news, event)
+
+        patch = mock.patch.object(etcd.News, 'see', note)
+        patch.start()
+        self.addCleanup(patch.stop)
+        return found
+
+    def test_looks(self) -> None:
+        """Each finds all, whatever it has read before, and whatever a watch told meanwhile."""
+        choice, names = random.Random(1), 'abcdef'
+        for few in (0, 64):
+            with mock.patch.object(etcd, 'FEW', few):
+                for number in range(100):
+                    name, life, here = choice.choice(names), Life(number, 1), Promise(1, 0)
+                    there = present(self.direct)
+                    for _ in range(choice.randrange(3)):
+                        self.direct.release(name, there[name].life) if name in there else self.direct.take(
+                            name, life, here, LONG
+                        )
+                    if there and choice.random() < 0.5:
+                        other = choice.choice(sorted(there))
+                        self.direct.promise(other, there[other].life, Promise(1, number))
+                    if choice.random() < 0.3:
+                        self.log.wait(1, 0, there_of(self.log), choice.choice(list(Until)), 0.02)
+                    self.assertEqual(present(self.log), present(self.opened()), number)
+
+    def test_what_a_look_reads(self) -> None:
+        """Of presences those alone that are newer than the last look, but for the first one."""
+        for number in range(20):
+            self.assertTrue(self.direct.take(str(number), A, EMPTY, LONG))
+        read: list[int] = []
+        pairs_of = gateway.pairs_of
+
+        def count(found: Json) -> list[gateway.Pair]:
+            pairs = pairs_of(found)
+            read.append(sum(b'/presence/' in pair.key for pair in pairs))
+            return pairs
+
+        acts: list[Callable[[], object]] = [
+            lambda: None, lambda: None, lambda: self.direct.promise('7', A, Promise(1, 1)),
+            lambda: self.direct.take('x', A, EMPTY, LONG), lambda: self.direct.renew('x', A, 2 * LONG),
+            lambda: self.direct.release('x', A), lambda: None,
+        ]  # fmt: skip
+        counts = []
+        with mock.patch.object(etcd, 'pairs_of', count):
+            for act in acts:
+                act()
+                read.clear()
+                self.log.look(1, 0)
+                counts.append(sum(read))
+        self.assertEqual(counts, [42, 0, 1, 2, 2, 42, 0])
+
+    def test_damage(self) -> None:
+        """Whatever isn't as it has to be is left for a look to find."""
+        for key in ('presence/life/b', 'presence/promise/a', 'place'):
+            self.log.look(1, 0)
+            before = self.server.keys(f'{self.prefix}/{key}').get(f'{self.prefix}/{key}')
+            later = threading.Timer(0.1, lambda: self.server.put(f'{self.prefix}/{key}', 'x'))
+            later.start()
+            self.assertLess(self.wait(0, until=Until.ALL_IDLE if key == 'place' else Until.NEWS), PATIENCE)
+            later.join()
+            with self.assertRaises(DamagedLog):
+                self.log.look(1, 0)
+            if before:
+                self.server.put(f'{self.prefix}/{key}', decoded(before['value']))
+            else:
+                self.server.delete(f'{self.prefix}/{key}')
+
+    def test_removed(self) -> None:
+        self.log.look(1, 0)
+        later = threading.Timer(0.1, lambda: self.server.delete(f'{self.prefix}/', f'{self.prefix}0'))
+        later.start()
+        self.assertLess(self.wait(0), PATIENCE)
+        later.join()
+        with self.assertRaisesRegex(NoLog, 'removed'):
+            self.log.look(1, 0)
+
+
+def there_of(log: EtcdLog) -> dict[str, Life]:
+    """The lives that a look finds."""
+    return log.look(1, 0).lives

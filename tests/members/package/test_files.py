@@ -1,0 +1,712 @@
+"""Tests of logs in files of SQLite."""
+from __future__ import annotations
+
+import contextlib
+import os
+import sqlite3
+import stat
+import subprocess
+import sys
+import unittest
+from collections.abc import Callable
+from pathlib import Path
+from unittest import mock
+
+from bully import boots, files, sqlite
+from bully.clocks import SECOND, nanoseconds_of_boot
+from bully.epochs import Opening
+from bully.logs import (
+    DamagedLog, DiskFull, ForeignLog, Holder, LogBusy, LogError, LogExists, NoEpoch, NoLog, OtherLog, ReadOnlyLog,
+)  # fmt: skip
+from bully.member import Promise, Until
+from bully.sqlite import SqliteLog
+from bully.stores import FileStore
+from bully.worker import Workers
+from places import environment
+from ..steps import EMPTY, LONG, OPENING, A, B, Clock, add, present
+from ..waiting import PATIENCE
+from .folders import WithLogs
+
+# Opens a log, and tells what came of it.
+OPENS = '''
+import sys
+from bully.logs import LogError
+from bully.sqlite import SqliteLog
+try:
+    SqliteLog(sys.argv[1]).close()
+    print('used')
+except LogError as fault:
+    print(fault)
+'''
+
+# Takes a presence for so many seconds, and tells what came of it; maybe as a version before time namespaces did.
+TAKES = '''
+import sys
+from bully import boots, sqlite
+from bully.clocks import SECOND
+from bully.logs import LogError
+from bully.member import Life, Promise
+from bully.sqlite import SqliteLog
+if 'older' in sys.argv:
+    sqlite.boot_name = lambda: boots.machine_boot(boots.boot_name())
+try:
+    print(SqliteLog(sys.argv[1]).take('b', Life(1, 1), Promise(1, 0), int(sys.argv[2]) * SECOND))
+except LogError as fault:
+    print(fault)
+'''
+
+# Looks who is present, and tells what came of it.
+LOOKS = '''
+import sys
+from bully.logs import LogError
+from bully.sqlite import SqliteLog
+try:
+    print(*SqliteLog(sys.argv[1], reads=True).look(1, 0).presences)
+except LogError as fault:
+    print(fault)
+'''
+
+# Moves its children to another time namespace, as `unshare --time` of some kernels does, and opens a log.
+LEAVES = f'''
+import ctypes
+assert ctypes.CDLL(None).unshare(0x80) == 0
+{OPENS}'''
+
+# Keeps a lock on the byte of a file that writers lock, up to the end of standard input, as a user who may only read it.
+LOCKS = '''
+import fcntl, os, sys
+os.setuid(65534)
+file = os.open(sys.argv[1], os.O_RDONLY)
+fcntl.lockf(file, fcntl.LOCK_SH, *map(int, sys.argv[2:]))
+print('locked', flush=True)
+sys.stdin.read()
+'''
+OTHER_CLOCK = 'another time namespace holds presences: its members have to share one, /proc/self/ns/time'
+
+
+def in_clocks(test: unittest.TestCase, offset: int, *words: str) -> str:
+    """What a script of Python says in a time namespace of its own, whose CLOCK_BOOTTIME is so many seconds ahead."""
+    if not os.path.exists('/proc/self/ns/time'):
+        test.skipTest('this kernel has no time namespaces')
+    if os.getuid() != 0:
+        test.skipTest('only root can make a time namespace')
+    command = ['unshare', '--time', '--boottime', str(offset), '--fork', sys.executable, '-c', *words]
+    return subprocess.run(command, env=environment(), stdout=subprocess.PIPE, text=True, check=True).stdout
+
+
+def in_mounts(test: unittest.TestCase, mounted: str, *words: str) -> str:
+    """What a script of Python says, where this was mounted for it alone."""
+    if os.getuid() != 0:
+        test.skipTest('only root can mount')
+    command = ['unshare', '--mount', 'sh', '-c', f'{mounted} && exec "$@"', 'sh', sys.executable, '-c', *words]
+    return subprocess.run(command, env=environment(), stdout=subprocess.PIPE, text=True, check=True).stdout
+
+
+class Files(WithLogs):
+    """What can be wrong with a file."""
+
+    def refused(self, fault: type[LogError], why: str = '') -> None:
+        with self.assertRaisesRegex(fault, why) as caught:
+            SqliteLog(self.path)
+        self.assertIn(str(self.path), str(caught.exception))
+
+    def begun(self) -> SqliteLog:
+        """A log in which 'a' is present."""
+        log = self.created()
+        self.assertTrue(log.take('a', A, EMPTY, LONG))
+        return log
+
+    def test_none(self) -> None:
+        self.refused(NoLog)
+
+    def test_foreign(self) -> None:
+        for content in (b'', b'bully,1,3,6\n' * 100):
+            with self.subTest(content=content[:20]):
+                self.path.write_bytes(content)
+                self.refused(ForeignLog)
+        self.path.unlink()
+        with sqlite3.connect(self.path) as other:
+            other.execute('create table log (place integer primary key, row text)')
+        other.close()
+        self.refused(ForeignLog)
+        self.path.unlink()
+        self.path.mkdir()
+        self.refused(ForeignLog)
+
+    def test_another_form(self) -> None:
+        """A log of another version is told as one."""
+        for form, word in ((1, 'an older'), (2, 'an older'), (4, 'another')):
+            self.created().close()
+            with sqlite3.connect(self.path) as other:
+                other.execute(f'pragma user_version = {form}')
+            other.close()
+            with self.subTest(form=form):
+                self.refused(ForeignLog, f'a log of form {form}, by {word} version, and not of form 3')
+
+    def test_exists(self) -> None:
+        self.created()
+        before = self.path.read_bytes()
+        with self.assertRaises(LogExists):
+            SqliteLog.create(self.path, Opening.first('bully,1,1,1'))
+        self.assertEqual(self.path.read_bytes(), before)
+        self.assertEqual([each.name for each in self.folder.iterdir() if '.new' in each.name], [])
+
+    def test_damaged(self) -> None:
+        log = self.begun()
+        add(log, ['start,1' * 20] * 2000)
+        log.close()
+        content = bytearray(self.path.read_bytes())
+        for start in range(8192, len(content), 4096):
+            content[start : start + 16] = b'\xff' * 16
+        self.path.write_bytes(content)
+        with self.assertRaises(DamagedLog):
+            self.opened().read(1, 0)
+
+    def test_holes(self) -> None:
+        log = self.begun()
+        for rows in (['recover,1', 'start,1'], ['recover,2'], ['recover,3']):
+            add(log, rows)
+        self.change('delete from log where place = 2')
+        for place in (0, 1, 2):
+            with self.assertRaises(DamagedLog):
+                log.read(1, place)
+            with self.assertRaises(DamagedLog):
+                log.look(1, place)
+        self.assertEqual(list(log.read(1, 3)), ['recover,3'])
+        self.change('delete from log where place = 3')
+        with self.assertRaises(DamagedLog):
+            log.read(1, 3)
+        self.assertEqual(list(log.read(1, 4)), [])
+
+    def change(self, *asked: str) -> None:
+        """Somebody changes the file."""
+        with sqlite3.connect(self.path) as other:
+            for each in asked:
+                other.execute(each)
+        other.close()
+
+    def test_no_openings(self) -> None:
+        for asked in ("update epochs set opening = 'hello'", "update epochs set opening = '{}'", 'delete from epochs'):
+            log = self.created()
+            self.change(asked)
+            with self.subTest(asked=asked), self.assertRaises(DamagedLog):
+                log.opening()
+
+    def test_read_only(self) -> None:
+        self.created().close()
+        if os.getuid() != 0:
+            self.skipTest('only root can be somebody else')
+        words = f'''
+import bully.sqlite, encodings.ascii, os
+from bully.logs import LogError
+os.setuid(65534)
+try:
+    bully.sqlite.SqliteLog({str(self.path)!r})
+except LogError as fault:
+    print(type(fault).__name__, fault)
+'''
+        self.folder.chmod(0o755)
+        ran = subprocess.run(
+            [sys.executable, '-c', words], env=environment(), stdout=subprocess.PIPE, text=True, check=True
+        )
+        self.assertRegex(ran.stdout, f'^ReadOnlyLog {self.path}: .*: it is of mode 0600, of user 0$')
+
+    def test_full_disk(self) -> None:
+        log = self.begun()
+        add(log, ['recover,1'])
+        pages = log._one('pragma page_count')
+        log._file.execute(f'pragma max_page_count = {pages + 2}')
+        count = 1
+        with self.assertRaises(DiskFull):
+            while True:
+                self.assertTrue(log.promise('a', A, Promise(1, count)))
+                self.assertTrue(log.append(1, count, ['start,1' * 100] * 3))
+                count += 3
+        self.assertEqual((len(log.read(1, 0)), len(self.opened().read(1, 0))), (count, count))
+        log._file.execute('pragma max_page_count = 1000')
+        self.assertTrue(log.append(1, count, ['start,1']))
+
+    def test_busy(self) -> None:
+        self.begun()
+        log, other = self.opened(0.05), self.opened()
+        other._file.execute('begin immediate')
+        calls: list[Callable[[], object]] = [
+            lambda: log.append(1, 0, ['recover,1']), lambda: log.take('b', B, EMPTY, LONG),
+            lambda: log.renew('a', A, LONG), lambda: log.promise('a', A, Promise(1, 1)), lambda: log.release('a', A),
+            lambda: log.ask(OPENING.after(None), 1), lambda: log.finish(1, 0, OPENING.after(None)),
+        ]  # fmt: skip
+        for call in calls:
+            with self.assertRaisesRegex(LogBusy, f'by process {os.getpid()}'):
+                call()
+        reader = self.closing(SqliteLog(self.path, 0.05, reads=True))
+        self.assertEqual((list(reader.read(1, 0)), present(reader)), ([], {'a': Holder(A, EMPTY)}))
+        other._file.execute('rollback')
+        self.assertTrue(log.append(1, 0, ['recover,1']))
+
+    def test_replaced(self) -> None:
+        log = self.begun()
+        self.path.unlink()
+        with self.assertRaises(NoLog):
+            log.renew('a', A, LONG)
+        for end in ('-wal', '-shm'):
+            Path(f'{self.path}{end}').unlink()
+        SqliteLog.create(self.path, OPENING).close()
+        calls: list[Callable[[], object]] = [lambda: log.renew('a', A, LONG), lambda: log.take('b', B, EMPTY, LONG)]
+        for call in calls:
+            with self.assertRaises(ForeignLog):
+                call()
+
+    def test_beside(self) -> None:
+        """A backup is copied over it, and what was beside it is taken away: who used it doesn't go on in what is in no
+        folder any more."""
+        for ends in (('-wal', '-shm'), ('-wal',), ('-shm',)):
+            log = self.begun()
+            backup = self.path.read_bytes()
+            add(log, ['recover,1'])
+            self.path.write_bytes(backup)
+            for end in ends:
+                Path(f'{self.path}{end}').unlink()
+            calls: list[Callable[[], object]] = [
+                lambda: log.renew('a', A, LONG), lambda: log.take('b', B, EMPTY, LONG),
+                lambda: log.append(1, 1, ['recover,2']), lambda: log.look(1, 1),
+                lambda: log.promise('a', A, Promise(1, 1)), lambda: log.wait(1, 1, {'a': A}, Until.NEWS, PATIENCE),
+            ]  # fmt: skip
+            for call in calls:
+                with self.subTest(ends=ends), self.assertRaisesRegex(OtherLog, 'its -wal or its -shm was taken away'):
+                    call()
+
+    def test_beside_a_link(self) -> None:
+        """The same by a symbolic link, which has nothing beside it; and it is told who keeps the lock."""
+        self.begun().close()
+        link = self.folder / 'link.db'
+        link.symlink_to(self.path)
+        log = self.closing(SqliteLog(link, 0.01))
+        with contextlib.closing(sqlite3.connect(self.path, isolation_level=None)) as other:
+            other.execute('begin immediate')
+            with self.assertRaisesRegex(LogBusy, f'locked by process {os.getpid()}$'):
+                log.renew('a', A, LONG)
+        for end in ('-wal', '-shm'):
+            Path(f'{self.path}{end}').unlink()
+        with self.assertRaisesRegex(OtherLog, 'its -wal or its -shm was taken away'):
+            log.renew('a', A, LONG)
+
+    def test_other_names(self) -> None:
+        """Who has a file by another name has another file beside it, so it isn't used."""
+        self.created().close()
+        other = self.folder / 'other.db'
+        os.link(self.path, other)
+        self.refused(ForeignLog, 'a hard link, by which others would have another log of what is written: other.db$')
+        elsewhere = self.folder / 'elsewhere'
+        elsewhere.mkdir()
+        other.rename(elsewhere / 'other.db')
+        self.refused(ForeignLog, 'a hard link, .*: in another folder$')
+        (elsewhere / 'other.db').unlink()
+        other.symlink_to(self.path)
+        self.closing(SqliteLog(other))
+
+    def test_a_name_that_is_left(self) -> None:
+        """An `init` that was killed may have left the name by which it made the file: it is removed. (So did those that
+        were before this one.)"""
+        self.created().close()
+        link = self.folder / 'link.db'
+        link.symlink_to(self.path)
+        for path in (self.path, link):
+            left = Path(f'{self.path}.0123456789abcdef.new')
+            os.link(self.path, left)
+            self.closing(SqliteLog(path)).look(1, 0)
+            self.assertEqual((left.exists(), self.path.stat().st_nlink), (False, 1))
+
+    def test_shared_file_systems(self) -> None:
+        """Those of more than one machine are refused, in words, by the list of mounts; others are taken."""
+        mounts = '29 1 254:0 / / rw,relatime - ext4 /dev/root rw\n9 29 0:33 / /m rw shared:5 master:1 - %s h:/m rw\n'
+        self.assertEqual(files.kind_of('mnt_id:\t29', mounts % 'nfs4'), 'ext4')
+        self.assertEqual(files.kind_of('mnt_id:\t2', mounts % 'nfs4'), '')
+        for kind in ('nfs', 'nfs4', 'cifs', '9p', 'virtiofs', 'fuse.sshfs', 'ceph'):
+            self.assertEqual(files.kind_of('mnt_id:\t9', mounts % kind), kind)
+            log = self.created()
+            with self.subTest(kind=kind), mock.patch.object(files, 'kind_of', lambda *_: kind):
+                self.refused(ForeignLog, f'on a file system of more than one machine, {kind}, .* or a log in etcd')
+                with self.assertRaisesRegex(ForeignLog, 'of more than one machine'):
+                    SqliteLog.create(self.folder / 'other.db', OPENING)
+            log.close()
+        for kind in ('ext4', 'xfs', 'btrfs', 'tmpfs', 'overlay', 'zfs', 'fuseblk', ''):
+            with mock.patch.object(files, 'kind_of', lambda *_: kind):
+                self.closing(SqliteLog(self.path))
+
+    def test_without_a_wal(self) -> None:
+        """Where SQLite can't keep a -wal it goes on in another way, by which nobody waits for others as here."""
+        self.created().close()
+        self.change('pragma journal_mode = delete')
+        whole = sqlite.connection
+
+        def without(path: str, patience: float, mode: str = 'rw') -> sqlite3.Connection:
+            return sqlite3.connect(f'file:{path}?vfs=unix-dotfile', isolation_level=None, uri=True)
+
+        with mock.patch.object(sqlite, 'connection', without):
+            self.refused(ForeignLog, 'SQLite keeps a journal of mode delete here')
+        self.assertIs(sqlite.connection, whole)
+        self.closing(SqliteLog(self.path))
+
+    def test_modes(self) -> None:
+        """A file is its owner's alone, and so is what is beside it, whatever the mask; or its group's, too. That of a
+        file which is there stays."""
+        made: dict[int, int] = {files.OWNER_ALONE: 0o600, files.ITS_GROUP: 0o660}
+        before = os.umask(0)
+        self.addCleanup(os.umask, before)
+        for mask in (0, 0o022, 0o077):
+            for mode, wanted in made.items():
+                os.umask(mask)
+                self.paths.append(self.folder / f'{mask}-{mode}.db')
+                log = self.closing(SqliteLog.create(self.path, OPENING, mode))
+                self.assertTrue(log.take('a', A, EMPTY, LONG))
+                self.assertEqual(self.modes(), [wanted] * 3)
+                log.close()
+                self.path.chmod(0o640)
+                self.assertTrue(self.opened().renew('a', A, LONG))
+                self.assertEqual(self.modes(), [0o640] * 3)
+        self.assertEqual(files.told_readers(str(self.path)), '')
+        for end in ('-shm', ''):
+            Path(f'{self.path}{end}').chmod(0o644)
+            why = 'so each user who reaches its folder may read it, and who may read it can stop the group'
+            told = f'{self.path}{end}: of mode 0644, {why}; chmod o= {self.path}*'
+            self.assertEqual(files.told_readers(str(self.path)), told)
+
+    def modes(self) -> list[int]:
+        """Those of the file, and of what is beside it."""
+        return [stat.S_IMODE(os.stat(f'{self.path}{end}').st_mode) for end in ('', '-wal', '-shm')]
+
+    def test_for_a_group(self) -> None:
+        """The folder has to give its group what is made there."""
+        shared = FileStore(str(self.path), is_shared=True)
+        for mode in (0o700, 0o770, 0o2750):
+            self.folder.chmod(mode)
+            with self.assertRaisesRegex(ReadOnlyLog, f'does not give its group what is made there.*{self.folder}$'):
+                shared.create(OPENING)
+        self.folder.chmod(0o2770)
+        shared.create(OPENING).close()
+        self.assertEqual(stat.S_IMODE(self.path.stat().st_mode), 0o660)
+
+    def test_readers(self) -> None:
+        """Who only reads can keep all from writing, and is named. Of a file that is its owner's nobody else can."""
+        log = self.begun()
+        if os.getuid() != 0:
+            self.skipTest('only root can be somebody else')
+        self.folder.chmod(0o755)
+        said = subprocess.run([sys.executable, '-c', LOCKS, f'{self.path}-shm', '1', '120'], stderr=subprocess.PIPE)
+        self.assertIn(b'PermissionError', said.stderr)
+        for end in ('', '-wal', '-shm'):
+            Path(f'{self.path}{end}').chmod(0o644)
+        for length, first in ((1, 120), (0, 0)):
+            reads = [sys.executable, '-c', LOCKS, f'{self.path}-shm', str(length), str(first)]
+            with subprocess.Popen(reads, stdin=subprocess.PIPE, stdout=subprocess.PIPE) as reader:
+                assert reader.stdin is not None and reader.stdout is not None
+                self.assertEqual(reader.stdout.readline(), b'locked\n')
+                named = f'locked by process {reader.pid} of user 65534, which only reads$'
+                with self.subTest(length=length), self.assertRaisesRegex(LogBusy, named):
+                    log.renew('a', A, LONG)
+                reader.stdin.close()
+                reader.wait()
+            self.assertTrue(log.renew('a', A, LONG))
+
+    def test_mounted(self) -> None:
+        """A folder may be mounted elsewhere, and no file alone."""
+        self.created().close()
+        elsewhere, alone = self.folder / 'elsewhere', self.folder / 'alone.db'
+        elsewhere.mkdir()
+        alone.touch()
+        said = in_mounts(self, f'mount --bind {self.path} {alone}', OPENS, str(alone))
+        self.assertRegex(said, f'^{alone}: it is mounted alone')
+        self.assertEqual(
+            in_mounts(self, f'mount --bind {self.folder} {elsewhere}', OPENS, str(elsewhere / self.path.name)), 'used\n'
+        )
+        self.opened()
+        for end in ('-wal', '-shm'):
+            beside = f'{self.path}{end}'
+            said = in_mounts(self, f'mount --bind {alone} {beside}', OPENS, str(self.path))
+            self.assertRegex(said, f'^{beside}: it is mounted alone')
+
+    def test_earlier_boot(self) -> None:
+        """What was held before the machine booted isn't held any more, though its end hasn't come by the clock that
+        began again."""
+        self.begun().close()
+        clock = mock.patch.object(sqlite, 'nanoseconds_of_boot', Clock())
+        clock.start()
+        self.addCleanup(clock.stop)
+        self.change('update presence set since = since + 3600 * 1000000000')
+        with mock.patch.object(sqlite, 'boot_name', lambda: 'another'):
+            later = self.opened()
+        self.assertEqual(present(later), {})
+        self.assertFalse(later.append(1, 0, ['recover,1']))
+        self.assertFalse(later.renew('a', A, LONG))
+        self.assertFalse(later.promise('a', A, Promise(1, 5)))
+        self.assertTrue(later.take('a', B, EMPTY, 5 * SECOND))
+        self.assertTrue(later.renew('a', B, LONG))
+
+    def test_two_boots(self) -> None:
+        """A machine has one boot at a time: of two over one file the earlier one is refused, also when it comes again.
+        By one clock the later one waits until no presence of the earlier one may be held."""
+        log, clock = self.begun(), Clock()
+        with mock.patch.object(sqlite, 'boot_name', lambda: 'another'):
+            later = self.opened()
+        for ttl in (2 * LONG, SECOND):
+            with self.assertRaisesRegex(LogBusy, 'another boot may still hold presences'):
+                later.take('b', B, EMPTY, ttl)
+            self.assertTrue(log.renew('a', A, LONG))
+        self.assertFalse(later.cut(EMPTY, 0, '', OPENING.next(None, ())), 'somebody is present')
+        clock.now = nanoseconds_of_boot() + 2 * LONG
+        with mock.patch.object(sqlite, 'nanoseconds_of_boot', clock):
+            self.assertTrue(later.take('b', B, EMPTY, LONG))
+        calls: list[Callable[[], object]] = [
+            lambda: log.renew('a', A, LONG), lambda: log.append(1, 0, ['recover,1']), lambda: log.look(1, 0),
+            lambda: SqliteLog(self.path), lambda: log.take('a', A, EMPTY, LONG),
+            lambda: log.wait(1, 0, {'a': A}, Until.NEWS, PATIENCE), lambda: log.ask(OPENING.after(None), 1),
+        ]  # fmt: skip
+        for call in calls:
+            with self.assertRaisesRegex(ForeignLog, 'another boot uses it behind this one'):
+                call()
+        self.assertTrue(later.renew('b', B, LONG))
+
+    def test_two_containers(self) -> None:
+        """Where a container has a boot of its own, as it sees it."""
+        log = self.begun()
+        (self.folder / 'boot').write_text('another\n')
+        seen = f'mount --bind {self.folder}/boot /proc/sys/kernel/random/boot_id'
+        for seconds in ('2000', '5'):
+            self.assertEqual(
+                in_mounts(self, seen, TAKES, str(self.path), seconds),
+                f'{self.path}: another boot may still hold presences\n',
+            )
+        log.release('a', A)
+        self.assertEqual(in_mounts(self, seen, TAKES, str(self.path), '5'), 'True\n')
+        with self.assertRaisesRegex(ForeignLog, 'another boot uses it behind this one'):
+            log.renew('a', A, LONG)
+
+    def test_time_namespaces(self) -> None:
+        """Who counts by another clock is refused while presences are held, whichever is ahead, and if none is, too; and
+        who was there goes on. It may come once nobody is present; then the first one is refused, and may come again."""
+        log = self.begun()
+        for offset in (100_000, -10, 0):
+            for script in (TAKES, LOOKS):
+                with self.subTest(offset=offset):
+                    said = in_clocks(self, offset, script, str(self.path), '5')
+                    self.assertEqual(said, f'{self.path}: {OTHER_CLOCK}\n')
+        self.assertTrue(log.renew('a', A, LONG))
+        self.assertTrue(log.append(1, 0, ['recover,1']))
+        self.assertTrue(log.promise('a', A, Promise(1, 1)))
+        log.release('a', A)
+        self.change("delete from log", 'update epochs set count = 0')  # so that the end is where that script takes one
+        self.assertEqual(in_clocks(self, 100_000, TAKES, str(self.path), '1000'), 'True\n')
+        calls: list[Callable[[], object]] = [
+            lambda: log.take('a', A, EMPTY, LONG), lambda: log.look(1, 0), lambda: self.opened().look(1, 0),
+            lambda: log.wait(1, 0, {}, Until.NEWS, PATIENCE),
+        ]  # fmt: skip
+        for call in calls:
+            with self.assertRaisesRegex(ForeignLog, OTHER_CLOCK):
+                call()
+        self.change('update presence set until = since + 1')  # as if it hadn't been renewed
+        self.assertTrue(log.take('a', A, EMPTY, LONG))
+        self.assertEqual(present(log), {'a': Holder(A, EMPTY)})
+        self.assertEqual(in_clocks(self, 100_000, TAKES, str(self.path), '5'), f'{self.path}: {OTHER_CLOCK}\n')
+
+    def test_time_namespace_of_an_older_version(self) -> None:
+        """What a version left that told no namespace counts by the machine's clock, and by that of whoever comes: so it
+        keeps others out of its own namespace, too. That version is refused behind a newer one."""
+        self.created().close()
+        both = f'{TAKES}\nsys.argv.remove("older")\nsqlite.boot_name = boots.boot_name\n{TAKES}'
+        said = in_clocks(self, 100_000, both, str(self.path), '1000', 'older')
+        self.assertEqual(said, f'True\n{self.path}: {OTHER_CLOCK}\n')
+        self.created().close()
+        self.assertEqual(in_clocks(self, 100_000, TAKES, str(self.path), '1000'), 'True\n')
+        self.assertEqual(self.machine_boots(), [boots.boot_name()] * 2, 'an older version finds it, and not last')
+
+    def machine_boots(self) -> list[str]:
+        """The boots that have used the log, without their namespaces."""
+        with contextlib.closing(sqlite3.connect(self.path)) as file:
+            return [boots.machine_boot(boot) for boot, in file.execute('select boot from boots order by number')]
+
+    def test_a_kernel_without_time_namespaces(self) -> None:
+        there = boots.boot_name()
+        with mock.patch.object(os, 'readlink', side_effect=FileNotFoundError):
+            self.assertEqual(boots.boot_name(), there)
+        self.assertEqual(there, Path('/proc/sys/kernel/random/boot_id').read_text().strip())
+
+    def test_children_by_another_clock(self) -> None:
+        """A guard would count by another clock than its member."""
+        self.created().close()
+        if os.getuid() != 0 or not os.path.exists('/proc/self/ns/time'):
+            self.skipTest('there are no time namespaces, or only root can make one')
+        ran = [sys.executable, '-c', LEAVES, str(self.path)]
+        said = subprocess.run(ran, env=environment(), stdout=subprocess.PIPE, text=True, check=True).stdout
+        self.assertRegex(said, 'this process is in one time namespace and its children in another')
+
+    def test_a_guard_by_another_clock(self) -> None:
+        """It isn't begun, whatever the store is."""
+        begun = mock.patch.object(subprocess, 'Popen', side_effect=AssertionError('it has begun'))
+        with begun, mock.patch.object(boots, 'namespace_of', str):
+            with self.assertRaisesRegex(ForeignLog, 'a guard of it would count by another clock'):
+                Workers(['true'], 'a', 1.0).begin(mock.Mock())
+
+    def test_first_of_a_boot(self) -> None:
+        """Another member takes the first presence of this boot between any two statements of a call."""
+        calls: dict[str, Callable[[SqliteLog], object]] = {
+            'epochs': SqliteLog.epochs, 'opening': SqliteLog.opening,
+            'wait': lambda log: log.wait(1, 0, {}, Until.NEWS, 0.001), 'look': lambda log: log.look(1, 0),
+        }  # fmt: skip
+        for name, call in calls.items():
+            taken = 0
+            for count in range(1, 10):
+                with self.subTest(call=name, count=count):
+                    taken += self.take_at(count, call)
+            self.assertGreater(taken, 0, name)
+
+    def take_at(self, count: int, call: Callable[[SqliteLog], object]) -> bool:
+        """Calls, and at so many statements of that another takes a presence. Whether it came to so many."""
+        log, other, seen = self.created(), self.opened(), 0
+
+        def see(asked: str) -> None:
+            nonlocal seen
+            seen += 1
+            if seen == count:
+                self.assertTrue(other.take('b', B, EMPTY, LONG))
+
+        log._file.set_trace_callback(see)
+        call(log)
+        log._file.set_trace_callback(None)
+        self.assertEqual('b' in present(log), seen >= count)
+        return seen >= count
+
+    def test_bad_presence(self) -> None:
+        for number, asked in enumerate(("life = 'x'", "life = '1.x'", "epoch = 'x'", "until = 'x'")):
+            log = self.begun()
+            self.change(f'update presence set {asked}')
+            with self.subTest(number=number), self.assertRaisesRegex(DamagedLog, 'the presence of a is none'):
+                log.look(1, 0)
+
+    def test_another_log(self) -> None:
+        """One that was written into the same file has another name."""
+        log = self.begun()
+        self.change("update changes set name = 'another'")
+        calls: list[Callable[[], object]] = [
+            lambda: log.renew('a', A, LONG),
+            lambda: log.append(1, 0, ['recover,1']),
+            lambda: log.look(1, 0),
+        ]
+        for call in calls:
+            with self.assertRaisesRegex(ForeignLog, 'another log is in its place'):
+                call()
+
+    def test_restored(self) -> None:
+        """A backup is written over it while it is used: who has read more ends."""
+        log = self.begun()
+        backup = sqlite3.connect(self.folder / 'backup')
+        with contextlib.closing(backup), contextlib.closing(sqlite3.connect(self.path)) as file:
+            file.backup(backup)
+            add(log, ['recover,1', 'start,1'])
+            reader = self.opened()
+            self.assertEqual(len(reader.look(1, 2).rows), 0)
+            backup.backup(file)
+        calls: list[Callable[[], object]] = [
+            lambda: reader.look(1, 2),
+            lambda: log.append(1, 2, ['recover,2']),
+            lambda: log.read(1, 2),
+        ]
+        for call in calls:
+            with self.assertRaisesRegex(
+                DamagedLog, 'read up to place 2 of epoch 1, and ends at 0 of 1: its store went back'
+            ):
+                call()
+
+    def test_a_name_reaches_the_disk(self) -> None:
+        """The name of a log that was made does, and that is there by then."""
+        synced: list[tuple[str, bool]] = []
+
+        def see(descriptor: int) -> None:
+            synced.append((os.readlink(f'/proc/self/fd/{descriptor}'), (self.folder / 'group0.db').exists()))
+
+        with mock.patch.object(os, 'fsync', see):
+            self.created()
+        self.assertEqual(synced, [(str(self.folder.resolve()), True)])
+
+    def test_what_reaches_the_disk(self) -> None:
+        """What is appended does; presences and promises need not."""
+        log = self.begun()
+        self.assertEqual(log._one('pragma synchronous'), 1)
+        told: list[str] = []
+        log._file.set_trace_callback(told.append)
+        calls: list[Callable[[], object]] = [
+            lambda: log.renew('a', A, LONG), lambda: log.promise('a', A, EMPTY), lambda: log.look(1, 0),
+            lambda: log.append(1, 0, ['x']),
+        ]  # fmt: skip
+        for number, call in enumerate(calls):
+            told.clear()
+            call()
+            self.assertEqual(
+                [each for each in told if 'synchronous' in each][:1],
+                ['pragma synchronous = full'] if number == 3 else [],
+            )
+        self.assertEqual(log._one('pragma synchronous'), 1)
+
+
+class OlderForm(WithLogs):
+    """A log of the form before is read, and nothing more."""
+
+    TABLES = """
+    create table epochs (epoch integer primary key, opening text not null, wish text);
+    create table packs (epoch integer, number integer, rows text not null, primary key (epoch, number));
+    create table log (epoch integer, place integer, row text not null, primary key (epoch, place));
+    create table presence (
+        epoch integer, node integer, life text not null, boot text not null, until real not null,
+        primary key (epoch, node)
+    );
+    """
+
+    def setUp(self) -> None:
+        super().setUp()
+        with sqlite3.connect(self.path) as file:
+            file.executescript(f'pragma application_id = {sqlite.APPLICATION}; pragma user_version = 2; {self.TABLES}')
+            packed = ['bully,1,3,6', *(f'start,{number}' for number in range(1, 2000))]
+            for number in (0, 1):
+                text = ''.join(f'{row}\n' for row in packed[1000 * number : 1000 * number + 1000])
+                file.execute('insert into packs values (1, ?, ?)', (number, text))
+            file.executemany('insert into log values (1, ?, ?)', [(2000, 'recover,1'), (2001, 'end,bully,1,3,6')])
+            file.executemany('insert into log values (2, ?, ?)', [(0, 'bully,1,3,6'), (1, 'recover,2')])
+        file.close()
+        self.wanted = [*packed, 'recover,1']
+        self.store = FileStore(str(self.path))
+
+    def test_refused(self) -> None:
+        for reads in (False, True):
+            with self.assertRaisesRegex(
+                ForeignLog, 'a log of form 2, by an older version, and not of form 3; history writes it'
+            ):
+                self.store.open(reads=reads)
+        with self.assertRaises(LogExists):
+            self.store.create(OPENING)
+
+    def test_history(self) -> None:
+        before = self.path.read_bytes()
+        self.assertEqual(list(self.store.history(1)), self.wanted)
+        for epoch in (2, None):
+            self.assertEqual(list(self.store.history(epoch)), ['bully,1,3,6', 'recover,2'])
+        with self.assertRaises(NoEpoch):
+            self.store.history(3)
+        self.assertEqual(self.path.read_bytes(), before)
+        with sqlite3.connect(self.path) as file:
+            file.execute('delete from packs where number = 1')
+        file.close()
+        with self.assertRaises(DamagedLog):
+            self.store.history(1)
+
+    def test_history_of_today(self) -> None:
+        self.path.unlink()
+        with self.assertRaises(NoLog):
+            self.store.history()
+        self.store.create(OPENING).close()
+        log = self.opened()
+        self.assertTrue(log.take('a', A, EMPTY, LONG))
+        end = add(log, ['recover,1', 'start,1'])
+        self.assertTrue(log.promise('a', A, end))
+        self.assertTrue(log.finish(1, 2, OPENING.after(None)))
+        self.assertEqual(
+            (self.store.history(1), self.store.history()), (['bully,1,3,6', 'recover,1', 'start,1'], ['bully,1,3,6'])
+        )

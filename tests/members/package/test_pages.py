@@ -1,0 +1,325 @@
+"""Tests of configurations, and of what a member tells over HTTP."""
+from __future__ import annotations
+
+import contextlib
+import io
+import json
+import os
+import resource
+import socket
+import struct
+import threading
+from unittest import mock
+
+from bully import page
+from bully.clocks import seconds_of_boot
+from bully.epochs import Token
+from bully.logs import DamagedLog, Found, Holder, Unanswered
+from bully.member import Life, Promise
+from bully.orders import Orders
+from ..steps import LONG
+from ..waiting import PATIENCE, wait_until
+from .paged import Paged
+from .threads import Troubled, put
+
+
+class Pages(Paged):
+    """What a member tells over HTTP."""
+
+    def test_before(self) -> None:
+        self.assertEqual(self.get('/healthz')[0], 503)
+        status, kind, text = self.get('/group')
+        self.assertEqual((status, kind), (200, 'application/json; charset=utf-8'))
+        told = json.loads(text)
+        self.assertEqual((told['epoch'], told['events'], told['token'], told['coordinator']), (1, 0, None, None))
+        self.assertEqual(told['owners'], [None] * 6)
+        self.assertEqual(json.loads(self.get('/assignment')[2])['partitions'], [])
+
+    def test_group(self) -> None:
+        self.begin()
+        told = json.loads(self.get('/group')[2])
+        self.assertEqual((told['coordinator'], set(told['owners'])), (self.NAMES[1], {self.NAMES[1]}))
+        self.assertEqual([node['present'] for node in told['nodes']], [False, True, False])
+        self.assertEqual([row['text'] for row in told['last']], self.log.rows[-20:])
+        assigned = json.loads(self.get('/assignment')[2])
+        self.assertEqual(
+            (assigned['node'], assigned['partitions'], assigned['token']),
+            (self.NAMES[1], list(range(6)), told['token']),
+        )
+        self.assertTrue(0 < assigned['sure_seconds'] <= 1.6)
+        self.assertEqual(self.get('/healthz')[::2], (200, 'present\n'))
+
+    def test_orders(self) -> None:
+        """That the group is paused, and which nodes are drained."""
+        self.begin()
+        for orders, paused, drained in ((Orders(), 0, 0), (Orders(frozenset('c'), {}), 1, 1)):
+            self.assertTrue(self.log.order(orders, None))
+            wait_until(lambda: json.loads(self.get('/group')[2])['paused'] == bool(paused))
+            self.assertEqual(
+                [node['drained'] for node in json.loads(self.get('/group')[2])['nodes']], [False, False, bool(drained)]
+            )
+            text, shown = self.get('/metrics')[2], self.get('/')[2]
+            self.assertEqual(
+                (f'\nbully_paused {paused}\n' in text, f'\nbully_drained{{node="c"}} {drained}\n' in text), (True, True)
+            )
+            is_told = '; paused: who works goes on' in shown, '<td>no, drained<td>' in shown
+            self.assertEqual(is_told, (bool(paused), bool(drained)))
+        self.assertEqual(self.get('/healthz')[2], 'present\n')
+
+    def test_long_poll(self) -> None:
+        answers: list[int] = []
+        thread = threading.Thread(target=lambda: answers.append(json.loads(self.get('/group?after=0')[2])['events']))
+        thread.start()
+        self.assertEqual(self.get('/group')[0], 200)
+        put(self.log, 'recover,1')
+        thread.join()
+        self.assertEqual(answers, [1])
+
+    def test_long_poll_over_epochs(self) -> None:
+        """Events of another epoch are more, also if they are fewer."""
+        answers: list[tuple[int, int]] = []
+
+        def poll() -> None:
+            told = json.loads(self.get('/group?after=2')[2])
+            answers.append((told['epoch'], told['events']))
+
+        looked: list[int] = []
+
+        def look(epoch: int, place: int) -> Found:
+            looked.append(place)
+            return Troubled.look(self.log, epoch, place)
+
+        put(self.log, 'recover,1', 'crash,1')
+        setattr(self.log, 'look', look)
+        thread = threading.Thread(target=poll)
+        thread.start()
+        wait_until(lambda: len(looked) > 1)  # so it waits
+        life, here = Life(1, 1), Promise(1, 2)
+        self.assertTrue(
+            self.log.take('stranger', life, here, LONG) and self.log.finish(1, 2, self.log.opening().next(None, ()))
+        )
+        self.log.release('stranger', life)
+        thread.join()
+        self.assertEqual(answers, [(2, 0)])
+        self.assertEqual(json.loads(self.get('/group?after=2&epoch=1')[2])['epoch'], 2)
+
+    def test_a_silent_connection(self) -> None:
+        """It is closed by itself, also one that has asked in part."""
+        with mock.patch.object(page.PageHandler, 'timeout', 0.2), self.client() as silent, self.client() as slow:
+            slow.sendall(b'GET /healthz HTTP/1.1\r\nHost')
+            self.assertEqual((silent.recv(1), slow.recv(1)), (b'', b''))
+        self.assertEqual(page.PageHandler.timeout, page.ASK_SECONDS)
+
+    def test_silent_connections(self) -> None:
+        """A thousand of them are no more than a hundred at one time, and whoever asks is answered."""
+        limits, threads = resource.getrlimit(resource.RLIMIT_NOFILE), threading.active_count()
+        resource.setrlimit(resource.RLIMIT_NOFILE, (limits[1], limits[1]))
+        self.addCleanup(resource.setrlimit, resource.RLIMIT_NOFILE, limits)
+        with contextlib.ExitStack() as opened:
+            opened.enter_context(mock.patch.object(page.PageHandler, 'timeout', 10 * PATIENCE))
+            clients = [opened.enter_context(self.client()) for _ in range(1000)]
+            self.assertEqual(self.get('/healthz')[::2], (503, 'not present\n'))
+            self.assertEqual([client.recv(1) for client in clients[:900]], [b''] * 900)
+            wait_until(lambda: threading.active_count() <= threads + page.CONNECTIONS_MAX)
+            self.assertEqual(self.get('/group')[0], 200)
+        wait_until(lambda: threading.active_count() == threads)
+
+    def test_slow_readers(self) -> None:
+        """Whoever asks, and doesn't take the answer, counts up to the end of its time: of more of them all are
+        closed."""
+        big = 200, 'text/plain', 'x' * 20_000_000
+        threads = threading.active_count()
+        with contextlib.ExitStack() as opened:
+            with mock.patch.object(self.page, 'answer', lambda *asked: big), mock.patch.object(
+                page.PageHandler, 'timeout', PATIENCE
+            ):
+                taken = [self.taken(opened.enter_context(self.client())) for _ in range(page.CONNECTIONS_MAX + 20)]
+                self.assertEqual([bool(part) for part in taken], [True] * page.CONNECTIONS_MAX + [False] * 20)
+                self.assertEqual(threading.active_count(), threads + page.CONNECTIONS_MAX)
+        wait_until(lambda: threading.active_count() == threads)
+        self.assertEqual(self.get('/healthz')[0], 503)
+
+    def taken(self, client: socket.socket) -> bytes:
+        """It asks. The begin of the answer; nothing, if it is closed."""
+        with contextlib.suppress(ConnectionError):
+            client.sendall(b'GET / HTTP/1.1\r\nHost: localhost\r\n\r\n')
+            return client.recv(100)
+        return b''
+
+    def test_many_polls(self) -> None:
+        """There is a bound of them, and all others are answered. They look no more often than one does."""
+        looked: list[int] = []
+
+        def look(epoch: int, place: int) -> Found:
+            looked.append(place)
+            return Troubled.look(self.log, epoch, place)
+
+        setattr(self.log, 'look', look)
+        statuses: list[int] = []
+        threads = [
+            threading.Thread(target=lambda: statuses.append(self.get('/group?after=0')[0]))
+            for _ in range(page.POLLS_MAX)
+        ]
+        for thread in threads:
+            thread.start()
+        wait_until(lambda: vars(self.page._answers)['_polls']._value == 0)
+        self.assertEqual(self.get('/group?after=0')[0], 503)
+        begun, before = seconds_of_boot(), len(looked)
+        wait_until(lambda: len(looked) > before + 5)
+        self.assertLessEqual(len(looked) - before, (seconds_of_boot() - begun) / page.LOOK_SECONDS + 1)
+        self.assertEqual((self.get('/healthz')[2], self.get('/metrics')[0], statuses), ('not present\n', 200, []))
+        put(self.log, 'recover,1')
+        for thread in threads:
+            thread.join()
+        self.assertEqual(statuses, [200] * page.POLLS_MAX)
+
+    def test_a_silent_store(self) -> None:
+        """Health, and what is measured of the member, are told all the same."""
+        self.make(100.0)
+        self.begin()
+        wait_until(lambda: f'bully_node_present{page.labels(self.NAMES[1])} 1' in self.get('/metrics')[2])
+        self.log.is_silent = True
+        self.addCleanup(setattr, self.log, 'is_silent', False)
+        wait_until(lambda: self.get('/group')[0] == 503)
+        self.assertEqual(self.get('/healthz')[::2], (200, 'present\n'))
+        told = dict(line.rsplit(' ', 1) for line in self.get('/metrics')[2].splitlines() if not line.startswith('#'))
+        self.assertGreater(float(told[f'bully_sure_seconds{page.labels(self.NAMES[1])}']), 60.0)
+
+    def test_the_last_known(self) -> None:
+        """A store that is silent before anybody asked: what was known last is measured all the same, and how old it is
+        and that the store is silent are, too."""
+        self.assertTrue(self.log.order(Orders(frozenset('c'), None), None))
+        self.make(1000.0, self.log)
+        self.log.is_silent = True
+        first = self.measured()
+        named = page.labels('c')
+        self.assertEqual([first['bully_store_up'], first[f'bully_drained{named}'], first['bully_epoch']], [0, 1, 1])
+        wait_until(lambda: self.measured()['bully_group_age_seconds'] > first['bully_group_age_seconds'])
+        self.log.is_silent = False
+        wait_until(lambda: self.measured()['bully_store_up'] == 1)
+        with mock.patch.object(page, 'seconds_of_boot', lambda: seconds_of_boot() + 5.0):
+            self.log.is_silent = True
+            self.assertGreaterEqual(self.measured()['bully_group_age_seconds'], 5.0)
+
+    def test_a_store_that_hangs(self) -> None:
+        """Who asks while a look hangs waits for a bounded time."""
+        hangs, goes_on = threading.Event(), threading.Event()
+
+        def look(epoch: int, place: int) -> Found:
+            hangs.set()
+            goes_on.wait()
+            return Troubled.look(self.log, epoch, place)
+
+        self.addCleanup(goes_on.set)
+        with mock.patch.object(page, 'LOOK_MAX', 0.1):
+            setattr(self.log, 'look', look)
+            first = threading.Thread(target=self.get, args=['/group'])
+            first.start()
+            hangs.wait()
+            told = self.measured()
+            self.assertEqual((told['bully_store_up'], told['bully_epoch']), (0, 1))
+            self.assertEqual(self.get('/group')[::2], (503, 'the store does not answer\n'))
+            goes_on.set()
+            first.join()
+        self.assertEqual(self.status('/group'), 200)
+
+    def test_what_strangers_hear(self) -> None:
+        """The servers of a store, or its files, are named to the member's own log alone, once."""
+        cases = (
+            (Unanswered('10.0.0.1:2379: timed out'), 'the store does not answer\n'),
+            (DamagedLog('/srv/group.db: no row'), 'the log can not be read\n'),
+        )
+        for failure, told in cases:
+            with self.subTest(failure), mock.patch.object(page, 'LOOK_SECONDS', 0.0):
+                with mock.patch.object(self.log, 'look', side_effect=failure), self.assertLogs('bully') as logged:
+                    for target in ('/', '/group', '/assignment', '/group?after=7'):
+                        self.assertEqual(self.get(target), (503, 'text/plain; charset=utf-8', told))
+                    self.assertNotIn(str(failure), self.get('/metrics')[2])
+                self.assertEqual([record.getMessage() for record in logged.records], [f'page: {failure}'])
+                self.assertEqual(self.status('/group'), 200)
+
+    def test_a_worker_that_does_not_end(self) -> None:
+        self.begin()
+        self.workers.begin(self.member)
+        self.addCleanup(self.workers.close)
+        self.assertEqual(self.get('/healthz')[0], 200)
+        self.workers._survivors, self.workers._stop_begun = [os.getpid()], seconds_of_boot() - 10.0
+        self.assertEqual(self.get('/healthz')[::2], (503, 'its worker does not end\n'))
+        self.assertRegex(self.get('/')[2], 'nodes present; its worker has not stopped for 1[0-9][.][0-9] s<')
+        told = dict(line.rsplit(' ', 1) for line in self.get('/metrics')[2].splitlines() if not line.startswith('#'))
+        self.assertGreaterEqual(float(told[f'bully_stopping_seconds{page.labels(self.NAMES[1])}']), 10.0)
+        self.workers._survivors, self.workers._stop_begun = [], None
+
+    def test_an_epoch_that_is_not_told(self) -> None:
+        """Where the log doesn't answer with what the next epoch began with, the page goes on once it does."""
+        life, here = Life(1, 1), Promise(1, 0)
+        self.assertTrue(
+            self.log.take('stranger', life, here, LONG) and self.log.finish(1, 0, self.log.opening().next(None, ()))
+        )
+        with mock.patch.object(page, 'LOOK_SECONDS', 0.0), mock.patch.object(
+            self.log, 'opening', side_effect=Unanswered('silent')
+        ) as asked:
+            for _ in range(2):
+                told = 503, 'the store does not answer\n'
+                self.assertEqual((self.get('/group')[0], self.get('/group')[2]), told)
+        self.assertEqual(asked.call_count, 4)
+        self.assertEqual(json.loads(self.get('/group')[2])['epoch'], 2)
+
+    def test_gone(self) -> None:
+        """Who asked is gone before the answer."""
+        threads = threading.active_count()
+        with contextlib.redirect_stderr(io.StringIO()) as told:
+            with socket.create_connection(('127.0.0.1', self.page.port)) as client:
+                client.sendall(b'GET /group?after=0 HTTP/1.1\r\nHost: localhost:1\r\n\r\n')
+                wait_until(lambda: threading.active_count() > threads)
+                client.setsockopt(socket.SOL_SOCKET, socket.SO_LINGER, struct.pack('ii', 1, 0))  # it is reset
+            put(self.log, 'recover,1')
+            wait_until(lambda: threading.active_count() == threads)
+        self.assertEqual(told.getvalue(), '')
+
+    def test_page(self) -> None:
+        self.begin()
+        status, kind, text = self.get('/')
+        self.assertEqual((status, kind), (200, 'text/html; charset=utf-8'))
+        self.assertNotIn('<script>alert', text)
+        self.assertIn('&lt;script&gt;alert(1)&lt;/script&gt;', text)
+        self.assertNotRegex(text, r'(src|href)=')
+
+    def test_metrics(self) -> None:
+        """Each line is one of Prometheus's text format."""
+        self.begin()
+        status, kind, text = self.get('/metrics')
+        self.assertEqual((status, kind), (200, 'text/plain; version=0.0.4'))
+        sample = r'[a-z_]+(\{node="([^"\\\n]|\\["\\n])*"\})? [-+0-9.e]+'
+        for line in text.splitlines():
+            self.assertRegex(line, rf'^(# (HELP [a-z_]+ .+|TYPE [a-z_]+ (counter|gauge))|{sample})$')
+        self.assertIn('bully_node_partitions{node="<script>alert(1)</script>"} 6', text)
+        self.assertIn('bully_node_present{node="a\\"\\\\b"} 0', text)
+        token = Token.of(1, 1 + self.log.rows.index(next(row for row in self.log.rows if row.startswith('plan'))))
+        self.assertTrue({'bully_epoch 1', f'bully_token {token}'} <= set(text.splitlines()))
+
+    def test_behind(self) -> None:
+        """Who isn't idle is named, with how long the others have waited."""
+        self.begin()
+        self.assertEqual(json.loads(self.get('/group')[2])['behind'], {})
+        name, life = self.NAMES[0], Life(7, 1)
+        self.assertIn(f'bully_idle_behind_seconds{page.labels(name)} 0.000', self.get('/metrics')[2])
+        self.assertTrue(self.log.take(name, life, Promise(1, len(self.log.rows)), LONG))
+        with self.log._changed:  # it works
+            self.log.leases[name] = self.log.leases[name]._replace(holder=Holder(life, Promise()))
+        wait_until(lambda: json.loads(self.get('/group')[2])['behind'].get(name, 0) > 0.3)
+        behind = json.loads(self.get('/group')[2])['behind']
+        self.assertEqual(list(behind), [name])
+        self.assertRegex(self.get('/')[2], 'nodes present; not idle yet: a&quot;[^<]* for [0-9.]+ s<')
+        told = [line for line in self.get('/metrics')[2].splitlines() if line.startswith('bully_idle_behind_seconds{')]
+        self.assertEqual(len(told), 3)
+        self.assertGreaterEqual(float(told[0].split()[1]), behind[name])
+
+    def test_refused(self) -> None:
+        for method in ('POST', 'PUT', 'DELETE', 'PATCH', 'TRACE', 'PROPFIND'):
+            self.assertEqual(self.get('/', method)[0], 405)
+        self.assertEqual(self.get('/nothing')[0], 404)
+        self.assertEqual(self.get('/group', Host=f'elsewhere.example:{self.page.port}')[0], 403)
+        self.assertEqual(self.get('/group', Host=f'localhost:{self.page.port}')[0], 200)
+        for target in ('/group?after=x', '/group?after=-1', '/group?after=99999999999999'):
+            self.assertEqual(self.get(target)[0], 200)

@@ -1,0 +1,549 @@
+"""Tests of `bully-member run`, in processes of their own."""
+from __future__ import annotations
+
+import contextlib
+import json
+import os
+import re
+import signal
+import socket
+import sqlite3
+import subprocess
+import sys
+import time
+import urllib.error
+import urllib.request
+from pathlib import Path
+from typing import BinaryIO
+from unittest import mock
+
+from bully import clocks, command
+from bully.clocks import SECOND
+from bully.epochs import Token
+from bully.sqlite import SqliteLog
+from bully.view import LogView
+from places import ROOT, environment
+from ..processes import children, end, freeze, full_pipe, has_stopped, is_running, parent_of, thaw
+from ..waiting import PATIENCE, wait_until
+from .configurations import TOP, toml
+from .member_processes import BEGINS, STARTS, TALKS, MemberProcess, WithMember, started
+from .unlisted import unlisted_from
+
+UNTIL = 'select max(until) from presence'
+
+
+class Processes(WithMember):
+    """`bully-member run`."""
+
+    def test_in_order(self) -> None:
+        member = self.begin(BEGINS)
+        worker = member.worker()
+        told = member.environment()
+        self.assertEqual(
+            [told[f'BULLY_{name}'] for name in ('NODE', 'COORDINATOR', 'PARTITIONS')],
+            ['the only', 'the only', '0 1 2 3 4 5'],
+        )
+        log = self.opened()
+        rows, token = list(log.read(1, 0)), Token(int(told['BULLY_TOKEN']))
+        self.assertEqual(token.epoch, 1)
+        self.assertTrue(rows[token.events - 1].startswith('plan,1,'))
+        settings_told = {
+            'names': ['the only'], 'weights': [3], 'partitions': 6, 'keep': False, 'ttl': 2.0, 'margin': 0.4,
+        }  # fmt: skip
+        self.assertEqual(json.loads(told['BULLY_SETTINGS']), settings_told)
+        self.assertEqual(member.end(), 0)
+        self.assertFalse(is_running(worker))
+        self.assertEqual(self.left(), ('crash,1', {}))
+
+    def test_resized(self) -> None:
+        """Its node gets another number, and the worker other settings. What is old is taken away."""
+        member = self.begin(BEGINS)
+        worker = member.worker()
+        (self.folder / 'begun').unlink()
+        new = self.folder / 'new.toml'
+        new.write_bytes(toml({**TOP, 'nodes': 2, 'names': ['another', 'the only'], 'partitions': 3}))
+        self.assertEqual(command.main(['resize', '--config', str(new), '--log', f'sqlite:{self.path}']), 0)
+        self.assertEqual(command.main(['prune', '--keep', '1', '--log', f'sqlite:{self.path}']), 0)
+        self.assertNotEqual(member.worker(), worker)
+        self.assertFalse(is_running(worker))
+        told = member.environment()
+        self.assertEqual(
+            [told[f'BULLY_{name}'] for name in ('NODE', 'COORDINATOR', 'PARTITIONS')], ['the only', 'the only', '0 1 2']
+        )
+        self.assertEqual(json.loads(told['BULLY_SETTINGS'])['names'], ['another', 'the only'])
+        self.assertEqual(Token(int(told['BULLY_TOKEN'])).epoch, 2)
+        self.assertEqual(member.end(), 0)
+        self.assertEqual(self.left(), ('crash,2', {}))
+
+    def test_its_node_is_gone(self) -> None:
+        """Then it ends by a status by which it is begun again, and it comes back once its node does."""
+        member, config = self.begin(BEGINS), self.folder / 'group.toml'
+        member.worker()
+        new = self.folder / 'new.toml'
+        new.write_bytes(toml({**TOP, 'nodes': 1, 'names': ['teh only']}))
+        resize = ['resize', '--log', f'sqlite:{self.path}', '--all-new', '--config']
+        self.assertEqual(command.main([*resize, str(new)]), 0)
+        self.assertEqual(member.wait(), 5)
+        self.assertIn('bully-member: the group has no node the only any more\n', member.said)
+        member.begin_again()
+        self.assertEqual(member.wait(), 5)
+        self.assertEqual(command.main([*resize, str(config)]), 0)
+        (self.folder / 'begun').unlink()
+        member.begin_again()
+        member.worker()
+        self.assertEqual(member.end(), 0)
+
+    def test_told_to_end_before_it_takes_part(self) -> None:
+        """It waits for a store, and ends in order all the same: as the first process of a container no signal ends it
+        by itself."""
+        with socket.create_server(('127.0.0.1', 0)) as silent:
+            words = ['--log', f'etcd://127.0.0.1:{silent.getsockname()[1]}/x', '--node', 'a']
+            member = MemberProcess(self.folder, words, ['true'])
+            self.addCleanup(member.kill)
+            wait_until(lambda: 'did not answer in time' in member.said)
+            self.assertEqual(member.end(), 0)
+
+    def test_a_busy_log(self) -> None:
+        """It waits for the lock, also before it takes part."""
+        others = contextlib.ExitStack()
+
+        def lock() -> None:
+            file = others.enter_context(contextlib.closing(sqlite3.connect(self.path, isolation_level=None)))
+            file.execute('begin immediate')
+
+        member = self.begin(BEGINS, lock)
+        wait_until(lambda: 'database is locked' in member.said)
+        others.close()
+        member.worker()
+        self.assertEqual(member.end(), 0)
+
+    def test_a_stopped_writer(self) -> None:
+        """While one is stopped in the middle of a write no other renews. It is killed before the work of the others is
+        over."""
+        ttl = 8.0
+        member = self.begin(BEGINS, None, '--ttl', str(ttl))
+        worker, log = member.worker(), self.opened()
+        words = f'''
+import os, signal, sqlite3, time
+from types import SimpleNamespace
+from bully.worker import Workers
+file = sqlite3.connect({str(self.path)!r}, isolation_level=None, timeout=60)
+workers = Workers(['true'], 'x', 1.0)
+workers.begin(SimpleNamespace(ttl={ttl}), {str(self.path)!r})
+workers._tell('stop')
+workers._stopped.get()  # so its guard is there
+until, = file.execute('{UNTIL}').fetchone()
+soon = until / {SECOND} - {ttl} * 7 / 8  # a second before it is to be renewed; a stop of 1.6 s is let be
+time.sleep(max(0.0, soon - time.clock_gettime(time.CLOCK_BOOTTIME)))
+file.execute('begin immediate')
+print(*file.execute('{UNTIL}').fetchone(), flush=True)
+os.kill(os.getpid(), signal.SIGSTOP)
+'''
+        for _ in range(5):
+            writer = subprocess.run(
+                [sys.executable, '-c', words], env=environment(), stdout=subprocess.PIPE, stderr=subprocess.DEVNULL,
+                timeout=PATIENCE,
+            )  # fmt: skip
+            ended = clocks.seconds_of_boot()
+            self.assertEqual(writer.returncode, -signal.SIGKILL)
+            until = int(writer.stdout) / SECOND
+            wait_until(lambda: self.until(log) > until)  # it was renewed since
+            self.assertTrue(is_running(worker))
+            if ended > until - ttl + ttl / 4:  # that was to be renewed while the writer was stopped
+                break
+        else:
+            self.fail('nothing was to be renewed while a writer was stopped')
+        self.assertEqual(member.end(), 0)
+
+    def until(self, log: SqliteLog) -> float:
+        """Up to when the presence is held."""
+        return log._one(UNTIL) / SECOND
+
+    def full(self) -> BinaryIO:
+        """A pipe that has no room, and that nobody reads."""
+        reads, writes = full_pipe()
+        self.addCleanup(os.close, reads)
+        return open(writes, 'wb', buffering=0)
+
+    def test_nobody_reads(self) -> None:
+        """It works, and leaves in order, also if what it says finds no reader."""
+        member = self.begin(BEGINS, said=self.full())
+        worker = member.worker()
+        self.assertEqual(member.end(), 0)
+        self.assertFalse(is_running(worker))
+        self.assertEqual(self.left(), ('crash,1', {}))
+
+    def test_nobody_reads_why_it_ends(self) -> None:
+        member = self.begin('exit 0', said=self.full())
+        self.assertEqual(member.wait(), 1)
+        self.assertEqual(self.left(), ('crash,1', {}))
+
+    def test_nobody_reads_what_goes_wrong(self) -> None:
+        """A quiet member says that, and doesn't wait for a reader either."""
+        member = self.begin('echo begun >> $PLACE/begins; exit 5', None, '--quiet', said=self.full())
+        begins = self.folder / 'begins'
+        wait_until(lambda: begins.exists() and begins.read_text().count('begun') > 1)
+        self.assertEqual(member.end(), 0)
+
+    def test_quiet(self) -> None:
+        member = self.begin('exit 5', None, '--quiet')
+        wait_until(lambda: member.said)
+        self.assertEqual(member.end(), 0)
+        for line in member.said.splitlines():
+            self.assertIn(' bully-member: the worker failed, with status 5, and is begun again in ', line)
+
+    def test_messages_for_programs(self) -> None:
+        """Each is a line of JSON."""
+        member = self.begin(BEGINS, None, '--log-format', 'json')
+        member.worker()
+        self.assertEqual(member.end(), 0)
+        told = [json.loads(line) for line in member.said.splitlines()]
+        self.assertEqual(
+            {(frozenset(each), each['level']) for each in told}, {(frozenset({'time', 'level', 'message'}), 'info')}
+        )
+        self.assertRegex(told[0]['message'], '^node the only: present as [0-9]+[.]1$')
+        self.assertTrue(all(abs(each['time'] - time.time()) < PATIENCE for each in told))
+
+    def test_why_it_ends_for_programs(self) -> None:
+        """So is the last message."""
+        member = self.begin('exit 0', None, '--log-format', 'json')
+        self.assertEqual(member.wait(), 1)
+        last = [json.loads(line) for line in member.said.splitlines()][-1]
+        self.assertEqual((last['level'], last['message']), ('error', 'the worker ended by itself, with status 0'))
+
+    def test_a_late_renewal(self) -> None:
+        """A worker that its guard has killed, since it heard of renewals too late, is begun again."""
+        member = self.begin(BEGINS)
+        for _ in range(3):
+            worker = member.worker()
+            (self.folder / 'begun').unlink()
+            guard = parent_of(worker)
+            os.kill(guard, signal.SIGSTOP)  # it hears of no renewal
+            begun = clocks.seconds_of_boot()
+            wait_until(lambda: clocks.seconds_of_boot() > begun + 2.0)
+            os.kill(guard, signal.SIGCONT)
+            self.assertNotEqual(member.worker(), worker)
+            self.assertFalse(is_running(worker))
+        self.assertEqual(member.end(), 0)
+
+    def test_the_worker_ends(self) -> None:
+        """It isn't begun again if it says that it is done."""
+        member = self.begin('echo begun >> $PLACE/begins; exit 0')
+        self.assertEqual(member.wait(), 1)
+        self.assertIn('bully-member: the worker ended by itself, with status 0\n', member.said)
+        self.assertEqual((self.left(), (self.folder / 'begins').read_text()), (('crash,1', {}), 'begun\n'))
+
+    def test_the_worker_fails(self) -> None:
+        """It is begun again and again, and nobody else hears of it: nothing is appended, and the presence stays."""
+        member, begins = self.begin('echo begun >> $PLACE/begins; exit 5'), self.folder / 'begins'
+        wait_until(begins.exists)
+        log = self.opened()
+        before = log.look(1, 0)
+        wait_until(lambda: begins.read_text().count('begun') == 3)
+        after = log.look(1, 0)
+        self.assertEqual((list(after.rows), after.lives), (list(before.rows), before.lives))
+        self.assertEqual(member.end(), 0)
+        said = member.said
+        self.assertLess(
+            said.index('failed, with status 5, and is begun again in 0.4 s'), said.index('is begun again in 0.8 s')
+        )
+        self.assertEqual(self.left(), ('crash,1', {}))
+
+    def test_a_worker_that_does_not_end(self) -> None:
+        """All wait for it, and are told so, until SIGTERM ends its member. That gives nothing back: its presence ends
+        by itself."""
+        member = self.begin(BEGINS, None, '--stop-seconds', '0.1')
+        worker, log = member.worker(), self.opened()
+        freeze(self, worker)
+        new = self.folder / 'new.toml'
+        new.write_bytes(toml({**TOP, 'nodes': 2, 'names': ['another', 'the only'], 'partitions': 3}))
+        resize = ['resize', '--config', str(new), '--log', f'sqlite:{self.path}', '--seconds']
+        self.assertEqual(command.main([*resize, '0.1']), 1)
+        wait_until(lambda: f'until they are gone nothing is begun here: [{worker}]' in member.said)
+        with contextlib.closing(LogView(self.opened())) as shown:
+            self.assertEqual(list(shown.show().behind), ['the only'])
+        self.assertEqual(member.end(), 1)
+        self.assertIn('though it was killed; its presence ends by itself\n', member.said)
+        self.assertEqual(list(log.look(1, 0).presences), ['the only'], 'nothing is given back')
+        self.assertEqual(command.main([*resize, str(PATIENCE)]), 0)
+        self.assertEqual(log.epochs()[-1], 2)
+        thaw(worker)
+        wait_until(lambda: not is_running(worker))
+
+    def test_a_service(self) -> None:
+        """What started it hears that it is ready, how it stands, and that it goes on. Its worker has no part in
+        that."""
+        with socket.socket(socket.AF_UNIX, socket.SOCK_DGRAM) as manager:
+            manager.bind(str(self.folder / 'manager'))
+            manager.settimeout(PATIENCE)
+            with mock.patch.dict(os.environ, NOTIFY_SOCKET=str(self.folder / 'manager'), WATCHDOG_USEC='300000'):
+                member = self.begin(BEGINS)
+            self.assertEqual(manager.recv(1000), b'READY=1')
+            member.worker()
+            token = re.search('BULLY_TOKEN=([0-9]+)', (self.folder / 'env').read_text())
+            assert token is not None
+            names = {line.partition('=')[0] for line in (self.folder / 'env').read_text().splitlines()}
+            self.assertEqual(names & {'NOTIFY_SOCKET', 'WATCHDOG_USEC'}, set())
+            wanted = f'STATUS=works on 6 partitions by token {token[1]}\nWATCHDOG=1'.encode()
+            wait_until(lambda: manager.recv(1000) == wanted)
+            member.process.terminate()
+            wait_until(lambda: b'STOPPING=1' in manager.recv(1000))
+        self.assertEqual(member.wait(), 0)
+
+    def test_drained(self) -> None:
+        """Its worker ends and its process stays, is well, and says so to all that ask. It works again once that is
+        over, and ends in order."""
+        with socket.create_server(('127.0.0.1', 0)) as free:
+            port = free.getsockname()[1]
+
+        def get(target: str) -> str:
+            with contextlib.suppress(OSError), urllib.request.urlopen(
+                f'http://127.0.0.1:{port}{target}', timeout=PATIENCE
+            ) as answer:
+                return str(answer.read(), 'utf-8')
+            return ''
+
+        with socket.socket(socket.AF_UNIX, socket.SOCK_DGRAM) as manager:
+            manager.bind(str(self.folder / 'manager'))
+            manager.settimeout(PATIENCE)
+            with mock.patch.dict(os.environ, NOTIFY_SOCKET=str(self.folder / 'manager'), WATCHDOG_USEC='300000'):
+                member = self.begin(BEGINS, None, '--listen', str(port))
+            worker = member.worker()
+            (self.folder / 'begun').unlink()
+            self.assertEqual(command.main(['drain', 'the only', '--all', '--log', f'sqlite:{self.path}']), 0)
+            self.assertFalse(is_running(worker))
+            self.assertEqual(self.left(), ('crash,1', {}))
+            for _ in range(3):  # so it goes on
+                wait_until(lambda: manager.recv(1000) == b'STATUS=drained\nWATCHDOG=1')
+        self.assertEqual(get('/healthz'), 'drained\n')
+        self.assertIn('\nbully_drained{node="the only"} 1\n', get('/metrics'))
+        self.assertIn('<td>no, drained<td>', get('/'))
+        self.assertEqual(command.main(['undrain', 'the only', '--log', f'sqlite:{self.path}']), 0)
+        self.assertNotEqual(member.worker(), worker)
+        self.assertEqual(get('/healthz'), 'present\n')
+        self.assertIn('\nbully_drained{node="the only"} 0\n', get('/metrics'))
+        self.assertEqual(command.main(['drain', 'the only', '--all', '--log', f'sqlite:{self.path}']), 0)
+        wait_until(lambda: get('/healthz') == 'drained\n')
+        self.assertEqual(member.end(), 0)
+        self.assertIn('node the only: it is drained, and does nothing\n', member.said)
+
+    def test_a_backup_is_copied_back(self) -> None:
+        """Its member ends by a status by which it isn't begun again: it would use tokens again."""
+        member = self.begin(BEGINS)
+        worker, backup = member.worker(), self.path.read_bytes()
+        self.path.write_bytes(backup)
+        for end in ('-wal', '-shm'):
+            Path(f'{self.path}{end}').unlink()
+        self.assertEqual(member.wait(), 3)
+        self.assertIn(
+            f'bully-member: {self.path}: its -wal or its -shm was taken away, and others go on in another one\n',
+            member.said,
+        )
+        self.assertFalse(is_running(worker))
+
+    def test_keeps_epochs(self) -> None:
+        """It takes old ones away by itself."""
+        member, log = self.begin(BEGINS, None, '--keep', '2'), self.opened()
+        for partitions in (3, 4, 5):
+            member.worker()
+            new = self.folder / 'new.toml'
+            new.write_bytes(toml({**TOP, 'nodes': 1, 'names': ['the only'], 'partitions': partitions}))
+            (self.folder / 'begun').unlink()
+            self.assertEqual(command.main(['resize', '--config', str(new), '--log', f'sqlite:{self.path}']), 0)
+        wait_until(lambda: log.epochs() == range(3, 5))
+        self.assertEqual(member.end(), 0)
+        self.assertEqual(log.epochs(), range(3, 5))
+
+    def test_a_store_that_is_silent_at_first(self) -> None:
+        """The process is alive before it has heard of its store, and isn't ready. It ends in order."""
+        with socket.create_server(('127.0.0.1', 0)) as free:
+            port = free.getsockname()[1]
+
+        def status(target: str) -> int:
+            try:
+                with urllib.request.urlopen(f'http://127.0.0.1:{port}{target}', timeout=PATIENCE) as answer:
+                    return int(answer.status)
+            except urllib.error.HTTPError as refused:
+                return refused.code
+            except OSError:
+                return 0
+
+        with socket.create_server(('127.0.0.1', 0)) as silent:  # which answers nothing
+            server = f'127.0.0.1:{silent.getsockname()[1]}'
+            words = ['--log', f'etcd://{server}/group', '--node', 'b', '--listen', str(port)]
+            member = MemberProcess(self.folder, words, ['sh', '-c', BEGINS])
+            self.addCleanup(member.kill)
+            silent.accept()[0].close()
+            wait_until(lambda: status('/livez') == 200)
+            self.assertEqual(
+                [status(target) for target in ('/readyz', '/healthz', '/leader', '/partitions/0', '/', '/metrics')],
+                [503] * 5 + [200],
+            )
+            wait_until(lambda: server in member.said)
+            self.assertEqual((member.end(), status('/livez')), (0, 0))
+
+    def test_a_container(self) -> None:
+        """What a container begins listens on all its addresses."""
+        with socket.create_server(('127.0.0.1', 0)) as free:
+            port = free.getsockname()[1]
+        words, more = self.container(port)
+        member = started(self.folder, words, None, **more)
+        self.addCleanup(member.kill)
+
+        def is_well() -> bool:
+            with contextlib.suppress(OSError), urllib.request.urlopen(
+                f'http://127.0.0.2:{port}/healthz', timeout=PATIENCE
+            ) as answer:
+                return bool(answer.read() == b'present\n')
+            return False
+
+        wait_until(is_well)
+        member.terminate()
+        self.assertEqual(member.wait(PATIENCE), 0)
+
+    def test_killed(self) -> None:
+        """The worker ends with its member."""
+        member = self.begin(BEGINS)
+        worker = member.worker()
+        member.kill()
+        self.assertFalse(is_running(worker))
+
+    def kill_both(self, member: int, guard: int) -> None:
+        """Both at one moment: neither does anything behind the end of the other."""
+        for number in (signal.SIGSTOP, signal.SIGKILL):
+            for process in (member, guard):
+                os.kill(process, number)
+            if number == signal.SIGSTOP:
+                wait_until(lambda: has_stopped(member) and has_stopped(guard))
+
+    def test_killed_with_its_guard(self) -> None:
+        """The worker dies, and what that began lives, as nobody knows of it. Another member begins all the same."""
+        member = self.begin(STARTS)
+        worker = member.worker()
+        guard, child = parent_of(worker), int((self.folder / 'child').read_text())
+        self.addCleanup(end, child)
+        self.kill_both(member.process.pid, guard)
+        wait_until(lambda: not is_running(worker))
+        self.assertEqual(member.wait(), -signal.SIGKILL)
+        self.assertEqual((is_running(guard), is_running(child)), (False, True))
+        (self.folder / 'begun').unlink()
+        member.begin_again()
+        self.assertNotEqual(member.worker(), worker)
+        self.assertEqual(member.end(), 0)
+        self.assertTrue(is_running(child))
+
+    def test_killed_with_its_guard_as_another_user(self) -> None:
+        """A worker that has become another user doesn't die then: Linux forgets what it was to die of."""
+        if os.getuid() != 0:
+            self.skipTest('only root becomes another user')
+        member = self.begin(BEGINS.replace('exec', 'exec setpriv --reuid 65534 --regid 65534 --clear-groups'))
+        worker = member.worker()
+        self.addCleanup(end, worker)
+        wait_until(lambda: os.stat(f'/proc/{worker}').st_uid == 65534)
+        self.kill_both(member.process.pid, parent_of(worker))
+        self.assertEqual(member.wait(), -signal.SIGKILL)
+        (self.folder / 'begun').unlink()
+        member.begin_again()
+        self.assertNotEqual(member.worker(), worker)
+        self.assertTrue(is_running(worker))
+        self.assertEqual(member.end(), 0)
+
+    def test_killed_with_its_guard_in_a_container(self) -> None:
+        """There what the worker began ends, too: the first process of a container, which waits for the member, is its
+        end."""
+        if os.getuid() != 0:
+            self.skipTest('only root can have processes of its own numbers')
+        begun = self.begin(STARTS)
+        begun.kill()
+        (self.folder / 'begun').unlink(missing_ok=True)
+        within = ['unshare', '--pid', '--fork', '--kill-child', '--mount-proc', 'sh', '-c', '"$@"; exit 7', 'sh']
+        container = started(self.folder, [*within, *begun.words])
+        self.addCleanup(container.wait, PATIENCE)
+        self.addCleanup(container.kill)
+        wait_until((self.folder / 'begun').exists)
+        line = [container.pid]
+        for _ in range(5):  # the first process, the member, its guard, the worker, and what that began
+            wait_until(lambda: len(children(line[-1])) == 1)  # what told that the worker has begun may be there still
+            line += children(line[-1])
+        _, first, member, guard, worker, child = line
+        self.kill_both(member, guard)
+        wait_until(lambda: not any(map(is_running, (first, worker, child))))
+        self.assertEqual(container.wait(PATIENCE), 7)
+
+    def test_killed_while_its_guard_is_stopped(self) -> None:
+        """The guard goes on at its member's end, and ends the worker, also if nobody continues it."""
+        member = self.begin(STARTS)
+        worker = member.worker()
+        guard, child = parent_of(worker), int((self.folder / 'child').read_text())
+        for process in (child, worker):
+            self.addCleanup(end, process)
+        self.addCleanup(end, guard)
+        os.kill(guard, signal.SIGSTOP)
+        wait_until(lambda: has_stopped(guard))
+        member.process.kill()
+        self.assertEqual(member.wait(), -signal.SIGKILL)
+        wait_until(lambda: not any(map(is_running, (guard, worker, child))))
+
+    def test_children_that_the_kernel_does_not_list(self) -> None:
+        """Nothing could end all that a worker begins: so its member says so at once, and takes no part."""
+        unlisted = unlisted_from(self, self.folder, self.folder)
+        with mock.patch.dict(os.environ, unlisted):
+            member = self.begin(BEGINS)
+        self.assertEqual(member.wait(), 6)
+        self.assertIn('bully-member: the kernel does not list the children of a process, so what a worker', member.said)
+        self.assertIn('/children', member.said)
+        self.assertFalse((self.folder / 'begun').exists())
+        self.assertEqual(self.opened().look(1, 0).presences, {})
+
+    def test_stopped(self) -> None:
+        """The worker is killed while its member is stopped, and another one begins once that goes on."""
+        member = self.begin(BEGINS)
+        worker = member.worker()
+        member.process.send_signal(signal.SIGSTOP)
+        wait_until(lambda: not is_running(worker))
+        (self.folder / 'begun').unlink()
+        member.process.send_signal(signal.SIGCONT)
+        self.assertNotEqual(member.worker(), worker)
+        self.assertEqual(member.end(), 0)
+
+    def test_processes(self) -> None:
+        """The member, its guard and its worker are all, and the guard stays."""
+        member = self.begin(BEGINS)
+        worker = member.worker()
+        guard = parent_of(worker)
+        self.assertEqual(
+            (children(member.process.pid), children(guard), parent_of(guard)), ([guard], [worker], member.process.pid)
+        )
+        self.assertEqual(member.end(), 0)
+        self.assertFalse(is_running(guard))
+
+    def test_talks(self) -> None:
+        """A worker stays over a change of the group, and hears of it."""
+        member = self.begin(TALKS, None, '--talk')
+        worker, (begun,) = member.worker(), member.told(1)
+        self.assertEqual(
+            (begun['partitions'], begun['coordinator'], begun['settings']['ttl']), ([0, 1, 2, 3, 4, 5], 'the only', 2.0)
+        )
+        new = self.folder / 'new.toml'
+        new.write_bytes(toml({**TOP, 'nodes': 2, 'names': ['another', 'the only'], 'partitions': 3}))
+        self.assertEqual(command.main(['resize', '--config', str(new), '--log', f'sqlite:{self.path}']), 0)
+        _, stopped, again = member.told(3)
+        self.assertEqual((stopped, again['partitions'], Token(again['begin']).epoch), ({'stop': True}, [0, 1, 2], 2))
+        self.assertEqual(member.worker(), worker)
+        self.assertTrue(is_running(worker))
+        self.assertEqual(member.end(), 0)
+        self.assertFalse(is_running(worker))
+        self.assertEqual(len(member.told(4)), 4)
+
+    def test_talks_while_stopped(self) -> None:
+        """It is killed at the moment until which its work is sure, and another one begins."""
+        member = self.begin(TALKS, None, '--talk')
+        worker = member.worker()
+        member.told(1)
+        member.process.send_signal(signal.SIGSTOP)
+        wait_until(lambda: not is_running(worker))
+        (self.folder / 'begun').unlink()
+        member.process.send_signal(signal.SIGCONT)
+        self.assertNotEqual(member.worker(), worker)
+        member.kill()
+        self.assertFalse(is_running(member.worker()))

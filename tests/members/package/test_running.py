@@ -1,0 +1,384 @@
+"""Tests of members in threads."""
+from __future__ import annotations
+
+import socket
+import threading
+from typing import cast
+from unittest import mock
+
+from bully import NotLearned, Replica, Setup, check, running, settings, view
+from bully.clocks import SECOND, seconds_of_boot
+from bully.epochs import Opening
+from bully.logs import Holder
+from bully.member import TTL_MIN, Life, Promise
+from bully.memory import MemoryLog
+from bully.running import Assignment, Member, OtherGroup
+from ..steps import HEADER, LONG, OPENING
+from ..waiting import wait_until
+from .threads import Noting, Slow, Threads, Troubled
+
+
+DAY = 86_400.0
+
+
+def settled_without(log: MemoryLog, *absent: str) -> None:
+    """The others are present, have settled the group, and may work."""
+    names = [name for name in OPENING.names if name not in absent]
+    for name in names:
+        assert log.take(name, Life(9, int(name)), Promise(1, 0), LONG)
+    with Replica(HEADER) as replica:
+        assert log.append(1, 0, replica.settle(map(int, names)))
+
+
+class Running(Threads):
+    """Members in threads."""
+
+    def test_three(self) -> None:
+        log = MemoryLog(OPENING)
+        members = {node: self.begin(log, node) for node in (1, 2, 3)}
+
+        def owners() -> list[int]:
+            owned = {node: member[0].assignment() for node, member in members.items()}
+            tokens = {each.token for each in owned.values() if each}
+            return [node for node, each in owned.items() if each and len(each.partitions) == 2 and len(tokens) == 1]
+
+        wait_until(lambda: owners() == [1, 2, 3])
+        self.assertEqual({getattr(member[0].assignment(), 'coordinator') for member in members.values()}, {3})
+        members[3][0].leave()
+        members[3][2].join()
+        self.assertIsNone(members[3][0].assignment())
+        wait_until(lambda: all(len(getattr(members[node][0].assignment(), 'partitions', ())) == 3 for node in (1, 2)))
+        self.assertIn('crash,3', log.rows)
+        self.assertEqual(set(log.presences), {'1', '2'})
+        self.assertTrue(check('\n'.join([HEADER, *log.rows, '']).encode()).is_lawful)
+
+    def test_until(self) -> None:
+        """It is told until when its work is sure, before that begins."""
+        log, began = MemoryLog(OPENING), seconds_of_boot()
+        told: list[str] = []
+        sure: list[tuple[float, list[str]]] = []
+        member, _, _ = self.begin(
+            log, 1, start=lambda work: told.append('start'), sure=lambda until: sure.append((until, told[:]))
+        )
+        wait_until(lambda: len(sure) > 2)
+        self.assertEqual(sure[0][1], [])
+        self.assertTrue(began + 1.6 <= sure[0][0] <= seconds_of_boot() + 1.6)
+        self.assertEqual([until for until, _ in sure], sorted(until for until, _ in sure))
+        assigned = member.assignment()
+        assert assigned is not None
+        self.assertTrue(seconds_of_boot() < assigned.until <= seconds_of_boot() + 1.6)
+
+    def test_until_by_slow_answers(self) -> None:
+        """It is sure from when a renewal was asked for, and not from its answer."""
+        log = Slow(OPENING)
+        sure: list[tuple[float, float]] = []
+        member, _, _ = self.begin(log, 1, sure=lambda until: sure.append((until, log.begun)))
+        wait_until(lambda: len(sure) > 3 and member.assignment())
+        assigned = member.assignment()
+        assert assigned is not None
+        self.assertLessEqual(max(assigned.until, member.sure_until), log.begun + 1.6)
+        for until, begun in sure:
+            self.assertLessEqual(until, begun + 1.6)
+
+    def test_alone_leaves(self) -> None:
+        """The last one appends its own crash."""
+        log = MemoryLog(OPENING)
+        member, told, thread = self.begin(log, 1)
+        wait_until(member.assignment)
+        member.leave()
+        thread.join()
+        self.assertEqual((log.rows[-1], log.presences), ('crash,1', {}))
+        self.assertEqual(told, [f'start {self.token_of(log)}', f'stop {self.token_of(log)}'])
+
+    def test_a_second_process_is_told(self) -> None:
+        """Who comes for a node that has a process says so, once, and waits."""
+        log = MemoryLog(OPENING)
+        first, _, thread = self.begin(log, 1)
+        wait_until(first.assignment)
+        life = log.presences['1'].life
+        with self.assertLogs('bully', 'WARNING') as said:
+            second, told, _ = self.begin(log, 1)
+            wait_until(lambda: said.output)
+            self.begin(log, 3)  # it looks again at each change
+            wait_until(lambda: '3' in log.presences and first.assignment() and second.core.place == len(log.rows))
+            self.assertEqual((len(said.output), told, second.assignment()), (1, [], None))
+            self.assertIn(
+                f'node 1: another process is present for it, as {life.process}.{life.number}, and this one waits',
+                said.output[0],
+            )
+        first.leave()
+        wait_until(second.assignment)
+
+    def test_lost_work(self) -> None:
+        """Work that has ended outside is stopped, and begun again. What ended of an earlier Begin isn't it."""
+        log = MemoryLog(OPENING)
+        begun: list[Assignment] = []
+        sure: list[float] = []
+        member, _, _ = self.begin(log, 1, start=begun.append, sure=sure.append)
+        for count in range(1, 4):
+            wait_until(lambda: len(begun) == count and member.assignment())
+            member.lose(begun[-1])
+        wait_until(lambda: len(begun) == 4)
+        self.assertEqual({work.token for work in begun}, {self.token_of(log)})
+        rows = log.rows[:]
+        member.lose(begun[0])
+        wait_until(lambda: not member._lost)
+        renewals = len(sure)
+        wait_until(lambda: len(sure) > renewals + 1)  # before which it would have stopped
+        self.assertEqual((log.rows, len(begun)), (rows, 4))
+
+    def test_silence(self) -> None:
+        """Work stops once it isn't sure any more, and begins again once the log answers."""
+        log = Troubled(OPENING)
+        member, told, _ = self.begin(log, 1, ttl=1.0)
+        wait_until(lambda: told)
+        with self.assertLogs('bully', 'WARNING'):
+            log.is_silent = True
+            wait_until(lambda: told[-1].startswith('stop'))
+            self.assertIsNone(member.assignment())
+            wait_until(lambda: seconds_of_boot() > member.sure_until)
+            log.is_silent = False
+            wait_until(lambda: member.assignment() and told[-1].startswith('start'))
+        self.assertEqual([words.split()[0] for words in told], ['start', 'stop'] * (len(told) // 2) + ['start'])
+
+    def test_a_slow_stop(self) -> None:
+        """While work stops the presence is renewed, and nothing is appended."""
+        log, is_over = MemoryLog(OPENING), threading.Event()
+        member, _, _ = self.begin(log, 1, ttl=1.0, stop=lambda work: is_over.wait())
+        wait_until(member.assignment)
+        rows, life = log.rows[:], log.presences['1'].life
+        self.begin(log, 3, ttl=1.0)
+        self.addCleanup(is_over.set)
+        begun = seconds_of_boot()
+        wait_until(lambda: seconds_of_boot() > begun + 2.0)
+        self.assertEqual((log.rows, log.presences['1'].life), (rows, life))
+        self.assertTrue(
+            member.sure_until > seconds_of_boot() and member.assignment() is None, 'it is present, and may not work'
+        )
+        shown = view.LogView(log, ttl=1.0)
+        self.addCleanup(shown.close)
+        wait_until(lambda: list(shown.show().behind) == ['1'])
+        is_over.set()
+        wait_until(lambda: shown.show().coordinator == '3')
+        self.assertEqual(shown.show().behind, {})
+
+    def test_behind(self) -> None:
+        """A member tells a view since when others wait."""
+        log, is_over = MemoryLog(OPENING), threading.Event()
+        slow, _, _ = self.begin(log, 1, stop=lambda work: is_over.wait())
+        wait_until(slow.assignment)
+        other, _, _ = self.begin(log, 3)
+        self.addCleanup(is_over.set)
+        wait_until(lambda: '3' in log.presences and other.behind._since)
+        begun = seconds_of_boot()
+        wait_until(lambda: seconds_of_boot() > begun + 0.5)
+        shown = view.LogView(log, other.behind)
+        self.addCleanup(shown.close)
+        behind = shown.show().behind
+        self.assertEqual(list(behind), ['1'])
+        self.assertGreaterEqual(behind['1'], 0.5)
+
+    def test_a_start_that_raises(self) -> None:
+        def start(assignment: Assignment) -> None:
+            raise KeyError('here')
+
+        log = MemoryLog(OPENING)
+        _, told, thread = self.begin(log, 1, start=start)
+        thread.join()
+        self.assertIsInstance(self.raised, KeyError)
+        self.assertEqual(told, [f'stop {self.token_of(log)}'])
+        self.assertEqual((log.rows[-1], log.presences), ('crash,1', {}))
+
+    def test_a_stop_that_raises(self) -> None:
+        """Nothing is given back before the presence has ended: the work may go on."""
+
+        def stop(assignment: Assignment) -> None:
+            raise KeyError('here')
+
+        log = MemoryLog(OPENING)
+        member, told, thread = self.begin(log, 1, stop=stop)
+        wait_until(lambda: told)
+        rows = len(log.rows)
+        member.leave()
+        thread.join()
+        self.assertIsInstance(self.raised, KeyError)
+        self.assertEqual((len(log.rows), set(log.presences)), (rows, {'1'}))
+
+    def test_a_row_that_is_refused(self) -> None:
+        """It ends, and tells why."""
+        log = MemoryLog(OPENING)
+        member, told, thread = self.begin(log, 1)
+        wait_until(member.assignment)
+        with log._changed:
+            log.rows.append('recover,1')
+            log._changed.notify_all()
+        thread.join()
+        self.assertIsInstance(self.raised, NotLearned)
+        self.assertEqual((len(told), log.presences), (2, {}))
+
+    def test_a_stranger(self) -> None:
+        """While somebody is present who isn't of the group, and may work, nobody asks to append anything."""
+        log, sure = Noting(OPENING), cast(list[float], [])
+        self.assertTrue(log.take('stranger', Life(9, 1), Promise(1, 0), LONG))
+        with log._changed:
+            log.leases['stranger'] = log.leases['stranger']._replace(holder=Holder(Life(9, 1), Promise()))
+        member, _, _ = self.begin(log, 1, sure=sure.append)
+        wait_until(lambda: len(sure) > 2)
+        self.assertEqual((log.appends, member.assignment()), ([], None))
+        log.release('stranger', Life(9, 1))
+        wait_until(member.assignment)
+        self.assertEqual(log.appends, [0])
+
+    def test_a_table_is_handed_on(self) -> None:
+        """An epoch that ends before it has a plan hands on the table of the one before."""
+        log, life, table = MemoryLog(OPENING), Life(9, 1), (3, 2, 1, 1, 2, 3)
+        self.assertTrue(log.take('stranger', life, Promise(1, 0), LONG) and log.finish(1, 0, OPENING.next(None, table)))
+        log.release('stranger', life)
+        self.assertTrue(log.ask(log.opening().wish(OPENING.settings), 2))
+        self.begin(log, 1)
+        wait_until(lambda: log.epoch == 3)
+        self.assertEqual((log.read(2, 0), log.opening().table), ([], table))
+
+    def test_a_wish_waits(self) -> None:
+        """Who works where something else is wished for is behind."""
+        log, is_over = MemoryLog(OPENING), threading.Event()
+        member, _, _ = self.begin(log, 1, stop=lambda work: is_over.wait())
+        self.addCleanup(is_over.set)
+        wait_until(member.assignment)
+        shown = view.LogView(log)
+        self.addCleanup(shown.close)
+        self.assertEqual(shown.show().behind, {})
+        self.assertTrue(log.ask(OPENING.wish(OPENING.settings), 1))
+        self.assertEqual(list(shown.show().behind), ['1'])
+        is_over.set()
+        wait_until(lambda: log.epoch == 2)
+
+    def test_a_full_log_waits(self) -> None:
+        """So is who works where the log has room for no other settlement: 11 rows for each of three nodes."""
+        rows: list[str] = []
+        with Replica(HEADER) as replica:
+            while len(rows) < 66:
+                rows += replica.settle([1])
+                replica.learn(rows[replica.rows :])
+        for room, behind in ((33, []), (32, ['1'])):
+            log = MemoryLog(Opening(1, HEADER, OPENING.names, len(rows) + room))
+            self.assertTrue(log.take('1', Life(9, 1), Promise(1, 0), LONG))
+            log.rows.extend(rows)
+            shown = view.LogView(log)
+            self.addCleanup(shown.close)
+            self.assertEqual(list(shown.show().behind), behind, room)
+
+    def test_who_comes_again_and_again(self) -> None:
+        """Its node is Down in the log, and it counts only once it has stayed, so that the others work on meanwhile. Who
+        looked before knows for how long each life has to stay; one look doesn't."""
+        log = MemoryLog(OPENING)
+        settled_without(log, '3')
+        kept = view.LogView(log, ttl=DAY)
+        self.addCleanup(kept.close)
+        for number in range(1, 8):
+            self.assertTrue(log.take('3', Life(8, number), Promise(1, len(log.rows)), LONG))
+            fresh = view.LogView(log, ttl=DAY)
+            self.addCleanup(fresh.close)
+            for shown in (kept.show(), fresh.show()):
+                self.assertEqual((shown.is_well, shown.is_at_rest, shown.behind), (True, True, {}))
+                self.assertEqual([node.is_present for node in shown.nodes], [True] * 3)
+            log.release('3', Life(8, number))
+
+    def test_who_has_come_to_stay(self) -> None:
+        """Once it counts the others stop their work for it, and are told to be behind, up to when they are idle."""
+        log = MemoryLog(OPENING)
+        settled_without(log, '3')
+        shown = view.LogView(log, ttl=TTL_MIN / SECOND)
+        self.addCleanup(shown.close)
+        end = Promise(1, len(log.rows))
+        self.assertTrue(shown.show().is_well and log.take('3', Life(8, 1), end, LONG))
+        wait_until(lambda: not shown.show().is_at_rest)
+        group = shown.show()
+        self.assertEqual((group.is_well, list(group.behind)), (False, ['1', '2']))
+        self.assertTrue(log.promise('1', Life(9, 1), end))
+        group = shown.show()
+        self.assertEqual(list(group.behind), ['2'])
+        self.assertEqual(set(group.owners), {None, '2'}, 'the idle one may not work by that plan any more')
+
+    def test_who_may_work(self) -> None:
+        """Whom the last plan gives a partition, while that one is present, and has promised nothing behind the plan."""
+        log = MemoryLog(OPENING)
+        settled_without(log, '3')
+        shown = view.LogView(log)
+        self.addCleanup(shown.close)
+        group = shown.show()
+        self.assertEqual((set(group.owners), group.is_well), ({'1', '2'}, True))
+        log.release('1', Life(9, 1))
+        group = shown.show()
+        self.assertEqual((set(group.owners), group.is_well), ({None, '2'}, False))
+        self.assertEqual(group.owners.count(None), len(group.nodes[0].partitions), 'its plan stands still')
+        self.assertTrue(log.take('1', Life(8, 1), Promise(1, len(log.rows)), LONG))
+        group = shown.show()
+        self.assertEqual((set(group.owners), group.is_well, list(group.behind)), ({None, '2'}, False, ['2']))
+
+    def test_a_second_process(self) -> None:
+        """Who waits until its node's presence is free doesn't know whether others rest, and names nobody as behind."""
+        log = MemoryLog(OPENING)
+        first, _, _ = self.begin(log, 1)
+        wait_until(first.assignment)
+        second, _, _ = self.begin(log, 1)
+        with mock.patch.object(second.behind, 'see', wraps=second.behind.see) as seen:
+            wait_until(lambda: seen.call_count > 1)
+        self.assertEqual((second.assignment(), second.behind._since), (None, {}))
+
+    def test_how_long_behind(self) -> None:
+        """It counts from when it was seen first, at this end of the log, by this life."""
+        late, one, other = (
+            view.Behind(),
+            {'a': Holder(Life(1, 1), Promise(1, 3))},
+            {'a': Holder(Life(1, 2), Promise(1, 3))},
+        )
+        seen = [
+            (4, one, False, {'a': 0.0}), (4, one, False, {'a': 2.0}), (5, one, False, {'a': 0.0}),
+            (5, one, False, {'a': 2.0}), (5, other, False, {'a': 0.0}), (5, other, True, {}),
+            (5, other, False, {'a': 0.0}), (3, other, False, {}),
+        ]  # fmt: skip
+        with mock.patch.object(view, 'seconds_of_boot', side_effect=range(10, 100, 2)):
+            for place, presences, rests, wanted in seen:
+                self.assertEqual(late.see(Promise(1, place), presences, rests), wanted)
+
+    def test_other_group(self) -> None:
+        with self.assertRaises(OtherGroup):
+            Member(MemoryLog(OPENING), 1, print, print, settings=settings.Settings(Setup(3, 7), ('1', '2', '3')))
+
+    def test_a_group_of_many_epochs(self) -> None:
+        """Only so many openings are read as are needed to know the group: the last ones first."""
+        log, life = MemoryLog(OPENING), Life(9, 1)
+        self.assertTrue(log.take('stranger', life, Promise(1, 0), LONG))
+        for epoch in range(1, 5):
+            self.assertTrue(
+                log.promise('stranger', life, Promise(epoch, 0)) and log.finish(epoch, 0, log.opening().next(None, ()))
+            )
+        with mock.patch.object(log, 'opening', wraps=log.opening) as asked:
+            self.assertTrue(running.is_known(log, OPENING.settings))
+            asked.assert_called_once_with(5)
+            self.assertFalse(running.is_known(log, settings.Settings(Setup(3, 7), ('1', '2', '3'))))
+            self.assertEqual(asked.call_count, 6)
+
+    def test_with(self) -> None:
+        log = MemoryLog(OPENING)
+        with Member(log, 1, lambda assignment: member.leave(), lambda assignment: None, ttl=2.0) as member:
+            member.run()
+        self.assertEqual(log.rows[-1], 'crash,1')
+        self.assertTrue(member.core.is_closed)
+
+    def test_no_descriptors(self) -> None:
+        """A member that can't begin for want of descriptors is over all the same."""
+        ended: list[BaseException] = []
+
+        def run() -> None:
+            try:
+                with Member(MemoryLog(OPENING), 1, print, print) as member:
+                    member.run()
+            except OSError as failure:
+                ended.append(failure)
+
+        with mock.patch.object(socket, 'socketpair', side_effect=OSError('none is left')):
+            thread = threading.Thread(target=run, daemon=True)
+            thread.start()
+            wait_until(lambda: ended)

@@ -1,0 +1,104 @@
+"""Tests of what a member says on standard error, and to the manager of services."""
+from __future__ import annotations
+
+import logging
+import os
+import socket
+import threading
+import unittest
+from unittest import mock
+
+from bully import messages, service
+from bully.logs import Found
+from bully.memory import MemoryLog
+from bully.running import Member
+from bully.worker import Workers
+from ..processes import full_pipe
+from ..steps import OPENING
+from ..waiting import PATIENCE, wait_until
+from .folders import InFolder
+
+
+class Said(unittest.TestCase):
+    """What is said on standard error."""
+
+    def speak(self, logger: logging.Logger) -> None:
+        for number in range(1500):
+            logger.info('number %d', number)
+
+    def test_left_out(self) -> None:
+        """While nobody reads it finds some room, and what finds none is counted: that is told with the next message, or
+        at the end. All else is written, also if the pipe is one that doesn't block."""
+        for blocks, ends in ((True, False), (False, False), (True, True)):
+            with self.subTest(blocks=blocks, ends=ends):
+                self.leave_out(blocks, ends)
+
+    def leave_out(self, blocks: bool, ends: bool) -> None:
+        reads, writes = full_pipe()
+        os.set_blocking(writes, blocks)
+        said, logger = messages.Messages(messages.Lines()), logging.Logger('bully')
+        logger.addHandler(said)
+        with mock.patch.object(messages, 'STANDARD_ERROR', writes), open(reads, encoding='utf-8') as pipe:
+            speaker = threading.Thread(target=self.speak, args=[logger], daemon=True)
+            speaker.start()
+            speaker.join(PATIENCE)
+            self.assertFalse(speaker.is_alive())
+            texts: list[str] = []
+            reader = threading.Thread(target=lambda: texts.append(pipe.read().lstrip('\0')))
+            reader.start()
+            wait_until(said._lines.empty)
+            if not ends:
+                logger.info('the last one')
+            said.close()
+            os.close(writes)
+            reader.join()
+        *lines, told = texts[0].splitlines()
+        if not ends:
+            self.assertRegex(told, ' bully-member: the last one$')
+            told = lines.pop()
+        self.assertEqual(
+            [line.rpartition('number ')[2] for line in lines], [str(number) for number in range(len(lines))]
+        )
+        self.assertGreaterEqual(len(lines), messages.WAITING_MAX)
+        self.assertRegex(told, f' bully-member: {1500 - len(lines)} messages were left out, since nobody read them$')
+
+    def test_one_line(self) -> None:
+        """What can't be printed of a name or a path in it ends no line, and turns nothing."""
+        strange = {'levelname': 'WARNING', 'msg': 'node %s: %s', 'args': ('a\x1b[2J\nb', '/c\u202ed: busy')}
+        said = messages.Lines().format(logging.makeLogRecord(strange))
+        self.assertRegex(said, r' bully-member: node a\?\[2J\?b: /c\?d: busy$')
+
+
+class Blocked(MemoryLog):
+    """A log in which nobody looks while `goes_on` isn't set."""
+
+    goes_on = threading.Event()
+
+    def look(self, epoch: int, place: int) -> Found:
+        self.goes_on.wait()
+        return super().look(epoch, place)
+
+
+class Services(InFolder):
+    """What a manager of services hears."""
+
+    def test_a_stuck_member(self) -> None:
+        """It doesn't hear that a member goes on which takes no step."""
+        log = Blocked(OPENING)
+        log.goes_on.set()
+        member = Member(log, 1, lambda work: None, lambda work: None, ttl=0.6)
+        with socket.socket(socket.AF_UNIX, socket.SOCK_DGRAM) as manager:
+            manager.bind(str(self.folder / 'manager'))
+            manager.settimeout(PATIENCE)
+            with mock.patch.dict(os.environ, NOTIFY_SOCKET=str(self.folder / 'manager'), WATCHDOG_USEC='30000'):
+                told = service.Service(member, Workers(['true'], '1', 0.0))
+            thread = threading.Thread(target=member.run)
+            thread.start()
+            self.addCleanup(thread.join)
+            self.addCleanup(member.leave)
+            self.addCleanup(log.goes_on.set)
+            told.start()
+            for goes_on in (True, False, True):
+                (log.goes_on.set if goes_on else log.goes_on.clear)()
+                wait_until(lambda: (b'WATCHDOG=1' in manager.recv(1000)) == goes_on)
+            told.close()

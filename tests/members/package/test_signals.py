@@ -1,0 +1,120 @@
+"""Tests of signals that tell `bully-member run` to leave, from its first moment on."""
+from __future__ import annotations
+
+import os
+import signal
+import socket
+import subprocess
+import time
+from collections.abc import Callable, Sequence
+from types import SimpleNamespace
+from typing import Any
+
+from bully.guard import ENDS
+from bully.resizing import Pruning
+from bully.service import Service
+from ..processes import children, has_loaded, is_running, name_of, parent_of, waits_for
+from ..waiting import PATIENCE, wait_until
+from .member_processes import BEGINS, WithMember, started
+
+MOMENTS = (0.0, 0.01, 0.03, 0.06, 0.1, 0.2, 0.4, 0.8)  # seconds, at which a signal comes
+WITHIN = ('unshare', '--pid', '--fork', '--kill-child', '--mount-proc')  # where the member is the first process
+
+
+class Signals(WithMember):
+    """Signals that tell a member to leave."""
+
+    def test_each(self) -> None:
+        """It leaves in order: nothing of its worker is left, and its presence is given back."""
+        member = self.begin(BEGINS)
+        for count, number in enumerate(ENDS):
+            with self.subTest(signal=number.name):
+                if count:
+                    member.begin_again()
+                worker = member.worker()
+                (self.folder / 'begun').unlink()
+                guard = parent_of(worker)
+                wait_until(lambda: name_of(worker) == 'sleep')
+                self.assertFalse(waits_for(worker, number), 'a worker begins as any process')
+                os.kill(guard, number)  # as all processes of a service may get it
+                member.process.send_signal(number)
+                self.assertEqual(member.wait(), 0)
+                self.assertIn(f'node the only: {number.name} told it to leave\n', member.said)
+                self.assertFalse(is_running(worker) or is_running(guard))
+                self.assertEqual(self.left(), ('crash,1', {}))
+
+    def test_a_hangup_that_is_ignored(self) -> None:
+        """What was begun by nohup stays at the end of its terminal."""
+        self.begin(BEGINS).kill()
+        member = self.begin_as('sh', '-c', 'trap "" HUP; exec "$@"', 'sh')
+        self.addCleanup(member.wait, PATIENCE)
+        self.addCleanup(member.kill)
+        wait_until((self.folder / 'begun').exists)
+        before = self.until()
+        member.send_signal(signal.SIGHUP)
+        wait_until(lambda: self.until() > before)
+        member.terminate()
+        self.assertEqual(member.wait(PATIENCE), 0)
+        self.assertNotIn('SIGHUP', (self.folder / 'said').read_text())
+
+    def begin_as(self, *within: str) -> subprocess.Popen[bytes]:
+        """The same member again, begun by these words."""
+        (self.folder / 'begun').unlink(missing_ok=True)
+        return started(self.folder, [*within, *self.words])
+
+    def until(self) -> int:
+        """Up to when the presence is held."""
+        return int(self.opened()._one('select max(until) from presence'))
+
+    def test_as_it_begins(self) -> None:
+        """At whichever moment: it has taken nothing yet, or gives it back."""
+        self.begin(BEGINS).kill()
+        for moment in MOMENTS:
+            with self.subTest(moment=moment):
+                member = self.begin_as()
+                time.sleep(moment)
+                member.terminate()
+                self.assertIn(member.wait(PATIENCE), (0, -signal.SIGTERM), (self.folder / 'said').read_text())
+                self.assertEqual(self.opened().look(1, 0).presences, {})
+
+    def test_what_has_not_begun(self) -> None:
+        """A signal may come before a thread has begun, which is ended all the same."""
+        closed: list[str] = []
+        nobody: Any = SimpleNamespace(close=lambda: closed.append('the log'))
+        Service(nobody, nobody).close()
+        Pruning(nobody, nobody, 1).close()
+        self.assertEqual(closed, ['the log'])
+
+    def test_the_first_process(self) -> None:
+        """As that of a container it hears signals since its first line: others of its kind lose what isn't heard."""
+        self.begin(BEGINS).kill()
+        self.see_first(self.words, {}, has_loaded_package)
+
+    def test_a_container(self) -> None:
+        """The first program of the container holds them back, so that none is lost since that has begun."""
+        with socket.create_server(('127.0.0.1', 0)) as free:
+            port = free.getsockname()[1]
+        words, more = self.container(port)
+        self.see_first(words, more, lambda first: waits_for(first, signal.SIGTERM))
+
+    def see_first(self, words: Sequence[str], more: dict[str, str], is_there: Callable[[int], bool]) -> None:
+        """The first process of a container ends in order at whichever moment, once it is there."""
+        if os.getuid() != 0:
+            self.skipTest('only root can have processes of its own numbers')
+        for moment in MOMENTS:
+            with self.subTest(moment=moment):
+                container = started(self.folder, [*WITHIN, *words], None, **more)
+                self.addCleanup(container.wait, PATIENCE)
+                self.addCleanup(container.kill)
+                wait_until(lambda: children(container.pid))
+                (first,) = children(container.pid)
+                wait_until(lambda: is_there(first))
+                time.sleep(moment)
+                os.kill(first, signal.SIGTERM)
+                self.assertEqual(container.wait(PATIENCE), 0)
+                self.assertEqual(self.opened().look(1, 0).presences, {})
+
+
+def has_loaded_package(process: int) -> bool:
+    """Whether it has begun to load the package, so that its first line has run."""
+    return has_loaded(process, '_ctypes')

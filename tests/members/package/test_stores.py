@@ -1,0 +1,128 @@
+"""Tests of logs in memory and in files by the laws of all stores."""
+from __future__ import annotations
+
+import time
+import unittest
+from unittest import mock
+
+from bully import Setup, settings, sqlite
+from bully.epochs import Opening, Token
+from bully.group import setup_of
+from bully.logs import Log
+from bully.memory import MemoryLog
+from ..steps import EMPTY, HEADER, LONG, OPENING, A, Clock
+from .epoch_laws import EpochLaws
+from .folders import WithLogs
+from .laws import Laws
+from .races import race
+from .wait_laws import Waits
+
+
+class InMemory(Laws, unittest.TestCase):
+    """The laws of a log in memory."""
+
+    def setUp(self) -> None:
+        self.clock = Clock()
+
+    def created(self) -> Log:
+        return MemoryLog(OPENING, self.clock)
+
+    def handle(self, log: Log) -> Log:
+        return log
+
+    def now(self) -> int:
+        return self.clock.now
+
+    def pass_time(self, time: int) -> None:
+        self.clock.now += time
+
+    def pass_end(self, log: Log) -> None:
+        self.pass_time(self.TTL)
+
+
+class InFile(WithLogs, InMemory):
+    """The laws of a log in a file."""
+
+    def setUp(self) -> None:
+        WithLogs.setUp(self)
+        InMemory.setUp(self)
+        patch = mock.patch.object(sqlite, 'nanoseconds_of_boot', self.clock)
+        patch.start()
+        self.addCleanup(patch.stop)
+
+
+class WaitsInMemory(Waits, unittest.TestCase):
+    def created(self) -> Log:
+        return MemoryLog(OPENING)
+
+    def handle(self, log: Log) -> Log:
+        return log
+
+
+class WaitsInFile(WithLogs, Waits):
+    pass
+
+
+class EpochsInMemory(EpochLaws, unittest.TestCase):
+    """The laws of epochs of a log in memory."""
+
+    def created(self) -> Log:
+        return MemoryLog(OPENING)
+
+    def handle(self, log: Log) -> Log:
+        return log
+
+
+class EpochsInFile(WithLogs, EpochLaws):
+    """The laws of epochs of a log in a file."""
+
+    def setUp(self) -> None:
+        super().setUp()
+        patch = mock.patch.object(sqlite, 'PRUNED_AT_ONCE', 7)
+        patch.start()
+        self.addCleanup(patch.stop)
+
+
+class Races(WithLogs):
+    def test_processes(self) -> None:
+        log = self.created()
+        self.assertTrue(log.take('a', A, EMPTY, LONG))
+        race(self, log, 'file', str(self.path))
+
+
+class Openings(unittest.TestCase):
+    """What an epoch begins with."""
+
+    def test_next(self) -> None:
+        """The last table is carried over by name, and the first partitions stay."""
+        first = Opening.first(Setup(3, 6).header(), ('a', 'b', 'c'), 700)
+        wish = first.wish(settings.Settings(Setup(4, 8, weights=(1, 2, 3, 4)), ('c', 'd', 'a', 'e')))
+        after = first.next(wish, (1, 2, 3, 3, 2, 1))
+        self.assertEqual(
+            after, Opening(2, 'bully,2,4,8,1 2 3 4,clear', ('c', 'd', 'a', 'e'), 700, (3, 0, 1, 1, 0, 3, 0, 0))
+        )
+        self.assertEqual((Opening.parse(after.text()), after.bare), (after, wish))
+        fewer = after.next(after.wish(settings.Settings(Setup(1, 3), ('a',))), after.table)
+        self.assertEqual(fewer, Opening(3, 'bully,1,1,3', ('a',), 700, (1, 0, 0)))
+        self.assertEqual(after.next(after.wish(settings.Settings(Setup(1, 3), ('z',))), after.table).table, ())
+        self.assertEqual(first.next(None, ()), Opening(2, first.header, first.names, 700))
+        for setup in (
+            Setup(3, 6),
+            Setup(2, 300, weights=(1, 5)),
+            Setup(70, 5, weights=(1,) * 70),
+            Setup(2, 2, weights=(1, 1), keeps=True),
+        ):
+            self.assertEqual(setup_of(setup.header()).header(), setup.header())
+
+    def test_limits(self) -> None:
+        """An epoch may have 22 rows for each node at least."""
+        first = Opening.first(HEADER, limit=10)
+        more = first.wish(settings.Settings(Setup(1024, 4096), tuple(map(str, range(1024)))))
+        self.assertEqual((first.limit, Opening.first(HEADER).limit, more.limit), (66, 1_000_000, 22 * 1024))
+        self.assertEqual(Opening.first(HEADER, limit=10**9).limit, 1_000_000)
+
+    def test_tokens(self) -> None:
+        tokens = [Token.of(1, 1), Token.of(1, 999_999), Token.of(2, 1), Token.of(12, 34)]
+        self.assertEqual(sorted(tokens, key=int), tokens)
+        self.assertEqual([str(token) for token in tokens], ['10000001', '10999999', '20000001', '120000034'])
+        self.assertEqual([(token.epoch, token.events) for token in tokens], [(1, 1), (1, 999_999), (2, 1), (12, 34)])

@@ -1,0 +1,268 @@
+"""Tests of workers that stay over changes."""
+from __future__ import annotations
+
+import json
+import socket
+import subprocess
+import sys
+import threading
+from pathlib import Path
+
+from bully import Setup, clocks, guard
+from bully.epochs import Token
+from bully.running import Assignment
+from bully.settings import Settings
+from bully.worker import GUARD, Workers
+from places import ROOT
+from ..processes import children, descriptors_of, is_running
+from ..waiting import PATIENCE, wait_until
+from .below import Below, assigned
+
+# One that stays, and writes what it is told. It is `silent`, or answers too often, or ends in place of an answer, or at
+# its second begin.
+TALKING = """
+import json, os, sys
+folder, way = sys.argv[1:]
+begun, answers = 0, os.fdopen(int(os.environ['BULLY_ANSWERS']), 'w', buffering=1)
+for line in sys.stdin:
+    told = json.loads(line)
+    begun += 'begin' in told
+    if way == 'early' and 'begin' in told:
+        print('stopped', file=answers)
+    with open(f'{folder}/told', 'a') as file:
+        file.write(f'{os.getpid()} {line}')
+    if 'stop' in told and way in ('talks', 'fails') or way == 'early' and begun == 1 and 'stop' in told:
+        print('stop', end='', file=answers, flush=True)
+        print('ped', file=answers)
+    if 'stop' in told and way == 'ends':
+        sys.exit(0)
+    if begun == 2 and way == 'fails':
+        sys.exit(9)
+"""
+# Answers without an end, and tells by a file once more of that was taken than a pipe holds.
+FLOODING = """
+import os, sys
+for _ in range(10):
+    os.write(3, bytes(65_536))
+open(sys.argv[1], 'w').close()
+while True:
+    os.write(3, bytes(65_536))
+"""
+
+
+class Talks(Below):
+    """Workers that stay over changes."""
+
+    talks = True
+
+    def begin(self, way: str, patience: float = PATIENCE, seconds: float = 1000.0) -> Workers:
+        workers = self.made([sys.executable, '-c', TALKING, str(self.folder), way], patience, seconds)
+        workers.start(assigned(2, 0, 5))
+        self.heard(1)
+        return workers
+
+    def heard(self, count: int) -> list[str]:
+        """What workers were told, each behind its process, once there are so many lines."""
+        file = self.folder / 'told'
+        wait_until(lambda: file.exists() and file.read_text().count('\n') >= count)
+        return file.read_text().splitlines()
+
+    def worker(self) -> int:
+        return int(self.heard(1)[-1].split()[0])
+
+    def test_stays(self) -> None:
+        """It is one process, and is told all."""
+        workers = self.begin('talks')
+        for events in range(3, 6):
+            workers.stop(assigned(0))
+            workers.start(assigned(events, 1))
+        workers.stop(assigned(0))
+        lines = [line.partition(' ') for line in self.heard(8)]
+        self.assertEqual(len({process for process, _, _ in lines}), 1)
+        told = [json.loads(line) for _, _, line in lines]
+        settings = told[0].pop('settings')
+        self.assertEqual(told[0], {'begin': 40000002, 'partitions': [0, 5], 'coordinator': 'c'})
+        self.assertEqual((settings['names'], settings['ttl']), (['a', 'b', 'c'], 4.0))
+        self.assertEqual(
+            [each.get('begin') for each in told], [40000002, None, 40000003, None, 40000004, None, 40000005, None]
+        )
+        worker = self.worker()
+        workers.close()
+        self.assertFalse(is_running(worker))
+        self.assertEqual((self.failures, self.lost), ([], []))
+
+    def test_long_lines(self) -> None:
+        """A line may be longer than a pipe holds, and is read slowly."""
+        workers = self.begin('talks')
+        workers.stop(assigned(0))
+        names = tuple(f'{number:0300}' for number in range(1000))  # more than a message to the guard has room for
+        for events in (3, 4):
+            workers.start(Assignment(Token.of(4, events), 3, tuple(range(4096)), Settings(Setup(1000, 4096), names)))
+            told = json.loads(self.heard(2 * events - 3)[-1].partition(' ')[2])
+            self.assertEqual(
+                (told['begin'], told['partitions'], told['settings']['names']),
+                (Token.of(4, events), list(range(4096)), list(names)),
+            )
+            workers.stop(assigned(0))
+        self.assertEqual((self.failures, self.lost), ([], []))
+
+    def test_no_room(self) -> None:
+        """A worker that reads nothing, and can't be told all of a line, is killed, and that is said."""
+        workers = self.made(['sleep', '1000'])
+        names = tuple(f'{number:05000}' for number in range(1000))  # more than any socket has room for
+        with self.assertLogs('bully', 'WARNING') as said:
+            workers.start(Assignment(Token.of(4, 3), 3, (0,), Settings(Setup(1000, 1), names)))
+            wait_until(lambda: self.lost)
+        self.assertIn('the worker failed, with status -9', said.output[0])
+        self.assertEqual(self.failures, [])
+        workers.stop(assigned(0))
+
+    def test_until(self) -> None:
+        """It is killed at that moment if it is at work, and else it stays."""
+        workers = self.begin('talks')
+        worker = self.worker()
+        workers.stop(assigned(0))
+        workers.hear_until(clocks.seconds_of_boot() - 1)
+        workers.stop(assigned(0))
+        self.assertTrue(is_running(worker))
+        workers.hear_until(clocks.seconds_of_boot() + 1000)
+        workers.start(assigned(3, 1))
+        workers.hear_until(clocks.seconds_of_boot())
+        wait_until(lambda: self.lost)
+        self.assertFalse(is_running(worker))
+        workers.stop(assigned(0))
+        workers.hear_until(clocks.seconds_of_boot() + 1000)
+        workers.start(assigned(3, 1))
+        wait_until(lambda: self.worker() != worker)
+        workers.stop(assigned(0))
+        self.assertEqual((self.failures, self.lost), ([], [assigned(3, 1)]))
+
+    def test_no_answer(self) -> None:
+        """It is killed, if it doesn't answer in time; or at the moment until which its work is sure."""
+        for patience, seconds in ((0.2, 1000.0), (PATIENCE, 2.0)):
+            with self.subTest(patience=patience):
+                workers = self.begin('silent', patience)
+                worker = self.worker()
+                workers.hear_until(clocks.seconds_of_boot() + seconds)
+                workers.stop(assigned(0))
+                self.assertFalse(is_running(worker))
+        self.assertEqual((self.failures, self.lost), ([], []))
+
+    def test_early_answers(self) -> None:
+        """What it answered before it was told to stop is no answer."""
+        workers = self.begin('early', patience=0.3)
+        worker = self.worker()
+        workers.stop(assigned(0))
+        workers.start(assigned(3, 1))
+        self.heard(3)
+        workers.stop(assigned(0))  # it doesn't answer this one
+        self.assertFalse(is_running(worker))
+        self.assertEqual(self.failures, [])
+
+    def test_descriptors(self) -> None:
+        """Workers that come and go leave none in the guard."""
+        workers = self.begin('ends')
+        counts = []
+        for events in range(3, 7):
+            counts.append(descriptors_of(workers._guard.pid))
+            workers.stop(assigned(0))
+            workers.start(assigned(events, 1))
+            self.heard(2 * events - 3)
+        self.assertEqual(len(set(counts)), 1, counts)
+        workers.stop(assigned(0))
+
+    def test_a_member_that_is_gone(self) -> None:
+        """Then it is not enough that a worker answers: it is killed if it doesn't end."""
+        begun = self.folder / 'begun'
+        workers = self.made(
+            ['sh', '-c', 'trap "echo stopped >&3" TERM; echo > "$0"; while :; do sleep 0.01; done', str(begun)], 0.2
+        )
+        self.addCleanup(workers._guard.kill)
+        workers.start(assigned(2, 0))
+        wait_until(begun.exists)
+        (worker,) = children(workers._guard.pid)
+        workers._channel.shutdown(socket.SHUT_RDWR)
+        wait_until(lambda: not is_running(worker))
+        workers._guard.wait(PATIENCE)
+
+    def test_what_a_member_did_not_read(self) -> None:
+        """A guard whose member is gone, and didn't read all that it said, ends its worker with what that started."""
+        child = self.folder / 'child'
+        begins = 'sleep 1000 & echo $! > "$0.new"; mv "$0.new" "$0"'
+        worker = f'{begins}; read -r line; read -r line; echo stopped >&3; read -r line'
+        channel, given = socket.socketpair(socket.AF_UNIX, socket.SOCK_SEQPACKET)
+        with channel, given, open(self.folder / 'said', 'wb') as said:
+            words = [
+                sys.executable, '-I', '-S', GUARD, str(given.fileno()), '0.2', 'talks', '', '1.0', 'sh', '-c', worker,
+                str(child),
+            ]  # fmt: skip
+            guard = subprocess.Popen(words, stdin=subprocess.DEVNULL, stderr=said, pass_fds=[given.fileno()])
+            self.addCleanup(guard.kill)
+            given.close()
+            for message in (f'until {clocks.nanoseconds_of_boot() + 10**12}', 'begin {}'):
+                channel.send(message.encode())
+            wait_until(child.exists)
+            channel.send(b'stop')
+            self.assertEqual(
+                clocks.sleep_until_ready(PATIENCE, channel.fileno()), [channel.fileno()]
+            )  # it has said that nothing is worked on
+        self.assertEqual((guard.wait(PATIENCE), (self.folder / 'said').read_text()), (0, ''))
+        self.assertFalse(is_running(int(child.read_text())))
+
+    def test_too_many_answers(self) -> None:
+        """It is killed at that moment, and if it doesn't stop in time, also while it answers more than can be read."""
+        for patience, seconds in ((PATIENCE, 0.5), (0.2, 1000.0)):
+            with self.subTest(patience=patience):
+                begun = self.folder / f'begun {patience}'
+                workers = self.made([sys.executable, '-c', FLOODING, str(begun)], patience)
+                self.addCleanup(workers._guard.kill)
+                workers.start(assigned(2, 0))
+                wait_until(begun.exists)
+                (worker,) = children(workers._guard.pid)
+                workers.hear_until(clocks.seconds_of_boot() + seconds)
+                thread = threading.Thread(target=workers.stop, args=[assigned(0)], daemon=True)
+                thread.start()
+                wait_until(lambda: not is_running(worker) and not thread.is_alive())
+        self.assertEqual(self.failures, [])
+
+    def test_ends(self) -> None:
+        """To end is an answer, too. By itself it may not."""
+        workers = self.begin('ends')
+        workers.stop(assigned(0))
+        workers.start(assigned(3, 1))
+        workers.stop(assigned(0))
+        lines = self.heard(4)
+        self.assertEqual(len({line.split()[0] for line in lines}), 2)
+        self.assertEqual(self.failures, [])
+        workers = self.begin('fails')
+        workers.stop(assigned(0))
+        with self.assertLogs('bully', 'WARNING') as said:
+            workers.start(assigned(3, 1))
+            wait_until(lambda: self.lost)
+        self.assertIn('with status 9', said.output[0])
+        self.assertEqual((self.failures, self.lost), ([], [assigned(3, 1)]))
+        workers.stop(assigned(0))
+
+    def test_examples(self) -> None:
+        """Both work on what they are told, and on nothing else once they have answered."""
+        for name in ('talking.py', 'talking.sh'):
+            with self.subTest(name=name):
+                folder = self.folder / name
+                folder.mkdir()
+                workers = self.made([str(ROOT / 'examples' / 'members' / name), str(folder)])
+                processes: set[int] = set()
+                sizes: dict[Path, int] = {}
+                for events, partitions in ((3, (0, 5)), (4, (5, 2)), (5, (1,))):
+                    workers.start(assigned(events, *partitions))
+                    wanted = f'{Token.of(4, events)} x'
+                    files = [folder / str(each) for each in partitions]
+                    wait_until(lambda: all(file.exists() and file.read_text().count(wanted) > 1 for file in files))
+                    processes.add(children(workers._guard.pid)[0])
+                    workers.stop(assigned(0))
+                    before, sizes = sizes, {file: file.stat().st_size for file in folder.iterdir()}
+                    self.assertEqual(
+                        [file for file, size in before.items() if sizes[file] != size and file not in files], []
+                    )
+                self.assertEqual(len(processes), 1)
+                workers.close()
+        self.assertEqual((self.failures, self.lost), ([], []))

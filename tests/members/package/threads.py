@@ -1,0 +1,100 @@
+"""Members in threads over a log in memory, and logs that trouble them."""
+from __future__ import annotations
+
+import threading
+import time
+import unittest
+from collections.abc import Sequence
+from typing import Any
+
+from bully.clocks import seconds_of_boot
+from bully.epochs import Opening, Token
+from bully.logs import Found, Log, Unanswered
+from bully.member import Life, Promise
+from bully.memory import MemoryLog
+from bully.running import Member
+from ..steps import LONG
+
+
+def put(log: Log, *rows: str) -> None:
+    """The rows stand at the end of the log, by a stranger to the group."""
+    epoch = log.epochs()[-1]
+    place, life = len(log.read(epoch, 0)), Life(1, time.monotonic_ns())
+    assert log.take('stranger', life, Promise(epoch, place), LONG) and log.append(epoch, place, rows)
+    log.release('stranger', life)
+
+
+class Troubled(MemoryLog):
+    """A log that doesn't answer while it is silent."""
+
+    def __init__(self, opening: Opening) -> None:
+        super().__init__(opening)
+        self.is_silent = False
+
+    def check(self) -> None:
+        if self.is_silent:
+            raise Unanswered('silent')
+
+    def renew(self, name: str, life: Life, ttl: int) -> bool:
+        self.check()
+        return super().renew(name, life, ttl)
+
+    def look(self, epoch: int, place: int) -> Found:
+        self.check()
+        return super().look(epoch, place)
+
+
+class Slow(MemoryLog):
+    """A log that is slow to answer that a presence was taken or renewed. When the last such request began is kept."""
+
+    begun = 0.0
+
+    def take(self, name: str, life: Life, promise: Promise, ttl: int) -> bool:
+        return self.slowly(super().take(name, life, promise, ttl))
+
+    def renew(self, name: str, life: Life, ttl: int) -> bool:
+        return self.slowly(super().renew(name, life, ttl))
+
+    def slowly(self, done: bool) -> bool:
+        self.begun = seconds_of_boot()
+        time.sleep(0.1)
+        return done
+
+
+class Noting(MemoryLog):
+    """A log that notes at which places it was asked to append."""
+
+    def __init__(self, opening: Opening) -> None:
+        super().__init__(opening)
+        self.appends: list[int] = []
+
+    def append(self, epoch: int, place: int, rows: Sequence[str]) -> bool:
+        self.appends.append(place)
+        return super().append(epoch, place, rows)
+
+
+class Threads(unittest.TestCase):
+    """Tests with members in threads over one log in memory."""
+
+    def begin(
+        self, log: MemoryLog, node: int, ttl: float = 2.0, **more: Any
+    ) -> tuple[Member, list[str], threading.Thread]:
+        told: list[str] = []
+        start = more.pop('start', lambda assignment: told.append(f'start {assignment.token}'))
+        stop = more.pop('stop', lambda assignment: told.append(f'stop {assignment.token}'))
+        member = Member(log, node, start, stop, ttl=ttl, settings=log.opening().settings, **more)
+        thread = threading.Thread(target=self.run_member, args=[member])
+        thread.start()
+        self.addCleanup(thread.join)
+        self.addCleanup(member.leave)
+        return member, told, thread
+
+    def run_member(self, member: Member) -> None:
+        try:
+            member.run()
+        except Exception as failure:
+            self.raised = failure
+
+    def token_of(self, log: MemoryLog) -> Token:
+        """That of the first plan."""
+        return Token.of(1, 1 + next(place for place, row in enumerate(log.rows) if row.startswith('plan')))
