@@ -1,9 +1,10 @@
 -- From what `explain` of bully_explain ensures to what the program answers.
-use Rattle.std.proofs.Common.{◌≡◌, ◌⊎◌, ◌++◌, inl, inr, ℕ, Bool, true, List, [], ◌∷◌, codes, subst, Some, None, Ok, Err, refl, ap, arith}
+use Rattle.std.proofs.Common.{◌≡◌, ◌≢◌, ◌⊎◌, ◌++◌, inl, inr, ℕ, Bool, true, false, List, [], ◌∷◌, codes, subst, Some, None, Ok, Err, refl, ap, arith}
 use Rattle.std.specs.Prelude.{IfSome}
 use Rattle.std.specs.Str.{IsUtf8, chars}
 use Rattle.std.specs.Io.KnownBytes.{Appends, Keeps}
 use Rattle.bully_world.specs.State.{world_of}
+use Rattle.bully_rows.specs.declared.trace.TraceCause.{TraceCause}
 use Rattle.bully_rows.specs.declared.trace.TraceFault.{TraceFault}
 use Rattle.bully_trace.specs.declared.verdict.Verdict.{Verdict}
 use Rattle.bully_rows.specs.RecordsLeft.{EndsReading}
@@ -15,7 +16,7 @@ use Rattle.bully_draft.specs.ConfigTold.{IsConfigText}
 use Rattle.bully_explain.specs.SheetText.{IsFormText, IsSheet}
 use Rattle.bully_draft.specs.Shown.{AllPlain, shown}
 use Rattle.bully_draft.proofs.ShownLemmas.{shown-plain}
-use Rattle.bully.specs.Answer.{KnownBytes, Tells, row_line, stop_line, verdict_status}
+use Rattle.bully.specs.Answer.{KnownBytes, Tells, row_line, stop_line, stop_of, verdict_status}
 use Rattle.bully.specs.ConfigAnswer.{IsStopped}
 use Rattle.bully.specs.ExplainAnswer.{IsConfigExplainAnswer, IsExplainAnswer, sheet_told}
 use Rattle.bully.specs.RefusalText.{refusal_line}
@@ -53,6 +54,20 @@ pub unparsed-answer : (remaining : KnownBytes) (is_json : Bool) (output output' 
 unparsed-answer None is_json output output' errors errors' status kept told = tt
 unparsed-answer (Some bytes) is_json output output' errors errors' status kept (done, told) =
     inr (inr (Stop.OutOfMemory, (λ _. kept), (λ e. absurd (grind (arith, e))), told, done))
+
+-- nothing was explained: the reader failed, or memory was short
+pub untold-answer : (cause : TraceCause) (remaining : KnownBytes) (is_json : Bool) (output errors errors' : KnownBytes) (status : ℕ) → is_of_form cause ≡ false → cause ≢ TraceCause.Write
+    → ((stop : Stop) → stop_of cause ≡ Some stop → (status ≡ 4) × Tells errors errors' (stop_line stop))
+    → IfSome remaining (λ bytes. IsExplainAnswer is_json bytes output output errors errors' status)
+untold-answer cause None is_json output errors errors' status form read other = tt
+untold-answer TraceCause.BadHeader (Some bytes) is_json output errors errors' status form read other = absurd (cc form)
+untold-answer TraceCause.BadRow (Some bytes) is_json output errors errors' status form read other = absurd (cc form)
+untold-answer TraceCause.TooManyRows (Some bytes) is_json output errors errors' status form read other = absurd (cc form)
+untold-answer TraceCause.Read (Some bytes) is_json output errors errors' status form read other =
+    inr (inr (Stop.Read, (λ _. keeps-refl output), (λ e. absurd (grind (arith, e))), (other Stop.Read refl).1, (other Stop.Read refl).0))
+untold-answer TraceCause.Write (Some bytes) is_json output errors errors' status form read other = absurd (read refl)
+untold-answer TraceCause.OutOfMemory (Some bytes) is_json output errors errors' status form read other =
+    unparsed-answer (Some bytes) is_json output output errors errors' status (keeps-refl output) (other Stop.OutOfMemory refl)
 
 -- ---- the answers to `explain --config`
 

@@ -207,7 +207,7 @@ fn draw_input<R: Read + Drop, W: Write, E: Write>(
     ensures silent { (result ≡ 2) ⊎ (result ≡ 3) → output.new ≡ output.old }
     ensures status { result ≤ 4 }
 {
-    match film_for(alloc, drawing, input) {
+    match film_for(alloc, drawing.form, drawing.window, input) {
         Ok(film) => draw_finished(alloc, &film, drawing, names, output, errors),
         Err(fault) => answer_fault(alloc, fault, errors),
     }
@@ -216,15 +216,16 @@ fn draw_input<R: Read + Drop, W: Write, E: Write>(
 // The film of the trace on the input, with the rules where a page is drawn.
 fn film_for<R: Read + Drop>(
     alloc: Global,
-    drawing: Drawing,
+    form: Form,
+    window: Window,
     input: R,
 ) -> Result<RuledFilm, TraceFault>
-    ensures told { IfOk result (λ film. OfTrace (R.remaining input) (IsFilmOf drawing.window film.finished)) }
+    ensures told { IfOk result (λ film. OfTrace (R.remaining input) (IsFilmOf window film.finished)) }
     ensures fault { IfErr result (EndsReading (R.remaining input)) }
 {
-    match drawing.form {
-        Form::Page => film_with_rules(alloc, input, drawing.window),
-        Form::Svg | Form::Text => film_alone(alloc, input, drawing.window),
+    match form {
+        Form::Page => film_with_rules(alloc, input, window),
+        Form::Svg | Form::Text => film_alone(alloc, input, window),
     }
 }
 
