@@ -14,7 +14,7 @@ from building.crates import ROOT, Stopped, find_kit, read_crates
 from building.kept import made_of
 from building.library import make_library
 from building.proving import Building, Say
-from building.running import Children
+from building.running import Children, all_jobs
 from building.unproved import FOLDER, build_for_tests, product_of
 from counts import Counts
 
@@ -39,6 +39,7 @@ class Part(NamedTuple):
 
 
 NONE = 'none'
+FIRST = ('library', 'bully', 'bully_simulator')
 MEMBERS = 'tests/members/simulate BUILT/library'
 PARTS = [
     Part('snippets', 'tests/snippets/compare'),
@@ -155,11 +156,11 @@ def make_unproved(name: str, run: Run, room: Path, say: Say) -> None:
 
 
 def test(names: List[str], how: str, say: Say) -> Counts:
-    """Tries these parts, or all, over what is built without proofs. The longest builds begin first."""
+    """Tries these parts, or all, over what is built without proofs: as many things at once as there are cores, first those that most waits for."""
     FOLDER.mkdir(parents=True, exist_ok=True)
     run = Run(chosen(names, how), how, FOLDER)
-    things = sorted(run.done, key=lambda name: ('library', 'bully').index(name) if name in ('library', 'bully') else 2)
-    with (FOLDER / 'lock').open('w') as lock, tempfile.TemporaryDirectory() as room:
+    things = sorted(run.done, key=lambda name: FIRST.index(name) if name in FIRST else len(FIRST))
+    with (FOLDER / 'lock').open('w') as lock, tempfile.TemporaryDirectory() as room, ThreadPoolExecutor(all_jobs()) as builders:
         fcntl.flock(lock, fcntl.LOCK_EX)
-        run.run(lambda pool: bool([pool.submit(make_unproved, name, run, Path(room), say) for name in things]))
+        run.run(lambda _: bool([builders.submit(make_unproved, name, run, Path(room), say) for name in things]))
     return run.counts
