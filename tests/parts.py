@@ -4,7 +4,7 @@ import fcntl
 import shutil
 import tempfile
 import time
-from concurrent.futures import ThreadPoolExecutor
+from concurrent.futures import ThreadPoolExecutor, as_completed
 from contextlib import ExitStack
 from pathlib import Path
 from threading import Event
@@ -133,12 +133,12 @@ class Run:
         meanwhile, what runs is ended, too; then those that wait go on, and begin nothing."""
         with ThreadPoolExecutor(len(self.parts) + len(self.done) + 1) as pool, ExitStack() as behind, self.children:
             behind.callback(self.all_are_done)
-            begun = [(part, pool.submit(self.try_part, part)) for part in self.parts]
+            begun = {pool.submit(self.try_part, part): part.name for part in self.parts}
             is_green = make(pool)
-            for part, ended in begun:
+            for ended in as_completed(begun):
                 said, status, seconds = ended.result()
-                print(f'{said.rstrip()}\n== {part.name}: {seconds:.0f} s', flush=True)
-                self.counts.add(said, status, part.name)
+                print(f'{said.rstrip()}\n== {begun[ended]}: {seconds:.0f} s', flush=True)
+                self.counts.add(said, status, begun[ended])
         return is_green
 
 
