@@ -121,7 +121,8 @@ class Run:
             return f'FAILED: {part.name}: {missing[0]} is not built\n0 passed, 1 failed', 1, 0.0
         if lacking:
             return f'skipped: {part.name}: there is no {lacking[0]}\n0 passed, 0 failed, 1 skipped', 0, 0.0
-        words = f'{part.words} {"" if more == NONE else more}'.replace('BUILT', str(self.built)).replace('KIT', str(find_kit())).split()
+        kit = str(find_kit()) if 'KIT' in part.words else ''
+        words = f'{part.words} {"" if more == NONE else more}'.replace('BUILT', str(self.built)).replace('KIT', kit).split()
         with tempfile.TemporaryFile() as said:
             began = time.monotonic()
             status = self.children.begin(['env', f'BULLY_BUILT={self.built}', 'timeout', str(part.limit), *words], ROOT, said).wait()
