@@ -1,5 +1,5 @@
 """Results. The last line of each program that tests is 'N passed, M failed', or 'N passed, M failed, K skipped' if something isn't there that
-it takes to try them; its exit status is 0 if M is 0 and something was tried or skipped. Those in bash have counts.bash for it."""
+it takes to try them; its exit status is 0 if M is 0 and something was tried or skipped."""
 import re
 
 # (and what rattle-test says)

@@ -4,7 +4,7 @@ import fcntl
 import shutil
 import tempfile
 import time
-from concurrent.futures import ThreadPoolExecutor
+from concurrent.futures import ThreadPoolExecutor, as_completed
 from contextlib import ExitStack
 from pathlib import Path
 from threading import Event
@@ -14,7 +14,7 @@ from building.crates import ROOT, Stopped, find_kit, read_crates
 from building.kept import made_of
 from building.library import make_library
 from building.proving import Building, Say
-from building.running import Children
+from building.running import Children, all_jobs
 from building.unproved import FOLDER, build_for_tests, product_of
 from counts import Counts
 
@@ -39,6 +39,7 @@ class Part(NamedTuple):
 
 
 NONE = 'none'
+FIRST = ('library', 'bully', 'bully_simulator')
 MEMBERS = 'tests/members/simulate BUILT/library'
 PARTS = [
     Part('snippets', 'tests/snippets/compare'),
@@ -120,7 +121,8 @@ class Run:
             return f'FAILED: {part.name}: {missing[0]} is not built\n0 passed, 1 failed', 1, 0.0
         if lacking:
             return f'skipped: {part.name}: there is no {lacking[0]}\n0 passed, 0 failed, 1 skipped', 0, 0.0
-        words = f'{part.words} {"" if more == NONE else more}'.replace('BUILT', str(self.built)).replace('KIT', str(find_kit())).split()
+        kit = str(find_kit()) if 'KIT' in part.words else ''
+        words = f'{part.words} {"" if more == NONE else more}'.replace('BUILT', str(self.built)).replace('KIT', kit).split()
         with tempfile.TemporaryFile() as said:
             began = time.monotonic()
             status = self.children.begin(['env', f'BULLY_BUILT={self.built}', 'timeout', str(part.limit), *words], ROOT, said).wait()
@@ -132,12 +134,12 @@ class Run:
         meanwhile, what runs is ended, too; then those that wait go on, and begin nothing."""
         with ThreadPoolExecutor(len(self.parts) + len(self.done) + 1) as pool, ExitStack() as behind, self.children:
             behind.callback(self.all_are_done)
-            begun = [(part, pool.submit(self.try_part, part)) for part in self.parts]
+            begun = {pool.submit(self.try_part, part): part.name for part in self.parts}
             is_green = make(pool)
-            for part, ended in begun:
+            for ended in as_completed(begun):
                 said, status, seconds = ended.result()
-                print(f'{said.rstrip()}\n== {part.name}: {seconds:.0f} s', flush=True)
-                self.counts.add(said, status, part.name)
+                print(f'{said.rstrip()}\n== {begun[ended]}: {seconds:.0f} s', flush=True)
+                self.counts.add(said, status, begun[ended])
         return is_green
 
 
@@ -155,11 +157,11 @@ def make_unproved(name: str, run: Run, room: Path, say: Say) -> None:
 
 
 def test(names: List[str], how: str, say: Say) -> Counts:
-    """Tries these parts, or all, over what is built without proofs. The longest builds begin first."""
+    """Tries these parts, or all, over what is built without proofs: as many things at once as there are cores, first those that most waits for."""
     FOLDER.mkdir(parents=True, exist_ok=True)
     run = Run(chosen(names, how), how, FOLDER)
-    things = sorted(run.done, key=lambda name: ('library', 'bully').index(name) if name in ('library', 'bully') else 2)
-    with (FOLDER / 'lock').open('w') as lock, tempfile.TemporaryDirectory() as room:
+    things = sorted(run.done, key=lambda name: FIRST.index(name) if name in FIRST else len(FIRST))
+    with (FOLDER / 'lock').open('w') as lock, tempfile.TemporaryDirectory() as room, ThreadPoolExecutor(all_jobs()) as builders:
         fcntl.flock(lock, fcntl.LOCK_EX)
-        run.run(lambda pool: bool([pool.submit(make_unproved, name, run, Path(room), say) for name in things]))
+        run.run(lambda _: bool([builders.submit(make_unproved, name, run, Path(room), say) for name in things]))
     return run.counts

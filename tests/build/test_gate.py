@@ -67,18 +67,10 @@ class Counting(unittest.TestCase):
         self.assertEqual(self.add('test result: ok. 6 passed; 0 failed; 0 ignored; 0 filtered out\n', 0), (6, 0, ''))
 
     def test_the_last_line_says_what_was_skipped_and_that_nothing_was_tried(self) -> None:
-        for counter in ('counts.py', 'counts.bash'):
-            for calls, wanted, status in (('', '0 passed, 1 failed', 1), ('skip', '0 passed, 0 failed, 1 skipped', 0), ('pass', '1 passed, 0 failed', 0)):
-                with self.subTest(counter=counter, calls=calls):
-                    ran = subprocess.run(self.words_of(counter, calls), cwd=ROOT / 'tests', stdout=subprocess.PIPE, text=True)
-                    self.assertEqual((ran.stdout.splitlines()[-1], ran.returncode), (wanted, status))
-
-    def words_of(self, counter: str, calls: str) -> 'list[str]':
-        """The words of a program that counts by these calls."""
-        if counter == 'counts.bash':
-            return ['bash', '-c', f'. ./counts.bash; {calls} it why; end' if calls else '. ./counts.bash; end']
-        called = {'': '', 'skip': "it.skip('it', 'why'); ", 'pass': "it.hold(True, 'it'); "}[calls]
-        return [sys.executable, '-c', f'import counts, sys; it = counts.Counts(); {called}sys.exit(it.end())']
+        for call, wanted in (('', ('0 passed, 1 failed', 1)), ("it.skip('it', 'why')", ('0 passed, 0 failed, 1 skipped', 0)), ("it.hold(True, 'it')", ('1 passed, 0 failed', 0))):
+            words = [sys.executable, '-c', f'import counts, sys\nit = counts.Counts()\n{call}\nsys.exit(it.end())']
+            ran = subprocess.run(words, cwd=ROOT / 'tests', stdout=subprocess.PIPE, text=True)
+            self.assertEqual((ran.stdout.splitlines()[-1], ran.returncode), wanted)
 
     def test_a_last_line_that_counts_nothing_is_one(self) -> None:
         self.assertEqual(self.add('0 passed, 0 failed\n', 0), (0, 1, 'FAILED: it ended with no last line that counts\n'))

@@ -1,4 +1,5 @@
 """What bin/test builds without proofs, and which parts it runs."""
+import signal
 import subprocess
 import sys
 import unittest
@@ -6,7 +7,7 @@ from pathlib import Path
 
 from building.crates import Stopped, read_crates
 from building.unproved import export, write_main
-from stand_in import Tree
+from stand_in import Tree, as_ever, is_there, waited
 
 # bin/test with these parts in place of its own.
 RUN = '''
@@ -50,10 +51,15 @@ class Unproved(unittest.TestCase):
         part.write_text(PART.replace('ROOM', str(self.tree.room)))
         part.chmod(0o755)
 
+    def begin(self, *words: str) -> 'subprocess.Popen[str]':
+        environment, pipe = {'PATH': f'{self.tree.room}/kit/bin:/usr/bin:/bin'}, subprocess.PIPE
+        command = [sys.executable, '-c', RUN, *words]
+        return subprocess.Popen(command, cwd=self.tree.top, env=environment, stdout=pipe, stderr=pipe, text=True, preexec_fn=as_ever)
+
     def call(self, *words: str) -> 'subprocess.CompletedProcess[str]':
-        path = f'{self.tree.room}/kit/bin:/usr/bin:/bin'
-        ran = subprocess.run([sys.executable, '-c', RUN, *words], cwd=self.tree.top, env={'PATH': path}, stdout=subprocess.PIPE, stderr=subprocess.PIPE, text=True)
-        return ran
+        child = self.begin(*words)
+        written, said = child.communicate(timeout=60)
+        return subprocess.CompletedProcess(words, child.returncode, written, said)
 
     def tried(self) -> 'list[str]':
         told = self.tree.room / 'parts'
@@ -84,6 +90,14 @@ class Unproved(unittest.TestCase):
         self.assertEqual((ran.stdout.splitlines()[-1], ran.returncode), ('1 passed, 1 failed, 1 skipped', 1))
         self.assertIn('error: expected an item\n', ran.stderr)
         self.assertEqual(self.tried(), ['alone'])
+
+    def test_who_ends_it_ends_what_builds_and_no_part_over_that_begins(self) -> None:
+        self.tree.hold('try')
+        run = self.begin('over-it')
+        waited(lambda: self.tree.process_of('try') is not None, 'it builds')
+        run.send_signal(signal.SIGTERM)
+        run.communicate(timeout=60)
+        self.assertEqual((run.returncode, is_there(self.tree.process_of('try') or 0), self.tried()), (128 + signal.SIGTERM, False, []))
 
     def test_a_strange_name_is_refused(self) -> None:
         refused = self.tree.call('test', 'snippets', 'nobody')
