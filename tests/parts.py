@@ -40,18 +40,18 @@ class Part(NamedTuple):
 
 NONE = 'none'
 FIRST = ('library', 'bully', 'bully_simulator')
-MEMBERS = 'tests/members/simulate BUILT/library'
+MEMBERS = 'tests/members/run simulate BUILT/library'
 PARTS = [
     Part('snippets', 'tests/snippets/compare'),
     Part('promises', 'tests/promises/compare'),
     Part('versions', 'tests/release/compare'),
     Part('wrong-bodies', 'tests/edits/try'),
-    Part('wrong-members', 'tests/members/wrong --fit'),
+    Part('wrong-members', 'tests/members/run wrong --fit'),
     Part('build', 'tests/build/try'),
     Part('c', 'bindings/c/try BUILT/library', 'library', 'gcc g++'),
     Part('rust', 'bindings/rust/try BUILT/library', 'library', 'cargo'),
     Part('package', 'tests/members/run package BUILT/library', 'library'),
-    Part('rules', 'tests/members/rules BUILT/library', 'library', short='--any 100 --settle 100 --bugs --explore 10000 --restarts 4 --seeds 1 50',
+    Part('rules', 'tests/members/run rules BUILT/library', 'library', short='--any 100 --settle 100 --bugs --explore 10000 --restarts 4 --seeds 1 50',
          full='--any 3000 --settle 5000 --bugs --explore 100000 --restarts 100 --seeds 1 3000', limit=7200),
     Part('bugs', f'{MEMBERS} --bugs', 'library'),
     Part('members', MEMBERS, 'library', short='--to 60', whole='--to 300', full='--to 10000', limit=7200),
@@ -59,12 +59,12 @@ PARTS = [
     Part('over-etcd', f'{MEMBERS} --over-etcd', 'library', short='--to 20', whole='--to 100', full='--to 10000', limit=7200),
     Part('epochs-over-etcd', f'{MEMBERS} --over-etcd --epochs', 'library', short='--to 12', whole='--to 60', full='--to 3000', limit=7200),
     Part('told', f'{MEMBERS} --told', 'library', short='--to 12', whole='--to 60', full='--to 3000', limit=7200),
-    Part('etcd', 'tests/members/compare BUILT/library', 'library', 'etcd', short='--requests 1000 --logs 300'),
-    Part('kills', 'tests/members/try BUILT/library', 'library', short='--kills 2 --pauses 2 --epochs 1 --orders 1 --share 2',
+    Part('etcd', 'tests/members/run compare BUILT/library', 'library', 'etcd', short='--requests 1000 --logs 300'),
+    Part('kills', 'tests/members/run try BUILT/library', 'library', short='--kills 2 --pauses 2 --epochs 1 --orders 1 --share 2',
          whole='--kills 4 --pauses 6 --share 2', full='--kills 100 --pauses 50 --share 1', limit=7200),
-    Part('network', 'tests/members/network BUILT/library', 'library', 'etcd', '--faults 4', '--faults 8', '--faults 100', limit=7200),
-    Part('soak', 'tests/members/soak BUILT/library', 'library', short=NONE, whole=NONE, full='--seconds 20'),
-    Part('soak-over-etcd', 'tests/members/soak BUILT/library --store etcd', 'library', 'etcd', NONE, NONE, '--seconds 20'),
+    Part('network', 'tests/members/run network BUILT/library', 'library', 'etcd', '--faults 4', '--faults 8', '--faults 100', limit=7200),
+    Part('soak', 'tests/members/run soak BUILT/library', 'library', short=NONE, whole=NONE, full='--seconds 20'),
+    Part('soak-over-etcd', 'tests/members/run soak BUILT/library --store etcd', 'library', 'etcd', NONE, NONE, '--seconds 20'),
     Part('python', 'bindings/python/try BUILT/library --simulator BUILT/bully_simulator', 'library bully_simulator',
          short='--seeds 60', whole='--seeds 200', full='--seeds 1000', limit=7200),
     Part('memory', 'tests/hostile/memory', 'bully_memory', 'rustc'),

@@ -1,7 +1,7 @@
 """Tries two members of which one is in another time namespace, so that its clock is far ahead or behind, while a
 recorder apart judges what their workers do.
 
-    tests/members/clocks LIBRARY_FOLDER [--seconds SECONDS] [--ttl SECONDS]
+    tests/members/run clocks LIBRARY_FOLDER [--seconds SECONDS] [--ttl SECONDS]
 
 LIBRARY_FOLDER is what `bin/library` wrote. It takes Linux 5.6 and root. While the first member works the second one,
 of the other node, is begun again and again: it has to end by its status, and to say why. Once the first one has left

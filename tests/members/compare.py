@@ -1,6 +1,6 @@
 """Asks a server of etcd and the simulated one (`cluster.py`) the same, at random: both have to answer the same.
 
-    tests/members/compare LIBRARY_FOLDER [--requests COUNT] [--logs COUNT] [--seed SEED]
+    tests/members/run compare LIBRARY_FOLDER [--requests COUNT] [--logs COUNT] [--seed SEED]
 
 LIBRARY_FOLDER is what `bin/library` wrote. It starts a server of its own, if the program `etcd` is on the path, and
 else tries nothing. Asked are transactions that write or read, ranges of any revision, and leases that are granted,

@@ -1,7 +1,7 @@
 """Tries members in processes of their own over three servers of etcd, on a network of its own: 100 faults of members,
 servers and network.
 
-    tests/members/network LIBRARY_FOLDER [--faults COUNT] [--seed SEED] [--locks COUNT] [--program PATH]
+    tests/members/run network LIBRARY_FOLDER [--faults COUNT] [--seed SEED] [--locks COUNT] [--program PATH]
         [--folder FOLDER]
 
 LIBRARY_FOLDER is what `bin/library` wrote. Each server and each of five members is in a network namespace; without

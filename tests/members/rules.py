@@ -1,8 +1,8 @@
 """Compares the proved rules of a member, and its settlements, with plain ones, and tries both.
 
-    tests/members/rules LIBRARY_FOLDER [--seeds FIRST LAST] [--restarts COUNT] [--settle COUNT] [--any COUNT] [--bugs]
+    tests/members/run rules LIBRARY_FOLDER [--seeds FIRST LAST] [--restarts COUNT] [--settle COUNT] [--any COUNT] [--bugs]
         [--explore MOST]
-    tests/members/rules LIBRARY_FOLDER --find LAST
+    tests/members/run rules LIBRARY_FOLDER --find LAST
 
 LIBRARY_FOLDER is what `bin/library` wrote. If nothing more is said all of this is tried, in sizes for each day:
 

@@ -1,10 +1,10 @@
 """Simulates groups of members by the proved rules, one for each seed, over the stores of the package.
 
-    tests/members/simulate LIBRARY_FOLDER [--from SEED] [--to SEED] [--over-etcd | --told] [--epochs | --orders]
+    tests/members/run simulate LIBRARY_FOLDER [--from SEED] [--to SEED] [--over-etcd | --told] [--epochs | --orders]
         [--bug NAME]
-    tests/members/simulate LIBRARY_FOLDER --bugs
-    tests/members/simulate LIBRARY_FOLDER --find SECONDS [NAME ...]
-    tests/members/simulate LIBRARY_FOLDER --long [CHANGES]
+    tests/members/run simulate LIBRARY_FOLDER --bugs
+    tests/members/run simulate LIBRARY_FOLDER --find SECONDS [NAME ...]
+    tests/members/run simulate LIBRARY_FOLDER --long [CHANGES]
 
 LIBRARY_FOLDER is what `bin/library` wrote. Each group has to come to rest once there is no more trouble, its logs have
 to be lawful, and no two members may work on one partition at one moment, but for those that were paused beyond their

@@ -1,7 +1,7 @@
 """Tries members for a long time, over a file or over three servers of etcd, while a recorder apart judges what their
 workers do.
 
-    tests/members/soak LIBRARY_FOLDER [--store sqlite|etcd] [--seconds SECONDS] [--seed SEED] [--rests SHARE]
+    tests/members/run soak LIBRARY_FOLDER [--store sqlite|etcd] [--seconds SECONDS] [--seed SEED] [--rests SHARE]
         [--nodes COUNT] [--ttl SECONDS] [--talk] [--program PATH] [--folder FOLDER]
 
 LIBRARY_FOLDER is what `bin/library` wrote. Members, their guards and their workers are killed and paused, by a seed,

@@ -1,6 +1,6 @@
 """Tries members in processes of their own over a log in a file, or in etcd: kills and pauses them.
 
-    tests/members/try LIBRARY_FOLDER [--kills COUNT] [--pauses COUNT] [--epochs COUNT] [--orders COUNT] [--store etcd]
+    tests/members/run try LIBRARY_FOLDER [--kills COUNT] [--pauses COUNT] [--epochs COUNT] [--orders COUNT] [--store etcd]
         [--ttl SECONDS] [--seed SEED] [--share PERCENT] [--folder FOLDER] [--talk]
 
 LIBRARY_FOLDER is what `bin/library` wrote. Three members share 12 partitions; while they work the group gets five nodes

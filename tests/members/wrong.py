@@ -1,8 +1,8 @@
 """Bugs that are planted in the package `bully`, each by itself, and the test that has to find it.
 
-    tests/members/wrong FOLDER [WORDS]   plants each, or each that has these words, and runs its test
-    tests/members/wrong --fit            sees that each fits its file, and has its test, as the gate does
-    tests/members/wrong --list           tells them
+    tests/members/run wrong FOLDER [WORDS]   plants each, or each that has these words, and runs its test
+    tests/members/run wrong --fit            sees that each fits its file, and has its test, as the gate does
+    tests/members/run wrong --list           tells them
 
 FOLDER is what `bin/library` wrote. `wrong-bodies.txt` has the bugs: a sentence, the test, the file, and a text that
 stands there once, with what stands in its place. Without a bug its test has to pass, and with it to fail, as the tests
