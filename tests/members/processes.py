@@ -8,7 +8,7 @@ import re
 import select
 import signal
 import unittest
-from collections.abc import Iterable
+from collections.abc import Callable, Iterable
 from pathlib import Path
 from typing import NamedTuple
 
@@ -73,10 +73,16 @@ def parent_of(process: int) -> int:
     return int(Path(f'/proc/{process}/stat').read_text().rsplit(')', 1)[1].split()[1])
 
 
-def end(process: int) -> None:
-    """It ends, if it is there."""
-    with contextlib.suppress(ProcessLookupError):
-        os.kill(process, signal.SIGKILL)
+def ender(process: int) -> Callable[[], None]:
+    """What ends it, if it is still there: never another process that has got its number since."""
+    held = os.pidfd_open(process)
+
+    def end() -> None:
+        with contextlib.suppress(ProcessLookupError):
+            signal.pidfd_send_signal(held, signal.SIGKILL)
+        os.close(held)
+
+    return end
 
 
 def full_pipe() -> tuple[int, int]:

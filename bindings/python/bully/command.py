@@ -232,7 +232,8 @@ def resize_command(options: argparse.Namespace) -> int:
     with contextlib.closing(store_of(options).open()) as log:
         if settings is None:
             return cancel(log)
-        present = found_in(log).lives
+        # (another command that changes the group is present as a stranger to it, as is one that was killed, for its ttl)
+        present = [name for name in found_in(log).lives if name in log.opening().names]
         if present and not set(present) & set(settings.names) and not options.all_new:
             names = ', '.join(present)
             why = f'none of those present ({names}) is in it, so all would end; --all-new takes it'

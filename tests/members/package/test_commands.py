@@ -289,6 +289,18 @@ class Commands(InFolder):
         for words in (['resize'], [*resize, '--cancel']):
             self.assertEqual(self.of_log(*words)[0], 2)
 
+    def test_after_a_killed_resize(self) -> None:
+        """What that took to end the epoch is no member, by which the next one would be mistyped; it is waited for."""
+        self.of_log('init', '--config', str(self.config))
+        log, new = self.opened(), self.folder / 'new.toml'
+        new.write_bytes(toml({**TOP, 'names': ['A', 'B', 'C']}))
+        resize = ('resize', '--config', str(new), '--seconds')
+        taken = self.take(log, 'resize 7')
+        waits = 'bully-member: epoch 1 has not ended yet, but waits for resize 7\n'
+        self.assertEqual(self.of_log(*resize, '0.01'), (1, '', waits))
+        log.release('resize 7', taken['resize 7'])
+        self.assertEqual(self.of_log(*resize, '30'), (0, 'epoch 2: 3 nodes, 6 partitions\n', ''))
+
     def test_switchover(self) -> None:
         """Another node gets the highest number, and keeps its weight."""
         self.config.write_bytes(toml({**TOP, 'weights': [1, 2, 3]}))

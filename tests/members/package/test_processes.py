@@ -23,7 +23,7 @@ from bully.epochs import Token
 from bully.sqlite import SqliteLog
 from bully.view import LogView
 from places import ROOT, environment
-from ..processes import children, end, freeze, full_pipe, has_stopped, is_running, parent_of, thaw
+from ..processes import children, ender, freeze, full_pipe, has_stopped, is_running, parent_of, thaw
 from ..waiting import PATIENCE, wait_until
 from .configurations import TOP, toml
 from .member_processes import BEGINS, STARTS, TALKS, MemberProcess, WithMember, started
@@ -421,7 +421,7 @@ os.kill(os.getpid(), signal.SIGSTOP)
         member = self.begin(STARTS)
         worker = member.worker()
         guard, child = parent_of(worker), int((self.folder / 'child').read_text())
-        self.addCleanup(end, child)
+        self.addCleanup(ender(child))
         self.kill_both(member.process.pid, guard)
         wait_until(lambda: not is_running(worker))
         self.assertEqual(member.wait(), -signal.SIGKILL)
@@ -438,7 +438,7 @@ os.kill(os.getpid(), signal.SIGSTOP)
             self.skipTest('only root becomes another user')
         member = self.begin(BEGINS.replace('exec', 'exec setpriv --reuid 65534 --regid 65534 --clear-groups'))
         worker = member.worker()
-        self.addCleanup(end, worker)
+        self.addCleanup(ender(worker))
         wait_until(lambda: os.stat(f'/proc/{worker}').st_uid == 65534)
         self.kill_both(member.process.pid, parent_of(worker))
         self.assertEqual(member.wait(), -signal.SIGKILL)
@@ -476,8 +476,8 @@ os.kill(os.getpid(), signal.SIGSTOP)
         worker = member.worker()
         guard, child = parent_of(worker), int((self.folder / 'child').read_text())
         for process in (child, worker):
-            self.addCleanup(end, process)
-        self.addCleanup(end, guard)
+            self.addCleanup(ender(process))
+        self.addCleanup(ender(guard))
         os.kill(guard, signal.SIGSTOP)
         wait_until(lambda: has_stopped(guard))
         member.process.kill()
