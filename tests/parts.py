@@ -51,7 +51,7 @@ PARTS = [
     Part('c', 'bindings/c/try BUILT/library', 'library', 'gcc g++'),
     Part('rust', 'bindings/rust/try BUILT/library', 'library', 'cargo'),
     Part('package', 'tests/members/run package BUILT/library', 'library'),
-    Part('rules', 'tests/members/run rules BUILT/library', 'library', short='--any 100 --settle 100 --bugs --explore 10000 --restarts 4 --seeds 1 50',
+    Part('rules', 'tests/members/run rules BUILT/library', 'library', short='--any 100 --settle 100 --bugs --explore 50000 --restarts 4 --seeds 1 50',
          full='--any 3000 --settle 5000 --bugs --explore 100000 --restarts 100 --seeds 1 3000', limit=7200),
     Part('bugs', f'{MEMBERS} --bugs', 'library'),
     Part('members', MEMBERS, 'library', short='--to 60', whole='--to 300', full='--to 10000', limit=7200),
