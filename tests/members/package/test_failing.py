@@ -285,7 +285,7 @@ class GivesUp(Threads):
         both = [self.begin_member(node, True) for node in (1, 2)]
         wait_until(lambda: self.log.failing == {'1': False, '2': False} and self.owners() == {'1', '2'})
         rows = len(self.log.rows)
-        wait_until(lambda: all(work.begun > 4 for work in both))
+        wait_until(lambda: all(work.begun > 4 for work in both), 2 * PATIENCE)  # (later and later)
         self.assertEqual((len(self.log.rows), [work.member.gave_up for work in both]), (rows, [False, False]))
         self.assertEqual((self.failing(), self.shown.show().is_well), ({'1': False, '2': False}, False))
         both[0].fails = False
@@ -294,7 +294,7 @@ class GivesUp(Threads):
     def test_the_last_one(self) -> None:
         """It keeps what it owns, and nobody else is noted."""
         work = self.begin_member(1, True)
-        wait_until(lambda: work.begun > 4)
+        wait_until(lambda: work.begun > 4, 2 * PATIENCE)  # (later and later)
         self.assertEqual((work.member.gave_up, self.owners(), self.failing()), (False, {'1'}, {'1': False}))
 
     def test_becomes_the_only_one(self) -> None:
