@@ -7,7 +7,7 @@ import time
 from concurrent.futures import ThreadPoolExecutor, as_completed
 from contextlib import ExitStack
 from pathlib import Path
-from threading import Event
+from threading import Event, Semaphore
 from typing import Callable, Iterable, List, NamedTuple, Tuple
 
 from building.crates import ROOT, Stopped, find_kit, read_crates
@@ -97,6 +97,8 @@ class Run:
     def __init__(self, parts: List[Part], how: str, built: Path, more: Iterable[str] = ()) -> None:
         """`more` are things that nothing but the making of others waits for."""
         self.parts, self.how, self.built, self.children, self.counts = parts, how, built, Children(), Counts()
+        # (what waits for facts has to come to its turn: two more than cores, since most of them wait)
+        self.turns = Semaphore(all_jobs() + 2)
         self.done = {name: Event() for name in (*(name for part in parts for name in part.needs.split()), *more)}
 
     def is_done(self, name: str) -> None:
@@ -123,7 +125,7 @@ class Run:
             return f'skipped: {part.name}: there is no {lacking[0]}\n0 passed, 0 failed, 1 skipped', 0, 0.0
         kit = str(find_kit()) if 'KIT' in part.words else ''
         words = f'{part.words} {"" if more == NONE else more}'.replace('BUILT', str(self.built)).replace('KIT', kit).split()
-        with tempfile.TemporaryFile() as said:
+        with self.turns, tempfile.TemporaryFile() as said:
             began = time.monotonic()
             status = self.children.begin(['env', f'BULLY_BUILT={self.built}', 'timeout', str(part.limit), *words], ROOT, said).wait()
             said.seek(0)
