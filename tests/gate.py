@@ -13,7 +13,7 @@ from typing import Dict, List
 
 from building.crates import ROOT, Crates, find_kit, read_crates, version_of
 from building.kept import drop, keep, made_of
-from building.running import Children, all_jobs
+from building.running import all_jobs
 from counts import Counts
 from parts import Run, chosen
 

@@ -233,7 +233,8 @@ def resize_command(options: argparse.Namespace) -> int:
         if settings is None:
             return cancel(log)
         # (another command that changes the group is present as a stranger to it, as is one that was killed, for its ttl)
-        present = [name for name in found_in(log).lives if name in log.opening().names]
+        of_group = log.opening().names
+        present = [name for name in found_in(log).lives if name in of_group]
         if present and not set(present) & set(settings.names) and not options.all_new:
             names = ', '.join(present)
             why = f'none of those present ({names}) is in it, so all would end; --all-new takes it'
