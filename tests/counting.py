@@ -79,11 +79,3 @@ def leave(status: int) -> NoReturn:
     """Ends this process. A test that failed may have left threads, for which nobody waits."""
     sys.stdout.flush()
     os._exit(status)
-
-
-def has_failed(case: unittest.TestCase) -> bool:
-    """Whether the test tells that something is wrong: by an assertion, or since the log is damaged."""
-    result = unittest.TestResult()
-    case.run(result)
-    assert all('DamagedLog' in told or 'BadPresence' in told for _, told in result.errors), result.errors
-    return not result.wasSuccessful()

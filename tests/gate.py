@@ -13,9 +13,11 @@ from typing import Dict, List
 
 from building.crates import ROOT, Crates, find_kit, read_crates, version_of
 from building.kept import drop, keep, made_of
+from building.library import ARCHIVE
 from building.running import all_jobs
 from counts import Counts
-from parts import Run, chosen
+from parts import Part, Run, chosen
+from wrong_bodies import edits
 
 RECORD = ROOT / 'out' / 'proved'
 HANDED_OUT = ('crates/bully/out/bully', 'crates/bully_c/out/libbully_c.a')
@@ -44,7 +46,7 @@ def run_gate(run: Run, crates: Crates, pool: ThreadPoolExecutor) -> bool:
 
 def make_library(run: Run, crates: Crates) -> None:
     """Makes the library for C, over the crates as the gate left them, once those are done."""
-    run.wait_for(crates['bully_c'].below)
+    run.wait_for(crates['bully_c'].all)
     status = run.children.begin(['bin/library', '--gated', str(run.built / 'library')], ROOT, 2, errors=None).wait()
     if status:
         run.counts.hold(False, f'bin/library ended with status {status}')
@@ -58,8 +60,9 @@ def take_gated(crates: Crates, texts: Dict[str, str]) -> None:
             drop(crate.product)
         if crate.library('rlib').exists():
             shutil.copytree(crate.library('rlib'), crate.product, copy_function=os.link)
-        if crate.product.exists():
-            keep(crate.product, texts[crate.name])
+        for product in (crate.product, *([ARCHIVE] if crate.name == 'bully_c' else [])):
+            if product.exists():
+                keep(product, texts[crate.name])
 
 
 def commit_here() -> str:
@@ -85,14 +88,16 @@ def prove(how: str) -> Counts:
     texts = made_of(crates, crates, find_kit())
     RECORD.unlink(missing_ok=True)
     # (at its end `rt ci` puts back over its own libraries what was there; and no older archive is to be taken for its own)
+    drop(ARCHIVE)
     for crate in crates.values():
         shutil.rmtree(crate.library('rlib').parent, ignore_errors=True)
-        if crate.kind == 'archive':
-            drop(crate.product)
     with tempfile.TemporaryDirectory() as room:
         for crate in (each for each in crates.values() if each.kind == 'program'):
             Path(room, crate.name).symlink_to(crate.product)
-        run = Run(chosen([], how), how, Path(room), crates)
+        # (of a crate with a folder must-fail `rt ci` tries those, each alone)
+        tried = dict.fromkeys(edit.crate for edit in edits('wrong-bodies') if not (edit.folder / 'must-fail').is_dir())
+        refused = [Part(f'wrong-bodies of {name}', f'tests/edits/try --gated {name}', proved=name, limit=7200) for name in tried]
+        run = Run([*chosen([], how), *refused], how, Path(room), crates)
         is_green = run.run(lambda pool: run_gate(run, crates, pool))
     counts = run.counts
     try:

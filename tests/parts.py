@@ -20,9 +20,9 @@ from counts import Counts
 
 
 class Part(NamedTuple):
-    """A command that counts by itself, in which BUILT stands for the folder of what is tried, and KIT for the kit; what of that it needs; the tools without which it
-    is skipped; its words more in `bin/test`, in `bin/prove`, and for `--full`; and after how many seconds it is ended. One of an option alone
-    says so by `none` in the place of the words of the others."""
+    """A command that counts by itself, in which BUILT stands for the folder of what is tried, and KIT for the kit; what of that it needs; the tools
+    without which it is skipped; its words more in `bin/test`, in `bin/prove`, and for `--full`; after how many seconds it is ended; and a crate for
+    whose proof it waits, over which it has the prover work. One of an option alone says so by `none` in the place of the words of the others."""
 
     name: str
     words: str
@@ -32,6 +32,7 @@ class Part(NamedTuple):
     whole: str = ''
     full: str = ''
     limit: int = 1800
+    proved: str = ''
 
     def more(self, how: str) -> str:
         """The words more of a way to run it: `short`, `whole`, or `full`, which are those of `whole` if it has none of its own."""
@@ -39,21 +40,25 @@ class Part(NamedTuple):
 
 
 NONE = 'none'
-FIRST = ('library', 'bully', 'bully_simulator')
+FIRST = ('library', 'bully', 'bully_workbench')
 MEMBERS = 'tests/members/run simulate BUILT/library'
 PARTS = [
     Part('snippets', 'tests/snippets/compare'),
     Part('promises', 'tests/promises/compare'),
     Part('versions', 'tests/release/compare'),
+    Part('types', 'tests/types', tools='mypy'),
     Part('wrong-bodies', 'tests/edits/try'),
     Part('wrong-members', 'tests/members/run wrong --fit'),
     Part('build', 'tests/build/try'),
     Part('c', 'bindings/c/try BUILT/library', 'library', 'gcc g++'),
-    Part('rust', 'bindings/rust/try BUILT/library', 'library', 'cargo'),
+    Part('rust', 'bindings/rust/try BUILT/library BUILT/bully_workbench', 'library bully_workbench', 'cargo'),
     Part('package', 'tests/members/run package BUILT/library', 'library'),
-    Part('rules', 'tests/members/run rules BUILT/library', 'library', short='--any 100 --settle 100 --bugs --explore 50000 --restarts 4 --seeds 1 50',
-         full='--any 3000 --settle 5000 --bugs --explore 100000 --restarts 100 --seeds 1 3000', limit=7200),
-    Part('bugs', f'{MEMBERS} --bugs', 'library'),
+    Part('rules', 'tests/members/run rules BUILT/library', 'library', short='--settle 100 --explore 50000 --restarts 4 --manners 3',
+         full='--settle 5000 --explore 500000 --restarts 100 --manners 300', limit=7200),
+    # (those of the stores; in full all of the package, and those of the rules, for each of which a library is built)
+    Part('bugs', 'tests/members/run wrong BUILT/library --jobs 4 memory: sqlite: etcd:', 'library', full='test', limit=7200),
+    Part('bugs-of-rules', 'tests/members/run wrong BUILT/library --edited BUILT/edited .edit', 'library', short=NONE, whole=NONE,
+         full='--jobs 2', limit=7200),
     Part('members', MEMBERS, 'library', short='--to 60', whole='--to 300', full='--to 10000', limit=7200),
     Part('epochs', f'{MEMBERS} --epochs', 'library', short='--to 60', whole='--to 300', full='--to 10000', limit=7200),
     Part('over-etcd', f'{MEMBERS} --over-etcd', 'library', short='--to 20', whole='--to 100', full='--to 10000', limit=7200),
@@ -65,18 +70,18 @@ PARTS = [
     Part('network', 'tests/members/run network BUILT/library', 'library', 'etcd', '--faults 4', '--faults 8', '--faults 100', limit=7200),
     Part('soak', 'tests/members/run soak BUILT/library', 'library', short=NONE, whole=NONE, full='--seconds 20'),
     Part('soak-over-etcd', 'tests/members/run soak BUILT/library --store etcd', 'library', 'etcd', NONE, NONE, '--seconds 20'),
-    Part('python', 'bindings/python/try BUILT/library --simulator BUILT/bully_simulator', 'library bully_simulator',
+    Part('python', 'bindings/python/try BUILT/library --simulator BUILT/bully_workbench', 'library bully_workbench',
          short='--seeds 60', whole='--seeds 200', full='--seeds 1000', limit=7200),
-    Part('memory', 'tests/hostile/memory', 'bully_memory', 'rustc'),
+    Part('memory', 'tests/hostile/memory', 'bully_workbench', 'rustc'),
     # (the gate runs these by itself)
-    Part('programs', 'tests/programs', 'bully bully_bench bully_memory bully_simulator', whole=NONE),
-    *(Part(name.replace('_', '-'), f'KIT/bin/rattle-test BUILT/bully_{name}', f'bully_{name}', whole=NONE) for name in ('model_tests', 'group_tests', 'agent_tests')),
+    Part('programs', 'tests/programs', 'bully bully_workbench', whole=NONE),
+    Part('tests', 'KIT/bin/rattle-test BUILT/bully_tests', 'bully_tests', whole=NONE),
     Part('cases', 'tests/cases/try', 'bully'),
     Part('logging', 'tests/logging/try', 'bully'),
     Part('terminal', 'tests/terminal/try', 'bully'),
     *(Part(name, f'tests/hostile/outside {name}', 'bully', 'rustc') for name in ('requests', 'spoiled', 'annotated')),
     Part('processes', 'tests/processes/try BUILT/library', 'library bully', short='1 10', whole='2 20', full='10 100', limit=7200),
-    Part('nodes', 'tests/cluster/simulate', 'bully bully_simulator', 'rustc', '60', '300', '300'),
+    Part('nodes', 'tests/cluster/simulate', 'bully bully_workbench', 'rustc', '60', '300', '300'),
     Part('release', 'tests/release/try BUILT/library BUILT/bully', 'library bully'),
 ]  # fmt: skip
 
@@ -99,6 +104,8 @@ class Run:
         self.parts, self.how, self.built, self.children, self.counts = parts, how, built, Children(), Counts()
         # (what waits for facts has to come to its turn: two more than cores, since most of them wait)
         self.turns = Semaphore(all_jobs() + 2)
+        # (the prover takes memory: one beside those of the gate)
+        self.provers = Semaphore(1)
         self.done = {name: Event() for name in (*(name for part in parts for name in part.needs.split()), *more)}
 
     def is_done(self, name: str) -> None:
@@ -116,7 +123,7 @@ class Run:
     def try_part(self, part: Part) -> Tuple[str, int, float]:
         """What the part said, its status, and how many seconds it took, once all is done that it needs."""
         needs, more = part.needs.split(), part.more(self.how)
-        self.wait_for(needs)
+        self.wait_for([*needs, *part.proved.split()])
         missing = [name for name in needs if not (self.built / name).exists()]
         lacking = [tool for tool in part.tools.split() if not shutil.which(tool)]
         if missing:
@@ -125,7 +132,7 @@ class Run:
             return f'skipped: {part.name}: there is no {lacking[0]}\n0 passed, 0 failed, 1 skipped', 0, 0.0
         kit = str(find_kit()) if 'KIT' in part.words else ''
         words = f'{part.words} {"" if more == NONE else more}'.replace('BUILT', str(self.built)).replace('KIT', kit).split()
-        with self.turns, tempfile.TemporaryFile() as said:
+        with self.provers if part.proved else self.turns, tempfile.TemporaryFile() as said:
             began = time.monotonic()
             status = self.children.begin(['env', f'BULLY_BUILT={self.built}', 'timeout', str(part.limit), *words], ROOT, said).wait()
             said.seek(0)

@@ -120,10 +120,15 @@ def words_over_sources(kit: Path, crates: Crates, crate: Crate) -> List[str]:
 
 
 def words_over_libraries(kit: Path, crates: Crates, crate: Crate, part: str = 'built') -> List[str]:
-    """The words by which `rattle` builds a crate over the libraries that were built. rt uses the same words."""
+    """The words by which `rattle` checks a crate over the libraries that were built."""
     files = {name: crates[name].library(part) if name in crates else f'{kit}/rlibs/{name}.rlib' for name in ('std', *crate.named)}
     words = [word for name, file in files.items() for word in ('--extern', f'{name}={file}')]
     words += [word for lower in crate.below for word in ('-L', f'dependency={crates[lower].library(part).parent}')]
-    kinds = {'program': ['--backend', 'llvm'], 'archive': ['--crate-type', 'staticlib']}
-    words += kinds.get(crate.kind, [])
-    return [*words_of(crate), *words_of_logic(kit, crate), *words, '--toolchain', f'{kit}/toolchain']
+    kind = ['--crate-type', 'staticlib'] if crate.kind == 'archive' else []
+    return [*words_of(crate), *words_of_logic(kit, crate), *words, *kind]
+
+
+def words_to_build(kit: Path, crates: Crates, crate: Crate, part: str = 'built') -> List[str]:
+    """The words by which it builds a crate so. rt uses the same words."""
+    backend = ['--backend', 'llvm'] if crate.kind == 'program' else []
+    return [*words_over_libraries(kit, crates, crate, part), *backend, '--toolchain', f'{kit}/toolchain']

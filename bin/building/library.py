@@ -10,10 +10,11 @@ import tempfile
 from pathlib import Path
 from typing import Callable, Dict, List
 
-from .crates import ARCHIVES, ROOT, Stopped, find_kit, read_crates, version_of_all, words_over_libraries
-from .kept import drop
+from .crates import ARCHIVES, ROOT, Stopped, find_kit, read_crates, version_of_all, words_to_build
+from .exports import text_of_exports, write_exports
+from .kept import drop, is_made_of, keep
 from .layer import HEADER, layer_of, read_header
-from .proving import Say, bring, build_all, crate_of
+from .proving import Building, Say, bring, build_all, crate_of
 from .running import all_jobs
 
 SHARED = 'libbully.so.0'
@@ -24,6 +25,8 @@ TEMPLATES = {
     'bullyConfigVersion.cmake.in': 'lib/cmake/bully/bullyConfigVersion.cmake',
 }
 FILES = ('include/bully.h', 'lib/libbully.a', f'lib/{SHARED}', 'lib/libbully.so', *TEMPLATES.values())
+ARCHIVE = ROOT / 'crates' / 'bully_c' / 'out' / 'libbully_c.a'
+SOURCE = ARCHIVE.with_suffix('.exports')  # (of what made it)
 COMPILER = shlex.split(os.environ.get('CC') or 'cc')
 
 
@@ -35,18 +38,36 @@ def must(words: List[str], folder: Path = ROOT) -> None:
 def proved_archive(say: Say) -> Path:
     """The proved functions, over what was built."""
     crates = read_crates()
-    bring(crate_of(crates, 'bully_c').product, crates, crates['bully_c'], say, build_all)
-    return crates['bully_c'].product
+    crate = crate_of(crates, 'bully_c', 'library')
+    if not SOURCE.exists() or SOURCE.read_text() != text_of_exports(crate):
+        drop(ARCHIVE)
+    bring(ARCHIVE, crates, crate, say, make_archive)
+    return ARCHIVE
+
+
+def make_archive(building: Building) -> None:
+    """Proves and builds the library, unless that is done, and then its functions for C."""
+    crate, text = building.crate, building.made_of[building.crate.name]
+    if not is_made_of(crate.product, text):
+        build_all(building)
+    keep(archive_over('built'), text, [building.crates[name] for name in crate.all])
 
 
 def gated_archive(_: Say) -> Path:
-    """The same over the crates as the gate left them, which keeps the folders locked."""
+    """The same over the crates as the gate left them."""
+    return archive_over('rlib')
+
+
+def archive_over(part: str) -> Path:
+    """Builds the static library of the functions for C over the libraries in this part."""
     crates, kit = read_crates(), find_kit()
-    crate = crate_of(crates, 'bully_c')
-    drop(crate.product)
-    words = [*words_over_libraries(kit, crates, crate, 'rlib'), '--jobs', str(all_jobs()), '-o', str(crate.product)]
-    must([f'{kit}/bin/rattle', 'build', *words], crate.folder)
-    return crate.product
+    drop(ARCHIVE)
+    with tempfile.TemporaryDirectory() as room:
+        exports = write_exports(crates['bully_c'], Path(room))
+        words = [*words_to_build(kit, crates, exports, part), '--jobs', str(all_jobs()), '-o', str(ARCHIVE)]
+        must([f'{kit}/bin/rattle', 'build', *words], exports.folder)
+        shutil.copyfile(exports.folder / 'src' / 'lib.rt', SOURCE)
+    return ARCHIVE
 
 
 def defined(*words: str) -> List[str]:

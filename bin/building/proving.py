@@ -7,7 +7,7 @@ from contextlib import suppress
 from pathlib import Path
 from typing import Callable, Dict, List, NamedTuple, NoReturn, Optional
 
-from .crates import ARCHIVES, Crate, Crates, Stopped, find_kit, read_crates, version_of_all, words_over_libraries, words_over_sources
+from .crates import ARCHIVES, Crate, Crates, Stopped, find_kit, read_crates, version_of_all, words_over_sources, words_to_build
 from .kept import drop, is_made_of, keep, locked, made_of, see_unchanged, stamp_of
 from .running import Children, all_jobs, become, give_back_streams, run_beside
 
@@ -48,7 +48,7 @@ class Building(NamedTuple):
         which those above it are proved sooner."""
         kit, crate, product = self.kit, self.crates[name], self.crates[name].product
         file = f'{product}.o' if crate.kind == 'program' else str(product)
-        words = [f'{kit}/bin/rattle', 'build', *words_over_libraries(kit, self.crates, crate), '--jobs', str(processes), '-o', file]
+        words = [f'{kit}/bin/rattle', 'build', *words_to_build(kit, self.crates, crate), '--jobs', str(processes), '-o', file]
         if product.exists() or (crate.folder / 'out' / 'incremental').exists():
             words += ['--incremental', 'out/incremental']
         elif crate.kind == 'library':

@@ -112,7 +112,7 @@ class Commands(unittest.TestCase):
             self.assertEqual((refused.returncode, refused.stderr), (125, said))
 
     def test_library_is_made_of_the_archive_and_stays_if_that_is_not_proved(self) -> None:
-        self.tree.list_crates({'base': '', 'bully_c staticlib': 'base'})
+        self.tree.list_crates({'base': '', 'bully_c': 'base'})
         self.tree.write('bully_c', 'src/lib.rt', '// the functions for C\n')
         reader = 'bindings/python/bully/header.py'
         for name, text in (('include/bully.h', HEADER), ('bindings/c/bully.c', LAYER), (reader, (ROOT / reader).read_text())):
@@ -125,8 +125,9 @@ class Commands(unittest.TestCase):
         self.assertEqual(files_of(folder), LAYOUT)
         self.assertEqual(os.readlink(folder / 'lib' / 'libbully.so'), 'libbully.so.0')
         self.assertNotIn('@', (folder / 'lib' / 'pkgconfig' / 'bully.pc').read_text())
-        words = self.tree.words()[1]
-        self.assertEqual((words[0], words[words.index('--crate-type') + 1]), ('bully_c', 'staticlib'))
+        self.assertEqual(self.tree.begun(), ['base', 'bully_c', 'bully_c_exports'])
+        words = self.tree.words()[2]
+        self.assertEqual(words[words.index('--crate-type') + 1], 'staticlib')
         self.assertEqual(words[-2:], ['-o', f'{self.tree.top}/crates/bully_c/out/libbully_c.a'])
         before = {name: (folder / name).stat().st_ino for name in files_of(folder)}
         self.tree.write('base', 'src/lib.rt', '// another base\n')

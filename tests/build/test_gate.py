@@ -6,10 +6,14 @@ import shutil
 import signal
 import subprocess
 import sys
+import tempfile
 import unittest
 from pathlib import Path
+from unittest import mock
 
-from building.crates import read_crates, words_over_libraries
+from building.crates import read_crates, words_to_build
+from building.exports import write_exports
+from counting import run_folder
 from counts import Counts
 from reading import Reader
 from stand_in import ROOT, Tree, as_ever, is_there, waited
@@ -21,6 +25,7 @@ mkdir -p crates/base/out/rlib/base.rlib crates/bully/out crates/bully_c/out
 : >crates/base/out/rlib/base.rlib/format
 echo gated >crates/base/out/rlib/base.rlib/code
 echo 'rt: base proved'
+echo 'rt: bully_c proved'
 while [ -e ROOM/hold/gate ]; do sleep 0.01; done
 echo program >crates/bully/out/bully; chmod 755 crates/bully/out/bully
 echo archive >crates/bully_c/out/libbully_c.a
@@ -34,7 +39,8 @@ RUN = '''
 import sys
 sys.path[:0] = ['bin', 'tests']
 import gate, parts
-parts.PARTS[:] = [parts.Part(name, './part ' + name, ' '.join(needs), whole='none' if name == 'left-out' else '') for name, needs in {parts!r}]
+more = {{'left-out': {{'whole': 'none'}}, 'endless': {{'limit': 1}}}}
+parts.PARTS[:] = [parts.Part(name, './part ' + name, ' '.join(needs), **more.get(name, {{}})) for name, needs in {parts!r}]
 counts = gate.prove('whole')
 print(counts.last())
 '''
@@ -42,6 +48,7 @@ PART = r'''#!/bin/sh
 echo "begin $1" >>ROOM/parts
 [ "$1" != held ] || { echo $$ >ROOM/held; while [ -e ROOM/hold/held ]; do sleep 0.01; done; }
 [ "$1" != empty ] || { echo '0 passed, 0 failed'; exit; }
+[ "$1" != endless ] || exec sleep 100
 [ "$1" != bad ] || { echo 'no count'; exit 1; }
 echo '2 passed, 1 failed'
 [ "$1" = wrong ] || { echo '3 passed, 0 failed'; exit 0; }
@@ -78,6 +85,20 @@ class Counting(unittest.TestCase):
         self.assertEqual(self.add('', 0)[1], 1)
 
 
+class Folders(unittest.TestCase):
+    def test_each_module_of_a_folder_is_run_or_those_that_are_named(self) -> None:
+        with tempfile.TemporaryDirectory() as room, mock.patch.object(sys, 'path', [room, *sys.path]):
+            Path(room, 'tried').mkdir()
+            for name, count in (('one', 1), ('two', 2)):
+                tests = ''.join(f'    def test_{number}(self): self.assertEqual({number}, 0)\n' for number in range(count))
+                Path(room, 'tried', f'test_{name}.py').write_text(f'import unittest\nclass It(unittest.TestCase):\n{tests}')
+            for names, wanted in (((), '2 passed, 1 failed'), (('test_two', 'test_six'), '1 passed, 2 failed')):
+                counts = Counts()
+                with contextlib.redirect_stdout(io.StringIO()):
+                    run_folder(Path(room, 'tried'), 'tried', counts, names)
+                self.assertEqual(counts.last(), wanted)
+
+
 class Cases(unittest.TestCase):
     def read(self, text: str) -> 'tuple[list[tuple[str, str, str, str, str, int]], Counts]':
         counts = Counts()
@@ -91,15 +112,20 @@ class Cases(unittest.TestCase):
         self.assertEqual((len(found), counts.failed), (2, 0))
 
     def test_a_case_without_a_command_and_a_strange_line_are_failures(self) -> None:
-        found, counts = self.read('# First.\n> two\n\n$ bully help\nstrange\n>strange\n')
-        self.assertEqual((len(found), counts.failed), (1, 3))
+        found, counts = self.read('# First.\n> two\n\n# Second.\n# bully help\n\n$ bully help\nstrange\n>strange\n')
+        self.assertEqual((len(found), counts.failed), (1, 4))
+
+    def test_a_case_whose_tool_is_missing_is_skipped(self) -> None:
+        found, counts = self.read('# First.\n? sh no-such-tool\n$ bully check\n> one\n\n# Second.\n? sh\n$ bully help\n\n$ bully help\n')
+        self.assertEqual([case[0] for case in found], ['a.txt:6, Second.', 'a.txt'])
+        self.assertEqual(counts.last(), '0 passed, 0 failed, 1 skipped')
 
 
 class Gated(unittest.TestCase):
     def setUp(self) -> None:
         self.tree = Tree()
         self.addCleanup(self.tree.remove)
-        self.tree.list_crates({'base': '', 'bully': 'base', 'bully_c staticlib': 'base'})
+        self.tree.list_crates({'base': '', 'bully': 'base', 'bully_c': 'base'})
         self.tree.write('bully_c', 'src/lib.rt', '// the functions for C\n')
         self.install('kit/bin/rt', GATE)
         self.install('tree/part', PART)
@@ -159,6 +185,17 @@ class Gated(unittest.TestCase):
         (self.tree.room / 'refuse' / 'library').touch()
         self.assertEqual(self.last_of(('over-it', ('library',))), '13 passed, 1 failed')
 
+    def test_the_wrong_bodies_of_a_crate_are_tried_once_it_is_proved(self) -> None:
+        self.tree.write('bully', 'wrong-bodies/main_does_nothing.edit', '# main\n')
+        (self.tree.top / 'tests' / 'edits').mkdir()
+        self.install('tree/tests/edits/try', '#!/bin/sh\necho "begin $*" >>ROOM/parts\necho 4 passed, 0 failed\n')
+        self.tree.hold('gate')
+        run = self.begin(('at-once', ()), ('over-it', ('base',)))
+        waited(lambda: self.parts_begun() == 'begin at-once\n', 'base is proved')
+        self.tree.let_go('gate')
+        self.assertEqual(run.communicate(timeout=60)[0].splitlines()[-1], '17 passed, 1 failed')
+        self.assertIn('begin --gated bully\n', self.parts_begun())
+
     def test_what_is_left_out_by_its_words_is_not_run(self) -> None:
         self.assertEqual(self.last_of(('left-out', ()), ('fine', ())), '13 passed, 0 failed')
 
@@ -215,6 +252,9 @@ class Gated(unittest.TestCase):
     def test_a_part_that_counts_nothing_is_a_failure(self) -> None:
         self.assertEqual(self.last_of(('empty', ())), '10 passed, 1 failed')
 
+    def test_a_part_that_does_not_end_in_its_time_is_ended_and_a_failure(self) -> None:
+        self.assertEqual(self.last_of(('endless', ())), '10 passed, 2 failed')
+
     def test_who_ends_it_ends_what_runs_and_nothing_more_begins(self) -> None:
         for number in (signal.SIGINT, signal.SIGTERM, signal.SIGHUP, signal.SIGQUIT):
             for name in ('gate', 'held'):
@@ -233,9 +273,18 @@ class Gated(unittest.TestCase):
 
     def test_the_library_for_c_waits_for_all_that_it_is_built_over(self) -> None:
         crates = read_crates()
-        words = words_over_libraries(Path('/kit'), crates, crates['bully_c'], 'rlib')
+        exports = write_exports(crates['bully_c'], self.tree.room / 'exports')
+        words = words_to_build(Path('/kit'), crates, exports, 'rlib')
         handed_on = {Path(word).parents[1].name for word in words if word.startswith('dependency=') and word.endswith('/out/rlib')}
-        self.assertEqual({*crates['bully_c'].below}, handed_on)
+        self.assertEqual({*crates['bully_c'].all}, handed_on)
+
+    def test_what_was_committed_while_the_gate_ran_is_not_recorded(self) -> None:
+        self.tree.hold('last')
+        run = self.begin(('at-once', ('bully',)))
+        waited(lambda: 'at-once' in self.parts_begun(), 'the gate is under way')
+        self.git('-c', 'user.name=a', '-c', 'user.email=a@b.example', 'commit', '-q', '--allow-empty', '-m', 'another')
+        self.tree.let_go('last')
+        self.assertEqual((run.communicate(timeout=60)[0].splitlines()[-1], self.record()), ('13 passed, 0 failed', ''))
 
     def test_what_changed_while_the_gate_ran_is_not_taken(self) -> None:
         self.tree.hold('last')

@@ -6,6 +6,7 @@ import unittest
 from pathlib import Path
 
 from building.crates import Stopped, read_crates
+from building.exports import write_exports
 from building.unproved import export, write_main
 from stand_in import Tree, as_ever, is_there, waited
 
@@ -30,6 +31,19 @@ pub extern "C" fn bully_c_two(
     alloc: Global,
     owners: &mut [u16],
 ) -> u32
+'''
+HANDED_ON = '''//! What C sees of bully_c.
+#![tactic(auto)]
+use bully_c::{CGroup};
+use std::alloc::Global;
+#[unsafe(no_mangle)]
+pub extern "C" fn bully_c_one(alloc: Global) -> u32 {
+    bully_c::tables::bully_c_one(alloc)
+}
+#[unsafe(no_mangle)]
+pub extern "C" fn bully_c_two(alloc: Global, owners: &mut [u16], group: &CGroup) -> u32 {
+    bully_c::tables::bully_c_two(alloc, owners, group)
+}
 '''
 MODULE = '''define internal noundef i32 @"bully_c::tables::bully_c_one"(ptr %a0) #0 {
   %r = call i32 @"bully_c::tables::bully_c_one"(ptr %a0)
@@ -104,7 +118,7 @@ class Unproved(unittest.TestCase):
         self.assertEqual((refused.returncode, refused.stderr), (1, 'test: there is no part nobody: bin/test --list has their names\n'))
 
     def test_the_main_of_a_library_reaches_each_function_for_c(self) -> None:
-        self.tree.list_crates({'base': '', 'bully_c staticlib': 'base'})
+        self.tree.list_crates({'base': '', 'bully_c': 'base'})
         self.tree.write('bully_c', 'src/lib.rt', '//! For C.\nmod tables;\n')
         self.tree.write('bully_c', 'src/tables.rt', EXPORTS)
         crate = read_crates(self.tree.top)['bully_c']
@@ -116,9 +130,16 @@ class Unproved(unittest.TestCase):
         with self.assertRaisesRegex(Stopped, 'tables.rt has a function for C of another form'):
             write_main(crate, self.tree.room / 'again')
 
+    def test_a_static_library_hands_each_function_for_c_on(self) -> None:
+        self.tree.list_crates({'base': '', 'bully_c': 'base'})
+        self.tree.write('bully_c', 'src/tables.rt', EXPORTS.replace('owners: &mut [u16]', 'owners: &mut [u16], group: &CGroup'))
+        exports = write_exports(read_crates(self.tree.top)['bully_c'], self.tree.room / 'exports')
+        self.assertEqual((exports.name, exports.kind, exports.named, exports.below), ('bully_c_exports', 'archive', ('base', 'bully_c'), ('base', 'bully_c')))
+        self.assertEqual((exports.folder / 'src' / 'lib.rt').read_text(), HANDED_ON)
+
     def test_a_module_gives_its_functions_for_c_to_others_and_nothing_else(self) -> None:
-        self.tree.list_crates({'bully_c staticlib': ''})
-        self.tree.write('bully_c', 'src/lib.rt', '// For C.\n')
+        self.tree.list_crates({'bully_c': ''})
+        self.tree.write('bully_c', 'src/tables.rt', EXPORTS)
         module = Path(self.tree.room, 'module.ll')
         module.write_text(MODULE)
         export(module, read_crates(self.tree.top)['bully_c'])

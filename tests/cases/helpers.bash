@@ -61,6 +61,14 @@ largest() {
     tail -n 4 one_node.toml | sed 's/"a"/"1024"/'
 }
 
+# Prints a trace of 1,024 nodes and two partitions, of which the first and the last one are up, up to this plan of the last one.
+outermost() {
+    printf 'bully,2,1024,2,%s,clear\n%s\n' "$(yes 1 | head -n 1024 | paste -sd ' ')" $'recover,1\nrecover,1024\nmove,1024'
+    yes $'start,1024\nlose,1024\nreturn,1024' | head -n 3066
+    printf '%s,1024\n' start run return move start run return move
+    echo "plan,1024,$1"
+}
+
 # Plays a group of so many nodes with a period of four turns for each: all recover; after 10 turns for each of them the
 # highest crashes, and after 24 it comes back, where the play is so long. Its length is the second word, in turns for
 # each node. Prints how many nodes are Normal under the highest one that is up.

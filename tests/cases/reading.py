@@ -1,4 +1,5 @@
 """How a case is read, a session with the program. README.md says how one is written."""
+import shutil
 from pathlib import Path
 from typing import Dict, Iterator, List, NamedTuple
 
@@ -32,14 +33,18 @@ class Reader:
 
     def _begin(self) -> None:
         self.name, self.command, self.status = self.file, '', 0
+        self.tools: List[str] = []
         self.texts: Dict[str, str] = dict.fromkeys(STREAMS.values(), '')
 
     def _end(self) -> List[Case]:
         case = Case(self.name, self.command, **self.texts, status=self.status)
-        if not case.command and any(self.texts.values()):
+        if not case.command and case != Case(self.file, ''):
             self.counts.hold(False, f'{self.name}: a case without a command')
+        lacking = [tool for tool in self.tools if not shutil.which(tool)]
+        if lacking:
+            self.counts.skip(case.name, f'there is no {lacking[0]}')
         self._begin()
-        return [case] if case.command else []
+        return [case] if case.command and not lacking else []
 
     def read(self, text: str) -> Iterator[Case]:
         for number, line in enumerate([*text.rstrip('\n').split('\n'), ''], 1):
@@ -56,6 +61,8 @@ class Reader:
             self.texts[STREAMS[sign]] += f'{text}\n'
         elif line.startswith('$ '):
             self.command = text
+        elif line.startswith('? '):
+            self.tools = text.split()
         elif line.startswith('= '):
             self.status = int(text)
         else:

@@ -82,7 +82,6 @@ class Asking(Client):
         super().__init__(address, patience, None, '', '')
         self.cluster = cluster
         self.journal: Journal | None = None
-        self.reads_alone = False  # servers may tell by themselves what is read
         self._turn = first
 
     def _now(self) -> float:
@@ -102,8 +101,6 @@ class Asking(Client):
             self.journal = None
 
     def _exchange(self, path: str, told: Json, reached: float, end: float) -> Json:
-        if self.reads_alone:
-            told = read_alone(told)
         if self.journal is None:
             outcome = self.cluster.do(path, told)
         else:
@@ -113,20 +110,8 @@ class Asking(Client):
         return outcome
 
 
-def read_alone(told: Json) -> Json:
-    """The same request, whose ranges a server may read by itself."""
-    return {**told, **{part: list(map(step_alone, told[part])) for part in ('success', 'failure') if part in told}}
-
-
-def step_alone(step: Json) -> Json:
-    """The same step of a transaction."""
-    return {'request_range': {**step['request_range'], 'serializable': True}} if 'request_range' in step else step
-
-
 class KeptLog(EtcdLog):
     """A log in a simulated etcd."""
-
-    reads_alone = False
 
     @property
     def client(self) -> Asking:
@@ -159,16 +144,14 @@ class KeptLog(EtcdLog):
         return {key[len(prefix) :]: version.value for key, version in found}
 
 
-def opened(cluster: Cluster, kind: type[KeptLog], patience: float, first: int) -> KeptLog:
+def opened(cluster: Cluster, patience: float, first: int) -> KeptLog:
     """The log of the cluster, by a client that asks this server first."""
     with mock.patch.object(etcd, 'Client', lambda address, *_: Asking(cluster, address, patience, first)):
-        log = kind(ADDRESS)
-    log.client.reads_alone = kind.reads_alone
-    return log
+        return KeptLog(ADDRESS)
 
 
 def made(cluster: Cluster, opening: Opening) -> KeptLog:
     """A new log of the cluster, which is asked as it is."""
     with mock.patch.object(etcd, 'Client', lambda address, *_: Asking(cluster, address, 1.0, 0)):
         EtcdLog.create(ADDRESS, opening).close()
-    return opened(cluster, KeptLog, 1.0, 0)
+    return opened(cluster, 1.0, 0)

@@ -25,7 +25,7 @@ from bully.gateway import (
 )  # fmt: skip
 from bully.logs import Log
 from bully.memory import MemoryLog
-from .asking import KeptLog, made, opened
+from .asking import made, opened
 from .calls import Calls, answer_of
 from .cluster import Cluster, weather_of
 from .etcd_servers import PROGRAM, Server, Servers
@@ -205,7 +205,7 @@ def compare_log(servers: Servers, seed: int, done: dict[str, int]) -> str | None
     address, clock = servers.address(f'logs/{seed}'), Clock()
     cluster = Cluster(random.Random(seed), weather_of(random.Random(seed)), lambda: 0.0, lambda seconds, action: None)
     real: list[Log] = [EtcdLog.create(address, OPENING, 10.0), EtcdLog(address, 10.0)]
-    simulated: list[Log] = [made(cluster, OPENING), opened(cluster, KeptLog, 1.0, 1)]
+    simulated: list[Log] = [made(cluster, OPENING), opened(cluster, 1.0, 1)]
     calls = Calls(random.Random(seed), MemoryLog(OPENING, clock))
     try:
         for _ in range(CALLS):

@@ -1,64 +1,27 @@
 """Members of a simulated group, which are driven by their rules, and their workers."""
 from __future__ import annotations
 
-from collections.abc import Callable, Sequence
+from collections.abc import Callable
 from dataclasses import dataclass
-from typing import TYPE_CHECKING, Protocol
+from typing import TYPE_CHECKING
 
-from bully import Owned
-from bully.epochs import Token
-from bully.member import Ask, Begin, End, Ending, Life, Opening, Request, Rest, Seen, Step, StoreAnswer, Wait
-from bully.settings import Settings
-from .store import Found, Judged, Store, table_of
+from bully import logs
+from bully.epochs import Opening, Token
+from bully.looks import core_opening_of
+from bully.member import Ask, Begin, Core, End, Ending, Life, Promise, Request, Rest, StoreAnswer, Wait
+from .judged import Found, table_of
 
 if TYPE_CHECKING:
     from .settling import Simulation
 
 NAMES = tuple('abcdefg')
+STEPS = 100  # more than a member takes at one moment
 
 Action = Callable[[], object]
 
 
 class Wrong(Exception):
     """What must not be."""
-
-
-class Rules(Protocol):
-    """The rules of a member, as whoever drives one needs them."""
-
-    @property
-    def sure_until(self) -> int: ...
-
-    def next(self, now: int) -> Step: ...
-
-    def settlement(self) -> list[str]: ...
-
-    def owned(self) -> Owned | None: ...
-
-    def answered(self, now: int, answer: StoreAnswer) -> None: ...
-
-    def learn(self, rows: Sequence[str]) -> None: ...
-
-    def looked(self, now: int, seen: Seen) -> None: ...
-
-    def passed(self) -> None: ...
-
-    def followed(self, now: int, opening: Opening | None) -> None: ...
-
-    def woke(self) -> None: ...
-
-    def leave(self) -> None: ...
-
-    def lost(self, token: int) -> None: ...
-
-    def stopped(self) -> None: ...
-
-    def close(self) -> None: ...
-
-
-Maker = Callable[[Opening, int, int], Rules]
-StoreMaker = Callable[[Settings, Callable[[int], int], Callable[[], int]], Judged]
-STEPS = 100  # more than a member takes at one moment
 
 
 @dataclass
@@ -147,8 +110,8 @@ class Member:
 
     def __init__(self, simulation: Simulation, name: str, number: int, opening: Opening) -> None:
         self.simulation, self.name, self.number = simulation, name, number
-        self.rules = simulation.make(opening, number, simulation.ttl)
-        self.epoch, self.node, self.place = opening.epoch, opening.node, 0
+        self.opening, self.place = opening, 0
+        self.rules = Core(core_opening_of(opening, self.node), number, simulation.ttl)
         self.life: Life | None = None
         self.found: Found | None = None  # as it looked last
         self.awaited: Wait | None = None
@@ -160,6 +123,14 @@ class Member:
 
     def __repr__(self) -> str:
         return f'process {self.number} of node {self.name}'
+
+    @property
+    def epoch(self) -> int:
+        return self.opening.epoch
+
+    @property
+    def node(self) -> int:
+        return self.opening.names.index(self.name) + 1
 
     def soon(self, span: int, action: Action) -> None:
         """After so long; later, if it is paused then; never, if it is dead."""
@@ -271,32 +242,11 @@ class Member:
 
     def called(self, ask: Ask) -> Callable[[], object]:
         """What the request is at the store, whenever it comes there."""
-        simulation, name, epoch = self.simulation, self.name, self.epoch
-        assert isinstance(simulation.store, Store)
-        store: Store = simulation.store
-        life, place, behind = ask.life, ask.place, self.place
-        if ask.request is Request.TAKE:
-            return lambda: store.take(name, life, epoch, place, simulation.lease())
-        if ask.request is Request.RENEW:
-            return lambda: store.renew(name, life, simulation.lease())
-        if ask.request is Request.RELEASE:
-            return lambda: store.release(name, life)
-        if ask.request is Request.LOOK:
-            return lambda: store.look(epoch, behind)
-        if ask.request is Request.FOLLOW:
-            return lambda: (store.epoch.opening(name),)
-        if ask.request is Request.PROMISE:
-            return lambda: store.promise(name, life, epoch, place)
-        if ask.request is Request.APPEND:
-            rows = tuple(self.rules.settlement())
-            return lambda: simulation.changed('an append', store.append(epoch, place, rows))
-        settings = (self.found and self.found.standing.wish) or store.epochs[epoch - 1].settings
-        return lambda: simulation.changed('the end of an epoch', store.finish(epoch, place, settings))
+        raise NotImplementedError
 
     def ask(self, ask: Ask) -> None:
         """Asks the store. The request may come long after it was given up."""
         simulation, trouble, call = self.simulation, self.simulation.trouble, self.called(ask)
-        epoch = 0 if ask.request in (Request.RENEW, Request.RELEASE, Request.FOLLOW) else self.epoch
         self.turn += 1
         turn, self.is_asking = self.turn, True
 
@@ -307,8 +257,7 @@ class Member:
                 self.go()
 
         def done() -> None:
-            is_gone = 0 < epoch < simulation.store.kept_from
-            told = simulation.gone() if is_gone else call()
+            told = call()
             simulation.happened['a request comes behind its time'] += turn != self.turn
             simulation.tell_all()
             if simulation.now >= self.cut_until and not simulation.happens('an answer is lost', trouble.unanswered):
@@ -325,29 +274,28 @@ class Member:
         now = self.simulation.now
         if told is None:
             self.rules.answered(now, StoreAnswer.UNANSWERED)
-        elif told is GONE:
-            self.rules.passed()
-        elif isinstance(told, Found):
+        elif isinstance(told, logs.Found):
             self.rules.learn(told.rows)
-            self.place, self.found = self.place + len(told.rows), told
+            self.place += len(told.rows)
+            self.found = Found(told._replace(rows=()), Promise(told.epoch, self.place))
             self.see(told)
-        elif isinstance(told, tuple):
-            self.follow(told[0])
+        elif isinstance(told, Opening):
+            self.follow(told)
         else:
             self.rules.answered(now, StoreAnswer.DONE if told else StoreAnswer.REFUSED)
             if told and ask.request is Request.TAKE:
                 self.life = ask.life
         self.worker.until = self.rules.sure_until
 
-    def see(self, found: Found) -> None:
-        """What a look found is told to the rules."""
-        self.rules.looked(self.simulation.now, found.seen)
-        self.simulation.happened['strangers are seen'] += found.seen.has_strangers
+    def see(self, told: logs.Found) -> None:
+        """The rules are told what the package's own driver tells them of what a look found."""
+        raise NotImplementedError
 
-    def follow(self, opening: Opening | None) -> None:
-        self.rules.followed(self.simulation.now, opening)
-        if opening is not None and opening.epoch != self.epoch:
-            self.epoch, self.node, self.place = opening.epoch, opening.node, 0
-
-
-GONE = 'gone'
+    def follow(self, opening: Opening) -> None:
+        """The current epoch began with this."""
+        if self.name not in opening.names:
+            self.rules.followed(self.simulation.now, None)
+            return
+        if opening.epoch != self.epoch:
+            self.opening, self.place = opening, 0
+        self.rules.followed(self.simulation.now, core_opening_of(opening, self.node))

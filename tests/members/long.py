@@ -7,7 +7,6 @@ import random
 from pathlib import Path
 
 from bully.learned import Learned
-from bully.member import Core
 from .over_memory import OverMemory
 from .trouble import Trouble
 
@@ -37,7 +36,7 @@ class Long:
 
     def __init__(self) -> None:
         self.choice = random.Random(1)
-        self.simulation = OverMemory(1, Core, trouble=Little)
+        self.simulation = OverMemory(1, Little)
         self.memory: list[float] = []
         self.open = self.rows = self.processes = 0
 

@@ -15,16 +15,16 @@ from bully.clocks import SECOND
 from bully.epochs import FIRST, Opening
 from bully.etcd import FEW, WATCH_AGAIN, place_of
 from bully.gateway import Json, Silent, behind
-from bully.logs import LogError, NoEpoch, Unanswered
+from bully.logs import LogError, Unanswered
 from bully.member import Ask, Promise, Request as Asked, Until, Wait
 from bully.orders import Orders
 from bully.settings import Settings
 from bully.stored import life_of, orders_of
 from .asking import KeptLog, Pending, Request, made, opened
 from .cluster import SERVERS, Cluster, Outcome, Version, Weather, interval, pair_told, weather_of
-from .driven import GONE, Maker, Member, Wrong
-from .over_memory import FoundInLog, LogMember, LogStore, OverMemory, epoch_of
-from .store import Epoch, Lease
+from .driven import Member, Wrong
+from .judged import Epoch, Lease, LogStore
+from .over_memory import LogMember, OverMemory
 from .trouble import Trouble
 
 SHORTEST = 10_000_000  # nanoseconds until somebody asks again
@@ -63,7 +63,7 @@ class EtcdStore(LogStore):
                 opening = Opening.parse(value.decode())
                 if opening.epoch != len(self.epochs) + FIRST:
                     raise Wrong(f'epoch {opening.epoch} begins behind {len(self.epochs)}')
-                self.epochs.append(epoch_of(opening, []))
+                self.epochs.append(Epoch(opening, []))
                 what = 'the end of an epoch'
             elif key.startswith(keys.logs):
                 here, what = place_of(key[len(keys.logs) :].decode()), 'an append'
@@ -109,8 +109,6 @@ class Call:
         except Pending as pending:
             self.send(pending.request)
             return
-        except NoEpoch:
-            told = GONE
         except Unanswered:
             told = None
         except LogError as error:
@@ -168,7 +166,7 @@ class EtcdMember(LogMember):
 
     def opened(self) -> logs.Log:
         simulation = self.simulation
-        return opened(simulation.cluster, simulation.log_type, simulation.patience / SECOND, self.number % len(SERVERS))
+        return opened(simulation.cluster, simulation.patience / SECOND, self.number % len(SERVERS))
 
     @property
     def kept(self) -> KeptLog:
@@ -202,14 +200,11 @@ class OverEtcd(OverMemory):
 
     member: type[Member] = EtcdMember
 
-    def __init__(
-        self, seed: int, make: Maker, log_type: type[KeptLog] = KeptLog, trouble: type[Trouble] = Trouble
-    ) -> None:
+    def __init__(self, seed: int, trouble: type[Trouble] = Trouble) -> None:
         self.of_etcd = random.Random(f'{seed} etcd')
         self.weather = self.new_weather()
-        self.log_type = log_type
         self.cluster = Cluster(self.of_etcd, self.weather, lambda: self.now / SECOND, self.after_seconds)
-        super().__init__(seed, make, self.new_store, trouble)
+        super().__init__(seed, trouble, self.new_store)
         self.ttl = int(self.weather.ttl * SECOND)
         self.patience = min(self.ttl // 5, int(self.trouble.patience * self.ttl))
         self.cluster.changed, self.cluster.ends = self.see_change, self.see_end
@@ -297,7 +292,7 @@ class Watched(EtcdMember):
     def is_news(self, wait: Wait) -> bool:
         """Whether there is what it waits for, as far as its log knows."""
         log, found = self.kept, self.found
-        assert isinstance(found, FoundInLog)
+        assert found is not None
         here = Promise(self.epoch, self.place)
         known, idle = log._seen_idle
         before = idle if known == here else frozenset()

@@ -14,9 +14,8 @@ from __future__ import annotations
 import random
 from collections import Counter
 
-from .driven import Maker, Member, Wrong
-from .settling import Simulation
-from .store import Store
+from .driven import Member, Wrong
+from .over_memory import OverMemory
 from .trouble import TTL, Trouble
 
 FOR = 60  # ttl
@@ -39,11 +38,11 @@ class Restarts(Trouble):
         )
 
 
-class Restarting(Simulation):
+class Restarting(OverMemory):
     """The group."""
 
-    def __init__(self, seed: int, make: Maker, store: type[Store] = Store) -> None:
-        super().__init__(seed, make, store, Restarts)
+    def __init__(self, seed: int) -> None:
+        super().__init__(seed, Restarts)
         assert isinstance(self.trouble, Restarts)
         self.restarts, self.is_calm = self.trouble, True
         self.name = ''  # of the node
@@ -51,6 +50,7 @@ class Restarting(Simulation):
         self.lives = 0
 
     def stops(self, member: Member) -> None:
+        super().stops(member)
         if self.name and member.name != self.name:
             self.stopped[member.name, 'come' if self.name in self.store.held() else 'gone'] += 1
 

@@ -1,25 +1,16 @@
-"""Compares the proved rules of a member, and its settlements, with plain ones, and tries both.
+"""Tries settlements, how members behave where nothing goes wrong, and all states of a small store.
 
-    tests/members/run rules LIBRARY_FOLDER [--seeds FIRST LAST] [--restarts COUNT] [--settle COUNT] [--any COUNT] [--bugs]
-        [--explore MOST]
-    tests/members/run rules LIBRARY_FOLDER --find LAST
+    tests/members/run rules LIBRARY_FOLDER [--settle COUNT] [--restarts COUNT] [--manners COUNT] [--explore MOST]
 
 LIBRARY_FOLDER is what `bin/library` wrote. If nothing more is said all of this is tried, in sizes for each day:
 
-- `--seeds`: groups over a store in memory, in simulated time, one for each seed. Each member goes by the plain rules
-  and by the proved ones in lockstep, and the first difference is a fault.
+- `--settle`: settlements after so many random lawful logs, and after each prefix of the traces in `examples/`. What they
+  come to is judged apart from the library, and so is what it says of rest and of work; and settlers with a bug show.
 - `--restarts`: so many groups, of which one node comes and goes again and again: how often does that stop the others'
   work?
-- `--settle`: settlements behind so many random lawful logs, and behind each prefix of the traces in `examples/`. The
-  plain one and the proved one have to be the same, row by row, and what they come to is judged apart from both.
-- `--any`: so many members that are told whatever may be, in any order, also in lockstep.
-- `--bugs`: rules, stores and settlements with a bug planted, each by the first seed that shows it; and that lockstep
-  sees each rule that is broken.
+- `--manners`: so many groups in which nothing goes wrong: how long do their members wait, and how often do they ask?
 - `--explore`: all states of a small store, or so many; and each condition of it left out, which has to lead to what
   must not be.
-
-`--find` tells the first seed up to LAST that shows each bug: `planted.py` has them. They are others once the simulation
-changes.
 
 The last line is 'N passed, M failed'; the exit status is 0 where M is 0, and else 1.
 """
@@ -31,160 +22,84 @@ import sys
 from collections import Counter
 from pathlib import Path
 
+from counts import Counts
 from places import ROOT
-from . import proved
 from .exploring import ALL, CONDITIONS, WHOLE, Bounds, Explorer
-from .lockstep import Both, refused_alike, tell_anything
-from .plain import Plain, settle_behind
-from .planted import BUGS, OTHERS, first_seed, shown
+from .manners import Manners
 from .restarting import Restarting
-from .settled import BROKEN, prefix_cases, random_cases, rest_differs, try_case
-from .settling import Simulation
-from .trouble import TROUBLES
+from .settled import BROKEN, prefix_cases, random_cases, rest_is_wrong, try_case
+
+LOGS, SETS, RESTARTS, MANNERS, STATES = 300, 2, 10, 10, 50_000
+FEW = 20  # logs, among which each settler with a bug shows
 
 
-SEEDS, RESTARTS, LOGS, SETS, ANY, STATES = (1, 200), 10, 300, 2, 300, 50_000
-ENOUGH = 100  # seeds, among which each kind of trouble has to be
+def count(counts: Counts, wrong: str | None) -> None:
+    counts.hold(wrong is None, wrong or '')
 
 
-class Tally:
-    """What passed, and what failed."""
+def try_settlements(counts: Counts, logs: int) -> None:
+    """Settlements bring a group to rest."""
+    rows = 0
+    for case in (*random_cases(logs), *prefix_cases(list((ROOT / 'examples').glob('*.csv')), SETS)):
+        rows += len(case.rows)
+        count(counts, try_case(case))
+        count(counts, rest_is_wrong(case))
+    print(f'settlements: after {rows} rows in all')
+    for name, settler in BROKEN.items():
+        wrongs = filter(None, (try_case(case, settler) for case in random_cases(FEW)))
+        first = next(wrongs, None)
+        counts.hold(first is not None, f'a settler that {name} is not seen')
+        print(f'a settler that {name}: {first}'[:200])
 
-    def __init__(self) -> None:
-        self.passed = self.failed = 0
 
-    def count(self, wrong: str | None) -> None:
-        self.passed += wrong is None
-        self.failed += wrong is not None
-        if wrong is not None:
-            print(f'FAILED: {wrong}', flush=True)
+def try_groups(counts: Counts, group: type[Restarting] | type[Manners], last: int) -> None:
+    """Groups of these seeds, and what happened to them."""
+    happened: Counter[str] = Counter()
+    for seed in range(1, last + 1):
+        simulation = group(seed)
+        wrong = simulation.tried()
+        happened.update(simulation.happened)
+        counts.hold(wrong is None, f'{group.__name__}, seed {seed}: {wrong}')
+    print(f'{group.__name__}: {last} groups', *(f'  {what}: {times}' for what, times in sorted(happened.items())), sep='\n')
 
-    def try_seeds(self, first: int, last: int) -> None:
-        """Groups in lockstep."""
-        happened = self.try_groups(range(first, last + 1), Simulation)
-        if last - first >= ENOUGH:
-            for what in TROUBLES:
-                self.count(None if happened[what] else f'it never happened: {what}')
 
-    def try_restarts(self, count: int) -> None:
-        """Groups with a node that comes and goes again and again, in lockstep, too."""
-        self.try_groups(range(1, count + 1), Restarting)
-
-    def try_groups(self, seeds: range, group: type[Simulation]) -> Counter[str]:
-        before = Both.steps, Both.settlements
-        happened: Counter[str] = Counter()
-        for seed in seeds:
-            simulation = group(seed, Both)
-            wrong = simulation.tried()
-            happened.update(simulation.happened)
-            self.count(None if wrong is None else f'{group.__name__}, seed {seed}: {wrong}')
-        steps, settlements = Both.steps - before[0], Both.settlements - before[1]
-        print(f'{group.__name__}: {steps} steps and {settlements} settlements in lockstep')
-        print('\n'.join(f'  {what}: {times}' for what, times in sorted(happened.items())))
-        return happened
-
-    def try_settlements(self, count: int) -> None:
-        """The same rows by the plain settler and by the proved one, and they bring the group to rest."""
-        rows = 0
-        for case in (*random_cases(count), *prefix_cases(list((ROOT / 'examples').glob('*.csv')), SETS)):
-            rows += len(case.rows)
-            self.count(try_case(case, [settle_behind, proved.settle]))
-            self.count(rest_differs(case))
-        print(f'settlements: behind {rows} rows in all')
-
-    def try_any(self, count: int) -> None:
-        """Members that are told whatever may be."""
-        for seed in range(1, count + 1):
-            self.count(tell_anything(seed))
-        for wrong in refused_alike():
-            self.count(wrong)
-
-    def try_bugs(self) -> None:
-        """Each bug by its seed."""
-        for name, bug in BUGS.items():
-            wrong = shown(bug, bug.seed)
-            is_shown = wrong is not None and bug.shows in wrong
-            self.count(None if is_shown else f'{name}: seed {bug.seed} shows {wrong}')
-            print(f'{name}: seed {bug.seed}: {wrong}')
-        for name, settler in BROKEN.items():
-            first = next(
-                (wrong for wrong in (try_case(case, [settler]) for case in random_cases(20)) if wrong is not None), None
-            )
-            self.count(None if first else f'a settler that {name} is not seen')
-            print(f'a settler that {name}: {first}'[:200])
-        self.try_lockstep()
-
-    def explore(self, most: int) -> None:
-        """All states of a small store."""
-        for bounds in WHOLE:
-            wrong, states = Explorer(bounds).explore(ALL)
-            self.count(wrong or (f'more than {ALL} states' if states >= ALL else None))
-            print(f'{bounds}: {states} states, all of them')
-        wrong, states = Explorer(Bounds()).explore(most)
-        self.count(wrong)
-        print(f'states: {states}{" and more" if states >= most else ", all of them"}')
-        for condition in CONDITIONS:
-            wrong, states = Explorer(Bounds(), condition).explore(most)
-            self.count(None if wrong else f'{condition}: nothing wrong in {states} states')
-            print(f'{condition}: {wrong}')
-
-    def find(self, last: int) -> None:
-        """The first seed of each bug."""
-        for name, bug in BUGS.items():
-            seed = first_seed(bug, last)
-            self.count(None if seed else f'{name}: no seed up to {last}')
-            print(f'{name}: {seed}', flush=True)
-
-    def try_lockstep(self) -> None:
-        """Rules that are broken differ from the plain ones, where members are told anything."""
-        broken = {name: bug.rules for name, bug in BUGS.items() if bug.rules is not Plain}
-        for name, rules in {**broken, **OTHERS}.items():
-            seed = next((seed for seed in range(1, ANY + 1) if tell_anything(seed, rules) is not None), None)
-            self.count(None if seed else f'{name}: no difference in {ANY} seeds')
-            print(f'{name}, in lockstep: seed {seed}')
+def explore(counts: Counts, most: int) -> None:
+    """All states of a small store."""
+    for bounds in WHOLE:
+        wrong, states = Explorer(bounds).explore(ALL)
+        count(counts, wrong or (f'more than {ALL} states' if states >= ALL else None))
+        print(f'{bounds}: {states} states, all of them')
+    wrong, states = Explorer(Bounds()).explore(most)
+    count(counts, wrong)
+    print(f'states: {states}{" and more" if states >= most else ", all of them"}')
+    for condition in CONDITIONS:
+        wrong, states = Explorer(Bounds(), condition).explore(most)
+        counts.hold(wrong is not None, f'{condition}: nothing wrong in {states} states')
+        print(f'{condition}: {wrong}')
 
 
 def words() -> argparse.Namespace:
     parser = argparse.ArgumentParser(description=__doc__, formatter_class=argparse.RawDescriptionHelpFormatter)
     parser.add_argument('library', type=Path)
-    parser.add_argument('--seeds', type=int, nargs=2, metavar=('FIRST', 'LAST'))
-    parser.add_argument('--restarts', type=int, metavar='COUNT')
-    parser.add_argument('--settle', type=int, metavar='COUNT')
-    parser.add_argument('--any', type=int, metavar='COUNT')
-    parser.add_argument('--bugs', action='store_true')
+    for part in ('--settle', '--restarts', '--manners'):
+        parser.add_argument(part, type=int, metavar='COUNT')
     parser.add_argument('--explore', type=int, metavar='MOST')
-    parser.add_argument('--find', type=int, metavar='LAST')
     return parser.parse_args()
 
 
 def main() -> int:
-    options, tally = words(), Tally()
+    options, counts = words(), Counts()
     os.environ['BULLY_LIBRARY'] = str(options.library.resolve())
-    is_all = not (
-        options.seeds
-        or options.restarts
-        or options.settle
-        or options.any
-        or options.bugs
-        or options.explore
-        or options.find
-    )
-    if is_all or options.any:
-        tally.try_any(options.any or ANY)
+    is_all = not any((options.settle, options.restarts, options.manners, options.explore))
     if is_all or options.settle:
-        tally.try_settlements(options.settle or LOGS)
-    if is_all or options.bugs:
-        tally.try_bugs()
+        try_settlements(counts, options.settle or LOGS)
     if is_all or options.explore:
-        tally.explore(options.explore or STATES)
-    if options.find:
-        tally.find(options.find)
+        explore(counts, options.explore or STATES)
     if is_all or options.restarts:
-        tally.try_restarts(options.restarts or RESTARTS)
-    if is_all or options.seeds:
-        tally.try_seeds(*(options.seeds or SEEDS))
-    print(f'{tally.passed} passed, {tally.failed} failed')
-    return 1 if tally.failed else 0
+        try_groups(counts, Restarting, options.restarts or RESTARTS)
+    if is_all or options.manners:
+        try_groups(counts, Manners, options.manners or MANNERS)
+    return counts.end()
 
 
 if __name__ == '__main__':

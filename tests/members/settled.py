@@ -5,12 +5,16 @@ import random
 from collections.abc import Callable, Iterator, Sequence
 from dataclasses import dataclass, replace
 from pathlib import Path
+from typing import Optional
 
-from bully import BullyError, Replica, Setup, check, plan_table
+from bully import BullyError, Owned, Replica, Setup, Status, check, plan_table
 from bully.group import setup_of
-from . import proved
-from .plain import SETTLEMENT, Settler, is_at_rest, rests_behind, settle_behind, world_of
-from .store import table_of
+from .judged import table_of
+
+SETTLEMENT = 11  # times as many rows as nodes: a settlement has no more
+
+# Makes the rows that bring a group to rest behind a log: of its header, its rows, who is present, and an old table.
+Settler = Callable[[str, Sequence[str], Sequence[int], Optional[Sequence[int]]], list[str]]
 
 
 @dataclass(frozen=True)
@@ -27,7 +31,35 @@ class Case:
         return f'{self.name}: {self.header} behind {len(self.rows)} rows, with {self.present} and {self.old}'
 
 
-# ---- Judging.
+def settle(
+    header: str, rows: Sequence[str], present: Sequence[int], old: Sequence[int] | None = None
+) -> list[str]:
+    """The settler of the library."""
+    with Replica(header) as replica:
+        replica.learn(rows)
+        return replica.settle(present, old)
+
+
+# ---- Judging, by docs/ALGORITHM.md.
+
+
+def is_at_rest(replica: Replica, present: Sequence[int], promised: int) -> bool:
+    """Whether those present, and no others, are up; all are Normal under the highest of them; and the last plan, which
+    stands behind the place that was promised, is over no others."""
+    states = [replica.state(node) for node in range(1, replica.nodes + 1)]
+    up = {state.node for state in states if state.status is not Status.DOWN}
+    if not up or up != set(present):
+        return up == set(present)
+    are_normal = all(state.status is Status.NORMAL and state.coordinator == max(up) for state in states if state.node in up)
+    return are_normal and promised < (replica.token or 0) and set(replica.last_table or ()) <= up
+
+
+def owned(replica: Replica, node: int, promised: int) -> Owned | None:
+    """By which token the node may work behind the place that was promised, and on which partitions, if on any."""
+    token, table = replica.token or 0, replica.last_table or ()
+    partitions = tuple(partition for partition, owner in enumerate(table) if owner == node)
+    may_work = replica.state(node).status is Status.NORMAL and promised < token
+    return Owned(token, partitions) if may_work and partitions else None
 
 
 def wrong_with(case: Case, settled: Sequence[str]) -> str | None:
@@ -42,7 +74,7 @@ def wrong_with(case: Case, settled: Sequence[str]) -> str | None:
         replica.learn(case.rows)
         events, before = replica.events, replica.last_table or case.old
         replica.learn(settled)
-        if not is_at_rest(world_of(replica), case.present, events):
+        if not is_at_rest(replica, case.present, events):
             return f'the group is not at rest behind {settled}'
     plans = [table_of(row) for row in settled if row.startswith('plan,')]
     if len(plans) != bool(case.present):
@@ -65,29 +97,26 @@ def fewest(setup: Setup, members: Sequence[int], before: Sequence[int] | None) -
     return plan_table(more, members, before and [owner or more.nodes for owner in before]).moves
 
 
-def try_case(case: Case, settlers: Sequence[Settler]) -> str | None:
-    """What is wrong with what the settlers make of the case: all have to make the same rows."""
-    made = [settler(case.header, case.rows, case.present, case.old) for settler in settlers]
-    for settled in made:
-        if settled != made[0]:
-            first = next(place for place, pair in enumerate(zip([*settled, ''], [*made[0], ''])) if pair[0] != pair[1])
-            return f'{case}: they differ at row {first}: {made[0][first:]} and {settled[first:]}'
-    wrong = wrong_with(case, made[0])
+def try_case(case: Case, settler: Settler = settle) -> str | None:
+    """What is wrong with what the settler makes of the case."""
+    wrong = wrong_with(case, settler(case.header, case.rows, case.present, case.old))
     return None if wrong is None else f'{case}: {wrong}'
 
 
-def rest_differs(case: Case) -> str | None:
-    """Where plain and proved rules differ about rest and work, behind the log and behind each part of its
-    settlement."""
+def rest_is_wrong(case: Case) -> str | None:
+    """What the library says wrongly of rest and work, behind the log and behind each part of its settlement."""
     choice = random.Random(len(case.rows))
-    settled = settle_behind(case.header, case.rows, case.present, case.old)
-    for end in (0, len(settled) // 2, len(settled)):
-        rows, events = [*case.rows, *settled[:end]], len(case.rows) + end
-        present = choice.choice([case.present, random_present(choice, setup_of(case.header).nodes)])
-        promised = choice.choice([0, len(case.rows), choice.randint(0, events), events])
-        told = [rests(case.header, rows, present, promised) for rests in (rests_behind, proved.rests_behind)]
-        if told[0] != told[1]:
-            return f'{case}: with {present} behind {events} rows, of which {promised} were promised: {told}'
+    settled = settle(case.header, case.rows, case.present, case.old)
+    with Replica(case.header) as replica:
+        replica.learn(case.rows)
+        for end in (0, len(settled) // 2, len(settled)):
+            replica.learn(settled[replica.rows - len(case.rows) : end])
+            present = choice.choice([case.present, random_present(choice, replica.nodes)])
+            promised = choice.choice([0, len(case.rows), choice.randint(0, replica.rows), replica.rows])
+            nodes = range(1, replica.nodes + 1)
+            told = replica.is_at_rest(present, promised), [replica.owned(node, promised) for node in nodes]
+            if told != (is_at_rest(replica, present, promised), [owned(replica, node, promised) for node in nodes]):
+                return f'{case}: with {present} behind {replica.rows} rows, of which {promised} were promised: {told}'
     return None
 
 
@@ -153,13 +182,13 @@ def prefix_cases(traces: Sequence[Path], sets: int) -> Iterator[Case]:
 
 
 def changed(change: Callable[[list[str], Case], list[str]]) -> Settler:
-    """The plain settler, whose rows are changed."""
+    """The settler of the library, whose rows are changed."""
 
     def settler(
         header: str, rows: Sequence[str], present: Sequence[int], old: Sequence[int] | None = None
     ) -> list[str]:
         case = Case('', header, tuple(rows), tuple(present), None if old is None else tuple(old))
-        return change(settle_behind(header, rows, present, old), case)
+        return change(settle(header, rows, present, old), case)
 
     return settler
 
@@ -210,8 +239,8 @@ def among_others(
     """It takes who is up as present."""
     with Replica(header) as replica:
         replica.learn(rows)
-        up = sorted(world_of(replica).up)
-    return settle_behind(header, rows, up, old)
+        up = [node for node in range(1, replica.nodes + 1) if replica.state(node).status is not Status.DOWN]
+    return settle(header, rows, up, old)
 
 
 BROKEN: dict[str, Settler] = {

@@ -1,5 +1,5 @@
 """A group of members by their rules, over a store and in simulated time: everything that happens follows from a seed.
-The store is the one of `store.py`, if none is told: `over_memory.py` and `over_etcd.py` have those of the package.
+The stores are logs of the package: `over_memory.py` and `over_etcd.py` have them.
 
 Requests are slow, come long after they were given up, or are lost; answers are lost; members are paused, with their
 worker or without it, or the worker alone; they die, leave, join, are cut off, and two processes act for one node at
@@ -26,24 +26,23 @@ from bully import Replica, Setup, check
 from bully.epochs import Token
 from bully.member import Ask, Life
 from bully.settings import Settings
-from .driven import GONE, NAMES, Action, Maker, Member, StoreMaker, Unit, Worker, Wrong
-from .plain import is_at_rest, world_of
-from .settled import fewest, moves
-from .store import Epoch, Judged, Store, table_of
+from .driven import NAMES, Action, Member, Unit, Worker, Wrong
+from .judged import Epoch, LogStore, StoreMaker, table_of
+from .settled import fewest, is_at_rest, moves
 from .trouble import REST_WITHIN, TROUBLE_FOR, TTL, Trouble
 
 
 class Simulation:
-    """One group. The rules of its members and its store are told, so that broken ones can be tried."""
+    """One group, over the store that is told."""
 
     member: type[Member] = Member
 
-    def __init__(self, seed: int, make: Maker, store: StoreMaker = Store, trouble: type[Trouble] = Trouble) -> None:
+    def __init__(self, seed: int, store: StoreMaker, trouble: type[Trouble] = Trouble) -> None:
         self.choice = random.Random(seed)
         self.trouble = trouble(self.choice)
-        self.make, self.now, self.count, self.is_calm, self.ttl = make, 0, 0, False, TTL
+        self.now, self.count, self.is_calm, self.ttl = 0, 0, False, TTL
         self.events: list[tuple[int, int, Action]] = []
-        self.store: Judged = store(
+        self.store: LogStore = store(
             self.settings(), lambda nodes: min(self.trouble.room * nodes, 1_000_000), lambda: self.now
         )
         self.wanted: Settings | None = None  # what was wished for last, unless that was taken back
@@ -96,10 +95,6 @@ class Simulation:
 
     # The store.
 
-    def gone(self) -> str:
-        self.happened['an epoch was taken away under a member'] += 1
-        return GONE
-
     def changed(self, what: str, done: bool) -> bool:
         """Rows were appended, or an epoch has ended, if that is done."""
         self.happened[what] += done
@@ -109,8 +104,8 @@ class Simulation:
             work = member.worker.work
             if work is not None and self.store.holds(member.name, work[3]):
                 raise Wrong(f'{member} is present and works at {what}')
-        if len(self.store.epoch.rows) > self.store.epoch.rows_max:
-            raise Wrong(f'the log has {len(self.store.epoch.rows)} rows of {self.store.epoch.rows_max}')
+        if len(self.store.epoch.rows) > self.store.epoch.opening.limit:
+            raise Wrong(f'the log has {len(self.store.epoch.rows)} rows of {self.store.epoch.opening.limit}')
         return True
 
     def tell(self, member: Member) -> None:
@@ -118,7 +113,7 @@ class Simulation:
         wait, found = member.awaited, member.found
         if wait is None or found is None:
             return
-        if member.epoch < self.store.kept_from or self.store.has_news(member.epoch, found, wait.until):
+        if self.store.has_news(member.epoch, found, wait.until):
             member.awaited = None
             member.later(self.some(self.trouble.trip), member.wake)
 
@@ -160,8 +155,8 @@ class Simulation:
 
     def begin(self, name: str) -> Member | None:
         """A process for the node of that name, if the group has it."""
-        opening = self.store.epoch.opening(name)
-        if opening is None:
+        opening = self.store.epoch.opening
+        if name not in opening.names:
             return None
         self.happened['a process begins'] += 1
         member = self.member(self, name, len(self.members) + 1, opening)
@@ -309,21 +304,20 @@ class Simulation:
             or not set(held) <= set(epoch.settings.names)
         ):
             return f'another wish, or strangers: {held}'
-        with Replica(epoch.header) as replica:
-            replica.learn(epoch.rows)
-            world = world_of(replica)
         present = [epoch.settings.number(name) for name in held]
         idle = max((lease.promise.place for lease in held.values() if lease.promise.epoch == epoch.number), default=0)
-        if not present or not is_at_rest(world, present, idle):
-            return f'not at rest: {held}'
-        token = Token.of(epoch.number, world.token)
+        with Replica(epoch.opening.header) as replica:
+            replica.learn(epoch.rows)
+            if not present or not is_at_rest(replica, present, idle):
+                return f'not at rest: {held}'
+            token = Token.of(epoch.number, replica.token or 0)
         works = [member.worker.work for member in self.alive() if member.worker.work is not None]
         worked = sorted(partition for _, by, partitions, _ in works if by == token for partition in partitions)
         return None if worked == list(range(epoch.settings.setup.partitions)) else f'worked on are {worked}'
 
     def is_as_wanted(self, epoch: Epoch) -> bool:
         wanted = self.wanted
-        return wanted is None or (wanted.setup.header(), wanted.names) == (epoch.header, epoch.settings.names)
+        return wanted is None or epoch.opening.is_of(wanted)
 
     def judge(self) -> None:
         """The log of each epoch is lawful, and each of its plans moves no more than it has to, from the table of the
@@ -334,19 +328,19 @@ class Simulation:
     def judge_epoch(self, epoch: Epoch) -> None:
         self.happened['epochs'] += 1
         self.happened['rows'] += len(epoch.rows)
-        verdict = check('\n'.join([epoch.header, *epoch.rows, '']))
+        verdict = check('\n'.join([epoch.opening.header, *epoch.rows, '']))
         if not verdict.is_lawful:
             raise Wrong(f'the log of epoch {epoch.number} is {verdict}')
-        with Replica(epoch.header) as replica:
+        with Replica(epoch.opening.header) as replica:
             self.judge_plans(epoch, replica)
 
     def judge_plans(self, epoch: Epoch, replica: Replica) -> None:
-        before = epoch.old
+        old = before = epoch.opening.table or None
         for place in [place for place, row in enumerate(epoch.rows) if row.startswith('plan,')]:
             replica.learn(epoch.rows[replica.rows : place])
             planner, table = int(epoch.rows[place].split(',')[1]), table_of(epoch.rows[place])
             members = [*replica.up(planner), planner]
             if moves(table, before) != fewest(epoch.settings.setup, members, before):
                 raise Wrong(f'in epoch {epoch.number} {before} goes over to {table} among {members}')
-            self.happened['a plan keeps to the epoch before'] += bool(epoch.old and before == epoch.old)
+            self.happened['a plan keeps to the epoch before'] += bool(old and before == old)
             before = table

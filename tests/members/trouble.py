@@ -12,7 +12,7 @@ TROUBLES = (
     'a pause', 'a pause before a step', 'a pause with a renewal', 'a death', 'a cut', 'a join', 'a loop',
     'a member is told to leave', 'a worker ends by itself', 'a request is lost', 'an answer is lost',
     'a request or an answer is slow', 'a request comes behind its time', 'a wish', 'a wish is taken back',
-    'old epochs are taken away', 'an epoch was taken away under a member', 'the end of an epoch', 'an append',
+    'old epochs are taken away', 'the end of an epoch', 'an append',
     'strangers are seen', 'an old token is refused', 'a unit beside one that was paused beyond its presence',
     'a plan keeps to the epoch before', 'a member ends: left', 'a member ends: not there',
 )  # fmt: skip
@@ -71,3 +71,28 @@ class Ordered(Trouble):
     def __init__(self, choice: random.Random) -> None:
         super().__init__(choice)
         self.drains, self.halts = choice.choice([0.0, 0.5, 1.0]), choice.choice([0.3, 0.3, 1.0])
+
+
+class SlowTakes(Trouble):
+    """All is well but that processes of one node come and go, and half the takes are slow."""
+
+    def __init__(self, choice: random.Random) -> None:
+        super().__init__(choice)
+        self.lost = (
+            self.unanswered
+        ) = self.slow = self.cuts = self.pauses = self.ends = self.wishes = self.renewal_pauses = 0.0
+        self.deaths, self.leaves, self.joins, self.short = 0.7, 0.0, 0.7, 0.0
+        self.nodes, self.slowest, self.trip, self.patience, self.room = 1, Request.TAKE, 0.002, 3.0, 10_000
+
+
+class SlowPromises(SlowTakes):
+    """All is well but that processes of a few nodes come and go, and half the promises are slow."""
+
+    def __init__(self, choice: random.Random) -> None:
+        super().__init__(choice)
+        self.nodes, self.slowest, self.deaths, self.leaves, self.joins, self.short = (
+            3, Request.PROMISE, 0.3, 0.3, 2.0, 0.3,
+        )  # fmt: skip
+
+
+BY_NAME: dict[str, type[Trouble]] = {each.__name__: each for each in (Trouble, Epochs, Ordered, SlowTakes, SlowPromises)}

@@ -1,16 +1,27 @@
-"""Bugs that are planted in the package `bully`, each by itself, and the test that has to find it.
+"""Plants bugs, one at a time: in the package `bully`, in the proved rules of a member, or in both. Each has to be found.
 
-    tests/members/run wrong FOLDER [WORDS]   plants each, or each that has these words, and runs its test
-    tests/members/run wrong --fit            sees that each fits its file, and has its test, as the gate does
-    tests/members/run wrong --list           tells them
+    tests/members/run wrong FOLDER [WORDS ..] [--edited FOLDER] [--jobs COUNT]
+                                                plants each bug, or each in whose entry one of these words stands, and runs what has to find it
+    tests/members/run wrong --fit               sees that each bug fits its file, and has its test, as the gate does
+    tests/members/run wrong --list [WORDS ..]   lists them
 
-FOLDER is what `bin/library` wrote. `wrong-bodies.txt` has the bugs: a sentence, the test, the file, and a text that
-stands there once, with what stands in its place. Without a bug its test has to pass, and with it to fail, as the tests
-of the package are run: one that doesn't end in a minute fails. The last line is 'N passed, M failed'; the exit status
-is 0 if M is 0.
+The first FOLDER is what `bin/library` wrote. A bug in the rules is an edit of a crate, which takes a library that has this edit and isn't proved.
+It is built in the other FOLDER, in some two minutes, unless it stands there, made of what the sources are now. Without that FOLDER it is left out.
+
+`wrong-bodies.txt` has the bugs. An entry has these lines:
+
+- `#` and a sentence that says what is wrong;
+- what has to find it, once or more often: `test` and a test of the package; or `run` and the words of a program of `tests/members/run`, then a bar
+  and a part of what that program says if it finds the bug;
+- `edit` and an edit of a crate; or `file` and a file of the package, with lines after `-` that stand there once, and after `+` what replaces them; or
+  both.
+
+Without the bug a test or a program has to pass, and with it to fail. A test that doesn't end in a minute fails. The last line is 'N passed, M
+failed'; the exit status is 0 if M is 0.
 """
 from __future__ import annotations
 
+import argparse
 import os
 import re
 import shutil
@@ -19,12 +30,15 @@ import sys
 import tempfile
 import time
 import unittest
+from collections.abc import Iterator
+from concurrent.futures import ThreadPoolExecutor
+from dataclasses import dataclass, field
 from pathlib import Path
-from typing import NamedTuple
 
 from bully.guard import adopt, end_children
 from counts import Counts
 from places import PYTHON, ROOT
+from .edited import build
 
 BUGS = Path(__file__).with_name('wrong-bodies.txt')
 LONGEST = 400.0  # seconds that a test takes at most, with what it cleans up
@@ -35,115 +49,212 @@ tests = unittest.defaultTestLoader.loadTestsFromName(sys.argv[1])
 result = unittest.TextTestRunner(resultclass=CountingResult).run(tests)
 print('passed' if result.passed and not result.failed else 'failed' if result.failed else 'skipped')
 """
-SIGNS = {'# ': 'told', 'test ': 'test', 'file ': 'file', '- ': 'old', '+ ': 'new'}
 
 
-class Bug(NamedTuple):
-    told: str
-    test: str
+@dataclass
+class Change:
+    """Lines of a file of the package, and what stands in their place."""
+
     file: str
-    old: str
-    new: str
+    old: list[str] = field(default_factory=list)
+    new: list[str] = field(default_factory=list)
 
-    @property
-    def fits(self) -> bool:
-        return (PYTHON / 'bully' / self.file).read_text().count(self.old) == 1
-
-    @property
-    def has_test(self) -> bool:
-        loader = unittest.TestLoader()
-        return loader.loadTestsFromName(self.test).countTestCases() == 1 and not loader.errors
-
-    def plant(self, package: Path) -> None:
-        file = package / self.file
-        file.write_text(file.read_text().replace(self.old, self.new))
+    def made(self, package: Path) -> str | None:
+        """The text of the file with the change; none if the lines don't stand there once."""
+        text, old = (package / self.file).read_text(), '\n'.join(self.old)
+        return text.replace(old, '\n'.join(self.new)) if text.count(old) == 1 else None
 
 
-def bugs(words: str) -> list[Bug]:
-    """Those whose sentence has these words."""
-    read = (bug_of(part) for part in BUGS.read_text().strip().split('\n\n'))
-    return [bug for bug in read if words in bug.told]
+@dataclass
+class Bug:
+    """An entry."""
+
+    text: str
+    sentence: str = ''
+    finders: list[tuple[str, str]] = field(default_factory=list)  # the word, and what follows it
+    edit: str = ''
+    changes: list[Change] = field(default_factory=list)
+
+    def read(self, line: str) -> None:
+        """One line of it."""
+        word, _, more = line.partition(' ')
+        if word == '#':
+            self.sentence = more
+        elif word in ('test', 'run'):
+            self.finders.append((word, more))
+        elif word == 'edit':
+            self.edit = more
+        elif word == 'file':
+            self.changes.append(Change(more))
+        elif word == '-' and self.changes[-1].new:
+            self.changes.append(Change(self.changes[-1].file, [more]))
+        else:
+            {'-': self.changes[-1].old, '+': self.changes[-1].new}[word].append(more)
+
+    def plant(self, package: Path) -> bool:
+        """Whether all of its changes fit; then they are made."""
+        for change in self.changes:
+            made = change.made(package)
+            if made is None:
+                return False
+            (package / change.file).write_text(made)
+        return True
+
+    def misfit(self) -> str:
+        """Why it can't be tried, if it can't."""
+        with tempfile.TemporaryDirectory() as folder:
+            for name in {change.file for change in self.changes}:
+                shutil.copy(PYTHON / 'bully' / name, folder)
+            if not self.plant(Path(folder)):
+                return 'its lines do not stand once in their file'
+        if self.edit and not (ROOT / self.edit).is_file():
+            return f'there is no {self.edit}'
+        missing = [test for word, test in self.finders if word == 'test' and not is_test(test)]
+        return f'there is no {missing[0]}' if missing else '' if self.finders else 'nothing has to find it'
 
 
-def bug_of(part: str) -> Bug:
-    fields: dict[str, str] = {}
-    for line in part.split('\n'):
-        sign = next(sign for sign in SIGNS if line.startswith(sign))
-        fields[SIGNS[sign]] = line[len(sign) :]
-    return Bug(**fields)
+def is_test(name: str) -> bool:
+    loader = unittest.TestLoader()
+    return loader.loadTestsFromName(name).countTestCases() == 1 and not loader.errors
+
+
+def bugs(words: list[str]) -> list[Bug]:
+    """Those in whose entry some of these words stand; all, if there are none."""
+    texts = BUGS.read_text().strip().split('\n\n')
+    found = [Bug(text) for text in texts if not words or any(each in text for each in words)]
+    for bug in found:
+        for line in bug.text.split('\n'):
+            bug.read(line)
+    return found
 
 
 class Room:
-    """A copy of the package and its tests, in which a bug is planted."""
+    """A copy of the package and its tests, in which a bug is planted, or none."""
 
-    def __init__(self, folder: Path, library: Path) -> None:
-        self.python, tests = folder / 'bindings' / 'python', folder / 'tests'
-        told = {'BULLY_LIBRARY': str(library.resolve()), 'PYTHONPATH': f'{tests}:{self.python}', 'PYTHONDONTWRITEBYTECODE': '1'}
+    def __init__(self, folder: Path, library: Path, bug: Bug | None = None) -> None:
+        self.python, self.library, tests = folder / 'bindings' / 'python', library, folder / 'tests'
+        told = {'BULLY_LIBRARY': str(library), 'PYTHONPATH': f'{tests}:{self.python}', 'PYTHONDONTWRITEBYTECODE': '1'}
         self.environment = {**os.environ, **told}
         for each in ('examples', 'docs', 'include', 'crates'):
             (folder / each).symlink_to(ROOT / each)
         for source, copy in ((PYTHON, self.python), (ROOT / 'tests', tests)):
             shutil.copytree(source, copy, symlinks=True, ignore=shutil.ignore_patterns('__pycache__'))
+        if bug is not None:
+            bug.plant(self.python / 'bully')
 
-    def renew(self) -> None:
-        shutil.copytree(
-            PYTHON / 'bully', self.python / 'bully', dirs_exist_ok=True, ignore=shutil.ignore_patterns('__pycache__')
-        )
-
-    def outcome(self, test: str) -> str:
-        """What became of a test: `passed`, `failed`, or something else."""
-        words = [sys.executable, '-c', RUN, test]
+    def said(self, words: list[str]) -> tuple[int, str]:
+        """What a command says, and its exit status; -1 if it doesn't end."""
         with tempfile.TemporaryFile('w+') as said:
+            pipes = {'stdout': said, 'stderr': subprocess.STDOUT}
+            begun = subprocess.Popen([sys.executable, *words], cwd=self.python, env=self.environment, **pipes)  # type: ignore[call-overload]
             try:
-                subprocess.run(
-                    words, cwd=self.python, env=self.environment, stdout=said, stderr=subprocess.STDOUT, timeout=LONGEST
-                )
+                status = begun.wait(LONGEST)
             except subprocess.TimeoutExpired:
-                return f'not ended in {LONGEST:.0f} s'
-            finally:
-                end_children(frozenset(), LONGEST, print)  # what a bug left
+                begun.kill()
+                begun.wait()
+                status = -1
             said.seek(0)
-            told = said.read()
-        return (
-            'not run' if re.search('_FailedTest|SyntaxError|ImportError', told) else told.rstrip().rsplit('\n', 1)[-1]
-        )
+            return status, said.read()
+
+    def outcome(self, finder: tuple[str, str]) -> str:
+        """What became of what has to find a bug: `passed`, `failed`, or something else."""
+        word, more = finder
+        words, _, says = more.partition(' | ')
+        if word == 'test':
+            status, told = self.said(['-c', RUN, words])
+        else:
+            program, *others = words.split()
+            status, told = self.said(['-m', f'members.{program}', str(self.library), *others])
+        if status == -1:
+            return f'not ended in {LONGEST:.0f} s'
+        if re.search('_FailedTest|SyntaxError|ImportError', told):
+            return 'not run'
+        if word == 'test':
+            return told.rstrip().rsplit('\n', 1)[-1]
+        return 'passed' if status == 0 else 'failed' if says in told else f'another failure: {told[-300:]}'
+
+
+class Trial:
+    """Bugs that are planted, over a library, and over libraries of rules with an edit."""
+
+    def __init__(self, library: Path, edited: Path | None, counts: Counts, room: str, jobs: int) -> None:
+        self.edited, self.counts, self.folder, self.jobs = edited, counts, Path(room), jobs
+        self.libraries = {'': library}  # by the edits that they are built with
+        self.right = self.room('right', library)
+        self.before: dict[tuple[str, str], str] = {}  # what becomes of each finder without a bug
+
+    def room(self, name: str, library: Path, bug: Bug | None = None) -> Room:
+        (self.folder / name).mkdir()
+        return Room(self.folder / name, library, bug)
+
+    def build(self, planted: list[Bug]) -> None:
+        """Builds the libraries with their edits."""
+        edits = sorted({bug.edit for bug in planted if bug.edit})
+        folders = {edit: self.edited / Path(edit).stem for edit in edits if self.edited}
+        with ThreadPoolExecutor(self.jobs) as pool:
+            are_built = list(pool.map(lambda edit: build(ROOT / edit, folders[edit]), folders))
+        self.libraries.update(each for each, is_built in zip(folders.items(), are_built) if is_built)
+
+    def try_bug(self, number: int, bug: Bug) -> Iterator[tuple[str, str]]:
+        """Of each of its finders whether it `found` it, and passes without it, `missed` it, or was `skipped`; and more."""
+        if bug.edit not in self.libraries:
+            yield 'missed', f'{bug.sentence}: no library was built with {bug.edit}'
+            return
+        room = self.room(str(number), self.libraries[bug.edit], bug)
+        for finder in bug.finders:
+            before = self.before.get(finder) or self.right.outcome(finder)
+            self.before[finder], begun = before, time.monotonic()
+            after = room.outcome(finder)
+            told = f'{" ".join(finder)}: {bug.sentence}'
+            print(f'{after} in {time.monotonic() - begun:.1f} s: {told}', flush=True)
+            both = f'{before} without it, and {after} with it: {told}'
+            yield {('passed', 'failed'): 'found', ('skipped', 'skipped'): 'skipped'}.get((before, after), 'missed'), both
+            if self.jobs == 1:
+                end_children(frozenset(), LONGEST, print)  # what a bug left
+        shutil.rmtree(self.folder / str(number))
+
+    def run(self, planted: list[Bug]) -> None:
+        self.build(planted)
+        adopt()
+        with ThreadPoolExecutor(self.jobs) as pool:
+            for found in pool.map(lambda each: list(self.try_bug(*each)), enumerate(planted)):
+                for what, told in found:
+                    self.counts.skip(told, 'what it takes is not there') if what == 'skipped' else self.counts.hold(what == 'found', told)
+        end_children(frozenset(), LONGEST, print)
+
+
+def options_of(words: list[str]) -> argparse.Namespace:
+    parser = argparse.ArgumentParser(description=__doc__, formatter_class=argparse.RawDescriptionHelpFormatter)
+    parser.add_argument('words', nargs='*')
+    parser.add_argument('--edited', type=Path)
+    parser.add_argument('--jobs', type=int, default=1)
+    for each in ('--fit', '--list'):
+        parser.add_argument(each, action='store_true')
+    options = parser.parse_intermixed_args(words)
+    options.library = None if options.fit or options.list else Path(options.words.pop(0)) if options.words else parser.error('there is no FOLDER')
+    return options
 
 
 def main(words: list[str]) -> int:
-    if not words:
-        print(__doc__, file=sys.stderr)
-        return 2
-    counts, is_tried = Counts(), not words[0].startswith('-')
-    planted = bugs(words[1] if words[1:] else '')
+    options, counts = options_of(words), Counts()
+    planted = bugs(options.words)
+    if options.list:
+        print(*(f'{bug.sentence}: {"; ".join(map(" ".join, bug.finders))}' for bug in planted), sep='\n')
     if not planted:
         counts.hold(False, 'there is no such bug')
+    misfits = {bug.text: bug.misfit() for bug in planted}
+    fitting = [bug for bug in planted if not misfits[bug.text]]
     for bug in planted:
-        why = 'its text does not stand once in ' + bug.file if not bug.fits else '' if bug.has_test else f'there is no {bug.test}'
-        if words[0] == '--list':
-            print(f'{bug.told}: {bug.test}')
-        if why or not is_tried:
-            counts.hold(not why, f'{bug.told}: {why}')
-    if is_tried:
-        try_all([bug for bug in planted if bug.fits and bug.has_test], Path(words[0]), counts)
+        if misfits[bug.text] or options.library is None:
+            counts.hold(not misfits[bug.text], f'{bug.sentence}: {misfits[bug.text]}')
+    if options.library is not None:
+        for bug in (each for each in fitting if each.edit and not options.edited):
+            counts.skip(bug.sentence, 'it takes a library with an edit: --edited')
+        fitting = [bug for bug in fitting if options.edited or not bug.edit]
+        edited = options.edited.resolve() if options.edited else None
+        with tempfile.TemporaryDirectory() as room:
+            Trial(options.library.resolve(), edited, counts, room, options.jobs).run(fitting)
     return counts.end()
-
-
-def try_all(planted: list[Bug], library: Path, counts: Counts) -> None:
-    """Whether each bug is found, by a test that passes without it."""
-    passing: set[str] = set()
-    adopt()
-    with tempfile.TemporaryDirectory() as folder:
-        room = Room(Path(folder), library)
-        for bug in planted:
-            room.renew()
-            before = 'passed' if bug.test in passing else room.outcome(bug.test)
-            bug.plant(room.python / 'bully')
-            begun = time.monotonic()
-            behind = room.outcome(bug.test)
-            passing.update([bug.test] if before == 'passed' else [])
-            told = f'{bug.told}: {bug.test}'
-            counts.hold((before, behind) == ('passed', 'failed'), f'{before} without it, and {behind} with it: {told}')
-            print(f'{behind} in {time.monotonic() - begun:.1f} s: {told}', flush=True)
 
 
 if __name__ == '__main__':

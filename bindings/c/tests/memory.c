@@ -388,6 +388,7 @@ static void take_presence(void) {
 }
 
 static void refuse_of_member(void) {
+    static const char rows[] = ANNOUNCED MOVE;
     bully_step step;
     refuse_each("bully_member_open", BULLY_OK, open_member, 1);
     member = opened_member;
@@ -395,7 +396,7 @@ static void refuse_of_member(void) {
     take_presence();
     refuse_each("bully_member_settlement", BULLY_OK, settlement, 1);
     refuse_each("bully_member_learn, first", BULLY_OK, learn_first, 0);
-    ANSWERS(OK, bully_member_learn(&member, ANNOUNCED MOVE + 10, strlen(ANNOUNCED MOVE) - 10, &length));
+    ANSWERS(OK, bully_member_learn(&member, &rows[10], strlen(rows) - 10, &length));
     refuse_each("bully_member_learn, plan", BULLY_OK, learn_table, 1);
     ANSWERS(OK, bully_member_learn(&member, "start,2\nrun,2\n", 14, &length));
     refuse_each("bully_member_owned", BULLY_OK, own, 1);

@@ -6,10 +6,12 @@ import copy
 import pickle
 import unittest
 from collections.abc import Callable
+from contextlib import closing
+from pathlib import Path
 
 import bully
-from bully import Agent, Answer, Call, CallKind, Setup, State, Status, Want, plan_table
-from places import ROOT
+from bully import Agent, Answer, Call, CallKind, Setup, State, Status, Want, check, plan_table
+from .replay import replay
 from .traces import EXAMPLES, LARGEST, TWO, end_of
 
 
@@ -31,95 +33,26 @@ def led(agent: Agent) -> None:
             agent.plan(agent.prepare(agent.task))
 
 
-class Follower:
-    """Agents that do what the rows of a trace say."""
-
-    def __init__(self, header: str) -> None:
-        fields = header.split(',')
-        weights, keeps = (fields[4], fields[5]) if len(fields) > 4 else ('', 'clear')
-        told = tuple(map(int, weights.split()))
-        self.setup = Setup(int(fields[2]), int(fields[3]), weights=told, keeps=keeps == 'keep')
-        self.agents = [Agent(self.setup, node + 1) for node in range(self.setup.nodes)]
-        self.replies: dict[int, str | None] = {}
-        self.rows: list[str] = []
-
-    def follow(self, row: str) -> None:
-        word, number, *rest = row.split(',')
-        node = int(number)
-        agent = self.agents[node - 1]
-        if word in ('start', 'recover', 'crash', 'check', 'timeout'):
-            getattr(agent, word)()
-        elif word == 'move':
-            agent.advance()
-        elif word == 'plan':
-            agent.plan([int(owner) for owner in rest[0].split()])
-        elif word == 'drop':
-            agent.drop_orphan()
-        elif word == 'run':
-            agent = self.run(agent)
-        elif word == 'lose':
-            self.replies[node] = None
-            return
-        else:
-            self.end_call(agent)
-        self.rows += agent.rows()
-
-    def run(self, caller: Agent) -> Agent:
-        request, call = caller.request(), caller.call
-        assert request is not None and call is not None
-        callee = self.agents[call.callee - 1]
-        self.replies[caller.node] = callee.serve(request)
-        return callee
-
-    def end_call(self, agent: Agent) -> None:
-        reply = self.replies.pop(agent.node)
-        if reply is None:
-            agent.failed(agent.number)
-        else:
-            agent.replied(reply)
-
-    def shows(self, row: str) -> bool:
-        """Whether the claim, short or whole, is true."""
-        claim = self.agents[int(row.split(',')[1]) - 1].claim()
-        return claim == row or claim.startswith(row + ',')
-
-    def ends(self) -> list[str]:
-        """The lines of a verdict's nodes."""
-        return [end_of(agent.state, agent.task) for agent in self.agents]
-
-
 class Following(unittest.TestCase):
     """Agents that do what the traces of `examples/` say are what their verdicts say."""
 
     def test_examples(self) -> None:
         for path in EXAMPLES:
             with self.subTest(path=path.name):
-                self.follow(path.read_text().splitlines(), path.with_suffix('.out').read_text().splitlines())
+                self.follow(path)
 
-    def follow(self, rows: list[str], verdict: list[str]) -> None:
+    def follow(self, path: Path) -> None:
+        rows, verdict = (each.read_text().splitlines() for each in (path, path.with_suffix('.out')))
         kind, number, *cause = verdict[0].split()
-        follower = Follower(rows[0])
         last = int(number) if kind == 'refused' else len(rows) + 1
-        for row in rows[1 : last - 1]:
-            if row.startswith('saw'):
-                self.assertTrue(follower.shows(row), row)
-            else:
-                follower.follow(row)
-        if kind == 'refused':
-            with self.assertRaises(getattr(bully, cause[0])):
-                follower.follow(rows[last - 1])
-        else:
-            self.assertEqual(follower.ends(), verdict[1:])
-            self.assertEqual(sum(not row.startswith('saw') for row in rows[1:]), sum(a.events for a in follower.agents))
-
-    def test_rows(self) -> None:
-        """In `told.csv` all is said, so that its rows are those of the agents."""
-        rows = (ROOT / 'examples' / 'told.csv').read_text().splitlines()
-        follower = Follower(rows[0])
-        events = [row for row in rows[1:] if not row.startswith('saw')]
-        for row in events:
-            follower.follow(row)
-        self.assertEqual(follower.rows, events)
+        # (there a table is planned that isn't the one with the fewest moves)
+        with closing(replay('\n'.join(rows[: last - 1]), prepares=path.name != 'dropped.csv')) as replayed:
+            if kind == 'refused':
+                with self.assertRaises(getattr(bully, cause[0])):
+                    replayed.take(rows[last - 1])
+                return
+            ends = [end_of(node.agent.state, node.agent.task) for node in replayed.nodes]
+            self.assertEqual([str(check('\n'.join(replayed.log))), *ends], verdict)
 
 
 class Agents(unittest.TestCase):

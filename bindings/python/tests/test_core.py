@@ -1,5 +1,5 @@
 """Tests of settlements and of a member's rules. What is wanted comes from `docs/ALGORITHM.md` and `include/bully.h`,
-and never from what the library answered. `try` runs them."""
+and never from what the library answered."""
 from __future__ import annotations
 
 import copy
@@ -13,10 +13,15 @@ from enum import Enum
 
 import bully
 from bully import NotLearned, Owned, Replica, Status, check
+from bully.asks import Asker
+from bully.epochs import Opening as EpochOpening
+from bully.logs import Found
+from bully.looks import core_opening_of, seen_of
 from bully.member import (
     TTL_MAX, TTL_MIN, Ask, Begin, Core, End, Ending, Life, Opening, Presence, Present, Promise, Request, Rest, Seen,
     Step, Stop, StoreAnswer, Unknown, Until, Wait, Way, Work,
 )  # fmt: skip
+from bully.memory import MemoryLog
 from places import ROOT
 
 TWO = 'bully,1,2,2'
@@ -395,47 +400,27 @@ class Stories(unittest.TestCase):
                 closed()
 
 
-class Store:
-    """A store in memory: a log, and presences that last."""
+class Driver:
+    """Drives cores over one log in memory, whose clock stands, so that no presence ends."""
 
-    def __init__(self, header: str) -> None:
-        self.header = header
-        self.log: list[str] = []
-        self.presences: dict[int, Presence] = {}
+    def __init__(self, opening: EpochOpening) -> None:
+        self.opening, self.log = opening, MemoryLog(opening, lambda: 0)
+        self.numbers = {name: number for number, name in enumerate(opening.names, 1)}
 
     def ask(self, core: Core, now: int, ask: Ask) -> None:
         """Does what is asked, and tells what became of it."""
-        if ask.request is Request.LOOK:
-            core.learn(self.log[core.place :])
-            core.looked(now, Seen(1, tuple(self.presences[node] for node in sorted(self.presences))))
-            return
-        core.answered(now, StoreAnswer.DONE if self._do(core, ask) else StoreAnswer.REFUSED)
-
-    def _do(self, core: Core, ask: Ask) -> bool:
-        held = self.presences.get(core.node)
-        if ask.request is Request.TAKE:
-            is_free = held is None and ask.place == len(self.log)
-            if is_free:
-                self.presences[core.node] = Presence(core.node, ask.life, Promise(1, ask.place))
-            return is_free
-        if ask.request in (Request.PROMISE, Request.RENEW, Request.RELEASE):
-            if held is None or held.life != ask.life:
-                return False
-            if ask.request is Request.PROMISE:
-                self.presences[core.node] = replace(held, promise=max(held.promise, Promise(1, ask.place)))
-            if ask.request is Request.RELEASE:
-                del self.presences[core.node]
-            return True
-        assert ask.request is Request.APPEND
-        here = Promise(1, len(self.log))
-        may = ask.place == here.place and all(presence.promise == here for presence in self.presences.values())
-        if may and self.presences:
-            self.log += core.settlement()
-        return may and bool(self.presences)
+        name, here = self.opening.names[core.node - 1], self.opening
+        told = Asker(self.log, name, here, core.place, lambda: 1, core.settlement, lambda: here).call(ask)()
+        if isinstance(told, Found):
+            core.learn(told.rows)
+            end = Promise(here.epoch, core.place)
+            core.looked(now, seen_of(told, end, name, self.numbers, lambda number: core.state(number).status != Status.DOWN))
+        else:
+            core.answered(now, StoreAnswer.DONE if told else StoreAnswer.REFUSED)
 
 
 class Groups(unittest.TestCase):
-    def settle(self, store: Store, cores: list[Core], now: int) -> int:
+    def settle(self, driver: Driver, cores: list[Core], now: int) -> int:
         """Each does what it does, until all wait: the time then."""
         for _ in range(200):
             waiting = 0
@@ -443,7 +428,7 @@ class Groups(unittest.TestCase):
                 now += 1
                 step: Step = core.next(now)
                 if isinstance(step, Ask):
-                    store.ask(core, now, step)
+                    driver.ask(core, now, step)
                 elif isinstance(step, Stop):
                     core.stopped()
                 elif isinstance(step, Wait):
@@ -452,27 +437,27 @@ class Groups(unittest.TestCase):
                     now += TTL_MIN // 50
             if waiting == len(cores) and all(core.work for core in cores):
                 return now
-        raise AssertionError(f'no rest behind {store.log}')
+        raise AssertionError(f'no rest behind {driver.log.rows}')
 
     def works(self, cores: list[Core]) -> tuple[int, ...]:
         owned = [core.owned() for core in cores]
         return tuple(sorted(part for each in owned if each for part in each.partitions))
 
     def test_a_group_works_and_goes_on_without_its_highest(self) -> None:
-        store = Store('bully,1,3,5')
-        cores = [Core(Opening(store.header, 1, node, 500), node, TTL_MIN) for node in (1, 2, 3)]
-        now = self.settle(store, cores, 0)
+        driver = Driver(EpochOpening.first('bully,1,3,5', ('a', 'b', 'c'), 500))
+        cores = [Core(core_opening_of(driver.opening, node), node, TTL_MIN) for node in (1, 2, 3)]
+        now = self.settle(driver, cores, 0)
         self.assertEqual(self.works(cores), (0, 1, 2, 3, 4))
         tokens = [core.token for core in cores]
-        del store.presences[3]
+        driver.log.release('c', driver.log.presences['c'].life)
         cores.pop().close()
         for core in cores:
             core.woke()
         for _ in range(3):  # (a renewal and a look each)
-            now = self.settle(store, cores, now)
+            now = self.settle(driver, cores, now)
         self.assertEqual(self.works(cores), (0, 1, 2, 3, 4))
         self.assertTrue(all(core.token and core.token > (tokens[0] or 0) for core in cores))
         self.assertEqual({core.state(3).status for core in cores}, {Status.DOWN})
-        self.assertTrue(check(''.join(f'{row}\n' for row in (store.header, *store.log)).encode()).is_lawful)
+        self.assertTrue(check(''.join(f'{row}\n' for row in (driver.opening.header, *driver.log.rows)).encode()).is_lawful)
         for core in cores:
             core.close()

@@ -83,7 +83,7 @@ class Traces(unittest.TestCase):
 
 
 class Tables(unittest.TestCase):
-    """`plan_table` plans as `docs/ALGORITHM.md` and `docs/FORMATS.md` have it."""
+    """`plan_table` plans as `docs/ALGORITHM.md` and `docs/COMMANDS.md` have it."""
 
     weighted = Setup(3, 7, weights=(1, 2, 1))
 

@@ -1,4 +1,4 @@
-//! Planned tables, as `docs/ALGORITHM.md` and `docs/FORMATS.md` have them, and each fault.
+//! Planned tables, as `docs/ALGORITHM.md` and `docs/COMMANDS.md` have them, and each fault.
 
 use bully::{
     plan_table, MembersError, NodeFault, PlannedTable, Setup, SetupFault, TableFault, EVENTS_MAX,

@@ -26,7 +26,7 @@ pub enum What {
 }
 
 /// A row that a node has remembered.
-#[derive(Clone, Copy, PartialEq, Eq)]
+#[derive(Clone, Copy)]
 pub struct Note {
     /// The number of the row, from 2.
     pub row: u32,

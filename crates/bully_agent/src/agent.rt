@@ -48,7 +48,7 @@ impl Model for Agent {
 }
 
 /// A request that ran.
-#[derive(Drop, Debug)]
+#[derive(Drop)]
 pub struct Served {
     /// The run, for the log.
     pub event: Event,
@@ -57,7 +57,7 @@ pub struct Served {
 }
 
 /// A call that failed and returned.
-#[derive(Drop, Debug)]
+#[derive(Drop)]
 pub struct FailedCall {
     /// The loss, for the log.
     pub lost: Event,

@@ -7,22 +7,32 @@
 
 mod agent_handle;
 mod agent_session;
-mod agents;
-mod configurations;
+pub mod agents;
+pub mod configurations;
 mod logs;
 mod member_handle;
 mod member_shown;
 mod member_told;
-mod members;
+pub mod members;
 mod old_tables;
 mod openings;
 mod presences;
 mod raw_box;
 mod replica_handle;
-mod replicas;
-mod requests;
+pub mod replicas;
+pub mod requests;
 mod settlements;
 mod shown;
 mod status;
 mod tables;
-mod traces;
+pub mod traces;
+
+pub use agent_handle::AgentHandle;
+pub use member_handle::MemberHandle;
+pub use member_shown::{CMember, CStep};
+pub use presences::CPresence;
+pub use replica_handle::ReplicaHandle;
+pub use replicas::CGroup;
+pub use shown::CState;
+pub use tables::CSetup;
+pub use traces::CVerdict;

@@ -28,7 +28,7 @@ pub enum Answer {
 }
 
 /// What moves a procedure on.
-#[derive(Clone, Copy, PartialEq, Eq, Debug)]
+#[derive(Clone, Copy, PartialEq, Eq)]
 pub enum Outcome {
     Started,
     Moved,
@@ -39,7 +39,7 @@ pub enum Outcome {
 }
 
 /// Who started a call, and at which of its generations.
-#[derive(Clone, Copy, PartialEq, Eq, Debug)]
+#[derive(Clone, Copy, Debug)]
 pub struct Tag {
     pub caller: Node,
     pub generation: u32,
@@ -54,7 +54,7 @@ pub enum Phase {
 }
 
 /// The call in a slot, without its table: how far it came, and whether its caller wasn't stopped since it was started.
-#[derive(Clone, Copy, PartialEq, Eq, Debug)]
+#[derive(Clone, Copy)]
 pub struct PendingCall {
     pub call: Call,
     pub phase: Phase,

@@ -23,14 +23,14 @@ pub enum NodeEventKind {
 }
 
 /// What an event is, but for its node and for the table of a plan.
-#[derive(Clone, Copy, PartialEq, Eq, Debug)]
+#[derive(Clone, Copy, PartialEq, Eq)]
 pub enum EventKind {
     Node(NodeEventKind),
     Plan,
 }
 
 /// Whose an event is.
-#[derive(Clone, Copy, PartialEq, Eq, Debug)]
+#[derive(Clone, Copy)]
 pub enum Whose {
     /// The operator's.
     Operator,
@@ -41,7 +41,7 @@ pub enum Whose {
 }
 
 /// What a row may say beside an event.
-#[derive(Clone, Copy, PartialEq, Eq, Debug)]
+#[derive(Clone, Copy, PartialEq, Eq)]
 pub enum Saying {
     /// Nothing: it is no event of a call.
     Nothing,
@@ -56,7 +56,7 @@ pub enum Saying {
 }
 
 /// What is so of all events of a kind: the word of their rows, whose they are, and what a row may say beside one.
-#[derive(Clone, Copy, Debug)]
+#[derive(Clone, Copy)]
 pub struct KindFacts {
     pub word: &'static str,
     pub whose: Whose,
@@ -206,14 +206,6 @@ impl EventKind {
         ensures { result ≡ whose_of self }
     {
         self.facts().whose
-    }
-
-    /// What its row may say beside it.
-    #[inline(always)]
-    pub fn saying(self) -> Saying
-        ensures { result ≡ saying_of self }
-    {
-        self.facts().saying
     }
 }
 

@@ -14,7 +14,7 @@ pub struct Request {
 }
 
 /// An answer on its way back to the caller.
-#[derive(Clone, Copy, PartialEq, Eq, Debug)]
+#[derive(Clone, Copy)]
 pub struct Reply {
     pub caller: Node,
     /// That of the request.

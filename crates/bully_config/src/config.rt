@@ -3,7 +3,7 @@ use indexmap::IndexSet;
 use std::marker::Model;
 
 /// What a fault does to its node.
-#[derive(Clone, Copy, PartialEq, Eq, Debug)]
+#[derive(Clone, Copy, PartialEq, Eq)]
 pub enum FaultKind {
     /// The node goes down.
     Crash,
@@ -12,7 +12,7 @@ pub enum FaultKind {
 }
 
 /// A fault that the operator brings about.
-#[derive(Clone, Copy, PartialEq, Eq, Debug)]
+#[derive(Clone, Copy)]
 pub struct Fault {
     /// The turn, from 1 to the configuration's turns.
     pub at: u32,
@@ -25,7 +25,7 @@ pub struct Fault {
 /// A configuration: its setup, its turns (1 to [`crate::TURNS_MAX`]), its period ([`crate::PERIOD_MIN`] to
 /// [`crate::PERIOD_MAX`] turns), a name for each node, and at most [`crate::FAULTS_MAX`] faults in the order of the
 /// document.
-#[derive(Drop, Debug)]
+#[derive(Drop)]
 pub struct Config {
     setup: Setup,
     turns: u32,

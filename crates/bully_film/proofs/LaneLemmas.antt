@@ -29,9 +29,6 @@ after-is : (setup : Setup) (before : List Row) (row : Row) (j : ℕ) (now : Node
     → snapshot_after j now (scene_at setup before row) ≡ snapshot (world_behind setup (before ++ row ∷ [])) j
 after-is setup before row j now is = by_test (node_in row == j) (place_at (world_behind setup before) (node_in row) (event_kind_in row) == j) refl refl
   where
-    behind : World
-    behind = world_behind setup (before ++ row ∷ [])
-
     by_test : (b c : Bool) → (node_in row == j) ≡ b → (place_at (world_behind setup before) (node_in row) (event_kind_in row) == j) ≡ c
         → (if b then snapshot (world_behind setup (before ++ row ∷ [])) (node_in row) else (if c then snapshot (world_behind setup (before ++ row ∷ [])) (place_at (world_behind setup before) (node_in row) (event_kind_in row)) else now))
         ≡ snapshot (world_behind setup (before ++ row ∷ [])) j

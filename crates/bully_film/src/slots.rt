@@ -19,7 +19,7 @@ pub type Holding = Stretch<Option<HeldCall>>;
 
 /// How a stretch of a slot ends: the call runs at its callee, it is lost, it is taken out of the slot, or it is still there behind the
 /// last row.
-#[derive(Clone, Copy, PartialEq, Eq)]
+#[derive(Clone, Copy)]
 pub enum End {
     Ran,
     Failed,

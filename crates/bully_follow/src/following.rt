@@ -26,7 +26,7 @@ use std::io::{Read, Write};
 use std::rt::Clock;
 
 /// Why no further row is taken.
-#[derive(Clone, Copy, Debug)]
+#[derive(Clone, Copy)]
 enum Stop {
     /// The row that was taken last decided: this is the verdict.
     Decided(Verdict),

@@ -10,7 +10,7 @@ use bully_rows::{push_node, push_task, status_word};
 use bully_world::World;
 
 /// How what changed is told: as lines of words, or as an object of JSON each.
-#[derive(Clone, Copy, PartialEq, Eq, Debug)]
+#[derive(Clone, Copy)]
 pub enum Telling {
     Words,
     Json,

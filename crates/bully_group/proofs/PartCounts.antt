@@ -76,9 +76,6 @@ fits_part at actor (x ∷ entries) [] all = (omega arith, λ same. none_left (pa
     none_left (q ∷ whole) same = absurd (omega (arith, same))
 fits_part at actor (x ∷ entries) (p ∷ log) all = by_actor (x.actor == actor) refl (λ rest of. fits_part (at + 1) actor entries rest of)
   where
-    Whole : List (ℕ × Entry)
-    Whole = part_from (at + 1) actor entries
-
     first : Stands at actor (x ∷ entries) p.0 p.1
     first = all.stand 0 p refl
 

@@ -1,4 +1,4 @@
-ghost use Rattle.std.specs.Prelude.{◌≡◌, ◌≤◌, [], None, true, false, IfOk, IfErr, replicate};
+ghost use Rattle.std.specs.Prelude.{◌≡◌, [], None, true, false, IfOk, IfErr, replicate};
 ghost use Rattle.bully_member.specs.Member.{IsMember, member_with, new_member, nobody_yet, place_of, replica_of};
 ghost use Rattle.bully_member.specs.Opening.{RefusesMember, member_fault};
 ghost use Rattle.bully_member.specs.Times.{sure_left};
@@ -219,13 +219,6 @@ impl Member {
         ensures { result ≡ self.now.ending }
     {
         self.ending
-    }
-
-    /// Who was present when it looked last.
-    pub fn presences(&self) -> &[Presence]
-        ensures { result.now ≡ self.now.presences }
-    {
-        &self.presences
     }
 
     /// Whether something else was wished for then.

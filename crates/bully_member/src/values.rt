@@ -8,7 +8,7 @@ ghost use Rattle.bully_member.specs.Due.{stopping};
 use bully_base::Node;
 
 /// Which life of which process: no two lives that ever take a presence are alike.
-#[derive(Clone, Copy, PartialEq, Eq, Debug)]
+#[derive(Clone, Copy, PartialEq, Eq)]
 pub struct LifeId {
     /// A number that no other process of the group ever has.
     pub process: u64,
@@ -17,14 +17,14 @@ pub struct LifeId {
 }
 
 /// Up to where a life is idle: it works by no plan before this place of this epoch.
-#[derive(Clone, Copy, PartialEq, Eq, Debug)]
+#[derive(Clone, Copy, PartialEq, Eq)]
 pub struct Promise {
     pub epoch: u32,
     pub place: u32,
 }
 
 /// Who is present for a node.
-#[derive(Clone, Copy, PartialEq, Eq, Debug)]
+#[derive(Clone, Copy)]
 pub struct Presence {
     pub node: Node,
     pub life: LifeId,
@@ -32,7 +32,7 @@ pub struct Presence {
 }
 
 /// What became of a request.
-#[derive(Clone, Copy, PartialEq, Eq, Debug)]
+#[derive(Clone, Copy, PartialEq, Eq)]
 pub enum StoreAnswer {
     /// It was done.
     Done,
@@ -43,7 +43,7 @@ pub enum StoreAnswer {
 }
 
 /// Why a member ends.
-#[derive(Clone, Copy, PartialEq, Eq, Debug)]
+#[derive(Clone, Copy, PartialEq, Eq)]
 pub enum Ending {
     /// It was told to leave.
     Left,
@@ -54,7 +54,7 @@ pub enum Ending {
 }
 
 /// What is asked of the store. A place is of the member's epoch.
-#[derive(Clone, Copy, PartialEq, Eq, Debug)]
+#[derive(Clone, Copy)]
 pub enum Request {
     /// The presence of the member's node for this life, idle up to this place, if nobody has it, and the log ends there.
     Take(LifeId, u32),
@@ -75,7 +75,7 @@ pub enum Request {
 }
 
 /// What ends a wait before its time: other rows, lives or wishes than were seen; or one of these.
-#[derive(Clone, Copy, PartialEq, Eq, Debug)]
+#[derive(Clone, Copy)]
 pub enum Until {
     /// No more.
     News,
@@ -86,7 +86,7 @@ pub enum Until {
 }
 
 /// What a member does next.
-#[derive(Clone, Copy, PartialEq, Eq, Debug)]
+#[derive(Clone, Copy)]
 pub enum Step {
     /// To ask the store, and to tell what became of that.
     Ask(Request),
@@ -103,7 +103,7 @@ pub enum Step {
 }
 
 /// Whether a process has the presence of its node.
-#[derive(Clone, Copy, PartialEq, Eq, Debug)]
+#[derive(Clone, Copy, PartialEq, Eq)]
 pub enum LifeState {
     /// It hasn't.
     Absent,
@@ -114,7 +114,7 @@ pub enum LifeState {
 }
 
 /// How far the work of a process is.
-#[derive(Clone, Copy, PartialEq, Eq, Debug)]
+#[derive(Clone, Copy, PartialEq, Eq)]
 pub enum Work {
     /// It works on nothing.
     Idle,
@@ -127,21 +127,21 @@ pub enum Work {
 }
 
 /// A request, and when it was asked for.
-#[derive(Clone, Copy, PartialEq, Eq, Debug)]
+#[derive(Clone, Copy)]
 pub struct Asked {
     pub request: Request,
     pub at: u64,
 }
 
 /// Since when the log's end, who is present with which promise, and what is wished for are as they are.
-#[derive(Clone, Copy, PartialEq, Eq, Debug)]
+#[derive(Clone, Copy)]
 pub struct Unrest {
     pub at: u64,
     pub place: u32,
 }
 
 /// Since when the life that was seen last for a node was seen, and how long it has to stay until it counts.
-#[derive(Clone, Copy, PartialEq, Eq, Debug)]
+#[derive(Clone, Copy)]
 pub struct Arrival {
     /// None: nobody was ever seen.
     pub life: Option<LifeId>,

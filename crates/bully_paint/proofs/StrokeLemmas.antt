@@ -1,13 +1,11 @@
 -- What goes out at each byte.
 use Rattle.std.proofs.Common.{◌≡◌, ◌∙◌, ℕ, ◌+◌, ◌<◌, ◌≤◌, ◌==◌, ◌||◌, not, Bool, true, false, List, [], ◌∷◌, ◌++◌, Option, Some, None, Result, Ok, Err, IfOk, append_assoc, append-nil, refl, sym, ap, subst, if◌then◌else◌, codes, drop, length, get_or, slice_get, take, zero, suc, length-append, arith}
 use Rattle.std.proofs.lemmas.Bool.Decides.{Decides-eqb, nat_tests}
-use Rattle.std.proofs.lemmas.List.{take_more}
 use Rattle.std.proofs.lemmas.Slice.Eq.{bytes_eq-Decides}
 use Rattle.std.specs.Io.KnownBytes.{Appends, Keeps, append_known}
-use Rattle.std.specs.List.{list_any}
 use Rattle.std.specs.Str.{bytes_eq}
-use Rattle.bully_paint.specs.Strokes.{Brush, PaintsWords, Stroke, begins, begun, clean, goes_within, is_escape, is_front, joins, joins_title, passed, stroke, strokes}
-use Rattle.bully_paint.specs.Words.{ending_of, every_word, is_separator, painting_of, text_of}
+use Rattle.bully_paint.specs.Strokes.{Brush, PaintsWords, Stroke, begins, begun, clean, goes_within, is_escape, joins, joins_title, passed, stroke, strokes}
+use Rattle.bully_paint.specs.Words.{ending_of, is_separator, painting_of, text_of}
 use Rattle.bully_paint.specs.declared.words.Word.{Word}
 use Rattle.bully_paint.proofs.TextLemmas.{appends-none, keeps_appends, keeps_keeps, keeps_none}
 use Rattle.bully_paint.proofs.WordLemmas.{next-read}
@@ -195,36 +193,6 @@ begins-test text front rest b first whole at = by_test (first == b) refl
         let same : first ≡ b = cc (sym at ∙ there) in
         absurd (cc (sym is ∙ (Decides-eqb first b).1 same))))
 
--- ---- all words
-
-any-more : (test : Word → Bool) (words : List Word) (word : Word) → list_any test words ≡ false → test word ≡ false → list_any test (words ++ word ∷ []) ≡ false
-any-more test [] word none is = rw is refl
-any-more test (first ∷ words) word none is = by_test (test first) none (λ rest. any-more test words word rest is)
-  where
-    by_test : (t : Bool) → (t || list_any test words) ≡ false → (list_any test words ≡ false → list_any test (words ++ word ∷ []) ≡ false) → (t || list_any test (words ++ word ∷ [])) ≡ false
-    by_test true rest more = absurd (cc rest)
-    by_test false rest more = more rest
-
-any-at : (test : Word → Bool) (words : List Word) (i : ℕ) (d : Word) → i < length words → test (get_or words i d) ≡ true → list_any test words ≡ true
-any-at test [] i d within is = absurd (omega (arith, within))
-any-at test (first ∷ words) zero d within is = rw is refl
-any-at test (first ∷ words) (suc i) d within is = by_test (test first) (any-at test words i d (omega (arith, within)) is)
-  where
-    by_test : (t : Bool) → list_any test words ≡ true → (t || list_any test words) ≡ true
-    by_test true rest = refl
-    by_test false rest = rest
-
--- no word up to this one begins so
-pub none-more : (front : List ℕ) (i : ℕ) (word : Word) → i < 11 → word ≡ get_or every_word i word → list_any (λ w. begins (text_of w) front) (take i every_word) ≡ false
-    → begins (text_of word) front ≡ false → list_any (λ w. begins (text_of w) front) (take (i + 1) every_word) ≡ false
-none-more front i word within at none is =
-    let more : take (i + 1) every_word ≡ take i every_word ++ word ∷ [] =
-    take_more every_word i word within ∙ ap (λ (x : Word). take i every_word ++ x ∷ []) (sym at) in
-    ap (list_any (λ w. begins (text_of w) front)) more ∙ any-more (λ w. begins (text_of w) front) (take i every_word) word none is
-
-pub front-at : (front : List ℕ) (i : ℕ) (word : Word) → i < 11 → word ≡ get_or every_word i word → begins (text_of word) front ≡ true → is_front front ≡ true
-front-at front i word within at is = any-at (λ w. begins (text_of w) front) every_word i word within (ap (λ (x : Word). begins (text_of x) front) (sym at) ∙ is)
-
 -- ---- one byte of a writer, by what goes out and the brush
 
 -- this goes out, and the brush is this one behind it
@@ -266,13 +234,6 @@ brush-same within within' same = rw same refl
 pub appends-queued : (a : Option (List ℕ)) (queue out : List ℕ) → queue ≡ [] → Appends (append_known a queue) (append_known a out) out
 appends-queued None queue out none = tt
 appends-queued (Some xs) queue out none = ap (λ (l : List ℕ). l ++ out) (sym (ap (λ (q : List ℕ). xs ++ q) none ∙ append-nil xs))
-
--- what was written, where nothing is next
-pub appends-sent : (a b : Option (List ℕ)) (queue sent : List ℕ) → queue ≡ [] → Appends a b sent → Appends (append_known a queue) (append_known b queue) sent
-appends-sent None b queue sent none h = tt
-appends-sent (Some xs) None queue sent none h = absurd h
-appends-sent (Some xs) (Some ys) queue sent none h =
-    ap (λ (q : List ℕ). ys ++ q) none ∙ append-nil ys ∙ h ∙ ap (λ (l : List ℕ). l ++ sent) (sym (ap (λ (q : List ℕ). xs ++ q) none ∙ append-nil xs))
 
 -- a word that was held back goes out
 abbrev pub released : Brush → ℕ → Stroke

@@ -5,7 +5,7 @@ ghost use Rattle.std.specs.Str.{bytes_eq};
 ghost use Rattle.bully_paint.specs.Words.{is_separator, painting_of, text_of, word_named};
 
 /// A word that has a colour. It has it only as a whole word: where it stands between what parts words.
-#[derive(Clone, Copy, PartialEq, Eq, Debug)]
+#[derive(Clone, Copy)]
 pub enum Word {
     Lawful,
     Refused,

@@ -6,7 +6,7 @@ use bully_film::Scene;
 use bully_trace::Verdict;
 
 /// Whether a picture shows claims. One that decided is always shown.
-#[derive(Clone, Copy, PartialEq, Eq)]
+#[derive(Clone, Copy)]
 pub enum Claims {
     Shown,
     LeftOut,

@@ -1,5 +1,5 @@
 -- A log that is followed by one row more, and why it isn't.
-use Rattle.std.proofs.Common.{◌≡◌, ◌≢◌, ◌≤◌, ◌⊎◌, ◌+◌, ◌++◌, ℕ, Bool, true, false, List, [], ◌∷◌, Some, Result, Ok, Err, inl, inr, map, length-append, append_assoc, append-nil, refl, sym, ap, subst, arith, ◌∙◌, IfErr, IfOk, OnOk}
+use Rattle.std.proofs.Common.{◌≡◌, ◌≢◌, ◌≤◌, ◌⊎◌, ◌+◌, ◌++◌, ℕ, Bool, true, false, List, [], ◌∷◌, Some, Result, Ok, Err, inl, inr, map, length-append, append_assoc, append-nil, refl, sym, ap, subst, arith, ◌∙◌, IfErr, OnOk}
 use Rattle.std.proofs.lemmas.List.{map-append}
 use Rattle.bully_base.specs.Setup.{Setup}
 use Rattle.bully_replica.specs.RowReplica.{FailsAt, FailsBehind, FailsOutside, Follows, RowReplicaState, FollowsUpTo, Stops, StopsAt, row_in}
@@ -13,7 +13,7 @@ use Rattle.bully_rows.specs.declared.TheConstants.{ROWS_MAX}
 use Rattle.bully_rows.specs.declared.header.Version.{Version}
 use Rattle.bully_rows.specs.declared.trace.TraceCause.{TraceCause}
 use Rattle.bully_rows.specs.declared.trace.TraceFault.{TraceFault}
-use Rattle.bully_rows.specs.Feeding.{AllTaken, AreTakenBy, IsLast, IsNext, IsUnreadable, StopsBehind, StopsNext}
+use Rattle.bully_rows.specs.Feeding.{AllTaken, AreTakenBy, IsNext, IsUnreadable, StopsBehind, StopsNext}
 use Rattle.bully_rows.proofs.FeedingLemmas.{kept-by-all}
 
 -- before any of the records
@@ -106,13 +106,6 @@ RefusesRow reader f after fault = FailsBehind reader.fields f fault × (after �
 abbrev TellsForm : TraceFault → LearnFault → Type 0
 TellsForm fault told = told ≡ LearnFault.Form fault.cause
 
--- a read takes the next row, or finds none
-pub took : (r : Result Bool LearnFault) (reader now : ReadSoFar) (P Q : Type 0) → IfOk r (λ found. found ≡ true → IsNext reader now × P) → IfOk r (λ found. found ≡ false → IsLast reader now × Q)
-    → IfOk r (λ found. Takes reader.records now.records found now.fields)
-took (Ok true) reader now P Q taken last = (taken refl).0.takes
-took (Ok false) reader now P Q taken last = (last refl).0
-took (Err fault) reader now P Q taken last = tt
-
 outside : (cause : TraceCause) (reader : ReadSoFar) → is_of_form cause ≡ false → cause ≢ TraceCause.Write → FailsOutside reader (LearnFault.Form cause)
 outside TraceCause.BadHeader reader form write = absurd (cc form)
 outside TraceCause.BadRow reader form write = absurd (cc form)
@@ -136,14 +129,6 @@ fails reader now f after fault (inr (next, (refused, unchanged))) = inr (next.ta
 stays : (reader now : ReadSoFar) (f after : RowReplicaState) (fault : LearnFault) → StopsNext RefusesRow TellsForm reader f now after fault → after ≡ f
 stays reader now f after fault (inl (read, is, same, unchanged)) = unchanged
 stays reader now f after fault (inr (next, (refused, unchanged))) = unchanged
-
-pub fails_at : (r : Result Bool LearnFault) (reader now : ReadSoFar) (f after : RowReplicaState) → IfErr r (StopsNext RefusesRow TellsForm reader f now after) → IfErr r (FailsAt reader now f)
-fails_at (Ok found) reader now f after stops = tt
-fails_at (Err fault) reader now f after stops = fails reader now f after fault stops
-
-pub stays_at : (r : Result Bool LearnFault) (reader now : ReadSoFar) (f after : RowReplicaState) → IfErr r (StopsNext RefusesRow TellsForm reader f now after) → IfErr r (λ _. after ≡ f)
-stays_at (Ok found) reader now f after stops = tt
-stays_at (Err fault) reader now f after stops = stays reader now f after fault stops
 
 -- how far a reader has come, and the replica with it, each with its count
 abbrev IsCountedTo : ReadSoFar → RowReplicaState → ReadSoFar → RowReplicaState → Type 0

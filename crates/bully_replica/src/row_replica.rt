@@ -1,16 +1,13 @@
-ghost use Rattle.std.specs.Prelude.{◌≡◌, ◌≤◌, ◌+◌, [], List, IfErr, IfOk, OnOk, None, Some, false, length, true};
-ghost use Rattle.bully_replica.specs.RowReplica.{FailsAt, FailsOn, Follows, FollowsUpTo, LearnsFields, Stops};
+ghost use Rattle.std.specs.Prelude.{◌≡◌, ◌≤◌, [], List, IfErr, IfOk, OnOk, None, Some, length};
+ghost use Rattle.bully_replica.specs.RowReplica.{FailsOn, FollowsUpTo, LearnsFields, Stops};
 ghost use Rattle.bully_replica.specs.Replica.{HasLearned, first_replica};
 ghost use Rattle.bully_rows.specs.Headers.{Record};
-ghost use Rattle.bully_rows.specs.RecordsLeft.{Takes};
 ghost use Rattle.bully_rows.specs.Rows.{row_of};
 ghost use Rattle.bully_rows.specs.declared.TheConstants.{ROWS_MAX};
 
 use crate::Replica;
 use bully_base::OutOfMemory;
-use bully_rows::{
-    Header, ROWS_MAX, RowReader, RowSink, TraceCause, TraceFault, feed_each, feed_next,
-};
+use bully_rows::{Header, ROWS_MAX, RowReader, RowSink, TraceCause, TraceFault, feed_each};
 use bully_trace::Violation;
 use std::alloc::Global;
 use std::io::Read;
@@ -82,30 +79,9 @@ impl RowReplica {
         self.rows
     }
 
-    /// Learns the row that the reader gives next, and tells whether there is one. Refused if there is one that isn't
-    /// learned, or that can't be read, and then nothing changes but how far the reader has come: `TooManyRows` behind as
-    /// many rows as a trace has at most, then `BadRow`, then what is wrong with the row. The rule: docs/FORMATS.md.
-    pub fn learn_next<R: Read + Drop>(
-        &mut self,
-        alloc: Global,
-        reader: &mut RowReader<R>,
-    ) -> Result<bool, LearnFault>
-        ensures takes { IfOk result (λ found. Takes reader.old.records reader.new.records found reader.new.fields) }
-        ensures follows { IfOk result (λ found. found ≡ true → Follows reader.new.fields self.old self.new) }
-        ensures counted { IfOk result (λ found. found ≡ true → reader.new.number ≡ reader.old.number + 1) }
-        ensures ended { IfOk result (λ found. found ≡ false → self.new ≡ self.old) }
-        ensures fault { IfErr result (FailsAt reader.old reader.new self.old) }
-        ensures unchanged { IfErr result (λ _. self.new ≡ self.old) }
-        ensures within { self.new.rows ≤ ROWS_MAX }
-    {
-        let taken = feed_next(alloc, reader, self);
-        // Shows the proof what the type keeps.
-        let _ = &self.replica;
-        taken
-    }
-
-    /// Learns the rows that the reader still gives, in their order, up to the first that [`RowReplica::learn_next`] refuses; what was
-    /// learned before it stays.
+    /// Learns the rows that the reader still gives, in their order, up to the first that isn't learned, or that can't be read: `TooManyRows`
+    /// behind as many rows as a trace has at most, then `BadRow`, then what is wrong with the row. What was learned before it stays. The rule:
+    /// docs/FORMATS.md.
     pub fn learn_all<R: Read + Drop>(
         &mut self,
         alloc: Global,

@@ -11,7 +11,7 @@ use std::fmt;
 use std::marker::Model;
 
 /// A claim: at this place of the trace the node's vector shows this status and this coordinator.
-#[derive(Clone, Copy, PartialEq, Eq, Debug)]
+#[derive(Clone, Copy, Debug)]
 pub struct Claim {
     pub node: Node,
     pub status: Status,

@@ -4,8 +4,7 @@ use Rattle.std.proofs.lemmas.Bool.Decides.{nat_tests}
 use Rattle.bully_base.proofs.NodeSetLemmas.{with_node-members}
 use Rattle.bully_base.specs.NodeSet.{with_node}
 use Rattle.bully_base.specs.Setup.{Setup}
-use Rattle.bully_base.specs.declared.node.Status.{Status}
-use Rattle.bully_base.specs.declared.node.Status.TheVariants.{Down, Election, Reorganization, Normal}
+use Rattle.bully_base.specs.declared.node.Status.TheVariants.{Down, Election}
 use Rattle.bully_calls.specs.declared.call.Call.{Call}
 use Rattle.bully_calls.specs.declared.call.CallKind.TheVariants.{AreYouUp, Halt}
 use Rattle.bully_calls.specs.declared.call.Outcome.{Outcome}
@@ -76,12 +75,6 @@ pub record Halts (setup : Setup) (w : World) (events : List Event) (i k : ℕ) (
   pub halter : (j : ℕ) → 0 < j → j ≤ k → (vector w j).status ≢ Down → (vector world j).halter ≡ Some i
   pub down : (j : ℕ) → j ≢ i → (vector w j).status ≡ Down → node_state world j ≡ node_state w j
   pub others : (j : ℕ) → j ≢ i → k < j → node_state world j ≡ node_state w j
-
-pub down_or_up : (s : Status) → (s ≡ Down) ⊎ (s ≢ Down)
-down_or_up Down = inl refl
-down_or_up Election = inr (λ e. absurd (cc))
-down_or_up Reorganization = inr (λ e. absurd (cc))
-down_or_up Normal = inr (λ e. absurd (cc))
 
 -- node k + 1 is Down, and its Halt fails; and then the others
 passes : (setup : Setup) (w : World) (i k : ℕ) (xs : List Event) (v : Vector) → (vector w (suc k)).status ≡ Down → suc k < i → (t : Turned setup w (whole_call i false) i (stands v (Point.Halting k))) → Halts setup t.world xs i k v → Halts setup w (whole_call i false ++ xs) i (suc k) v

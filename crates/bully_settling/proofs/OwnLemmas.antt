@@ -159,10 +159,3 @@ token_owns r i place token is = by_owned (owned_by r i place) refl is
     by_owned : (owned : Option Owned) → owned_by r i place ≡ owned → token ≡ option_map token_in owned → IfSome token (OwnsBehind r i place)
     by_owned None e is = rw is tt
     by_owned (Some o) e is = rw is (owned_owns r i place o e)
-
-pub token_owns_nothing : (r : ReplicaState) (i place : ℕ) (token : Option ℕ) → token ≡ option_map token_in (owned_by r i place) → IfNone token (OwnsNothingBehind r i place)
-token_owns_nothing r i place token is = by_owned (owned_by r i place) refl is
-  where
-    by_owned : (owned : Option Owned) → owned_by r i place ≡ owned → token ≡ option_map token_in owned → IfNone token (OwnsNothingBehind r i place)
-    by_owned None e is = rw is (owned_nothing r i place e)
-    by_owned (Some o) e is = rw is tt

@@ -1,6 +1,5 @@
 -- The partitions of a node in a table: exactly those that the table gives it, and rising.
 use Rattle.std.proofs.Common.{◌≡◌, ◌≢◌, ◌<◌, ◌≤◌, ◌+◌, ◌++◌, ◌↔◌, ◌==◌, inl, inr, if◌then◌else◌, ℕ, zero, suc, Bool, true, false, List, [], ◌∷◌, Some, IsTrue, Contains, length, take, slice_get, arith, refl, sym, ap, subst, ◌∙◌}
-use Rattle.std.proofs.Math.Seq.{take-length}
 use Rattle.std.proofs.lemmas.Bool.Decides.{Decides-eqb}
 use Rattle.std.proofs.lemmas.List.{take_more, length-take}
 use Rattle.std.proofs.lemmas.Option.{get_or_from_slice_get, slice_get_within}
@@ -98,9 +97,6 @@ pub one_more : (items now table : List ℕ) (place owner i : ℕ) (b : Bool) →
     → now ≡ items ++ (if b then place ∷ [] else []) → now ≡ partitions_of (take (place + 1) table) i
 one_more items now table place owner i b so_far is tests push =
     push ∙ ap (λ xs. xs ++ (if b then place ∷ [] else [])) so_far ∙ ap (λ t. partitions_of (take place table) i ++ (if t then place ∷ [] else [])) tests ∙ sym (taken table place owner i is)
-
-pub all_taken : (items table : List ℕ) (place i : ℕ) → items ≡ partitions_of (take place table) i → place ≡ length table → items ≡ partitions_of table i
-all_taken items table place i so_far end = so_far ∙ ap (λ t. partitions_of t i) (ap (λ n. take n table) end ∙ take-length table)
 
 -- a node that is given a partition has one
 pub gives_some : (table : List ℕ) (k i : ℕ) → GivesTo table k i → partitions_of table i ≢ []

@@ -30,10 +30,6 @@ lead_append setup w (e ∷ events) (a ∷ answers) mid more others w' l k = (l.0
 lead_append setup w [] (a ∷ answers) mid more others w' l k = absurd l
 lead_append setup w (e ∷ events) [] mid more others w' l k = absurd l
 
-or_false : (a b : Bool) → a ≡ false → b ≡ false → (a || b) ≡ false
-or_false true b p q = p
-or_false false b p q = q
-
 pub no_plan : (xs ys : List Event) → has_plan xs ≡ false → has_plan ys ≡ false → has_plan (xs ++ ys) ≡ false
 no_plan [] ys p q = q
 no_plan (x ∷ xs) ys p q = by_test (is_plan x) p (λ r. no_plan xs ys r q)

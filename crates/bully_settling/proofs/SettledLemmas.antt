@@ -1,5 +1,5 @@
 -- What settles a group leads its replica to rest.
-use Rattle.std.proofs.Common.{◌≡◌, ◌≢◌, ◌≤◌, ◌+◌, ◌-◌, ◌*◌, ◌++◌, ℕ, List, [], ◌∷◌, Option, Some, None, IfSome, All, length, arith, refl, sym, ap, subst, ◌∙◌}
+use Rattle.std.proofs.Common.{◌≡◌, ◌≢◌, ◌≤◌, ◌+◌, ◌-◌, ◌*◌, ◌++◌, ℕ, List, [], ◌∷◌, Option, Some, None, IfSome, All, length, arith, sym, ap, subst, ◌∙◌}
 use Rattle.bully_agree.proofs.PlanLemmas.{last_is, last_found}
 use Rattle.bully_agree.specs.Fencing.{IsLast, Planned}
 use Rattle.bully_base.specs.NodeSet.{IsFallingBelow, highest_of}
@@ -11,7 +11,7 @@ use Rattle.bully_replica.specs.Replica.{IsLogOf, ReplicaState}
 use Rattle.bully_settling.proofs.Resettling.{comes_to_rest_lem}
 use Rattle.bully_settling.proofs.SizeLemmas.{settling_size}
 use Rattle.bully_settling.specs.Resting.{AllRest, IsAtRest, IsServed}
-use Rattle.bully_settling.specs.Settling.{Settles, preparing, settling, settling_by, settling_of, table_before}
+use Rattle.bully_settling.specs.Settling.{Settles, preparing, settling, settling_of, table_before}
 use Rattle.bully_table.proofs.BalanceSteps.{falling-nodes}
 use Rattle.bully_work.specs.Store.{MayAppend, Store}
 use Rattle.bully_world.proofs.LawfulLemmas.{lead_split}
@@ -66,22 +66,6 @@ settled_lem r old present events nodes sized setup falls room are log is =
     subst (λ xs. Settles r.world.setup log (table_before r.last old) present xs) (sym are)
     (comes_to_rest_lem r.world.setup log is.answers (world_of r.world) (table_before r.last old) present setup is.lawful (before_sized r old log sized is)
     (falling-nodes (NODES_MAX + 1) r.world.setup.nodes present falls nodes) (omega (arith, room, counted)))
-
--- the settling of those that are present, whose highest is known
-pub settling_is : (setup : Setup) (w : World) (old : Option (List ℕ)) (present : List ℕ) (h : ℕ) → highest_of present ≡ Some h → settling_by setup w old present h (length present - 1) ≡ settling setup w old present
-settling_is setup w old [] h is = absurd (cc)
-settling_is setup w old (m ∷ ms) h is =
-    let same : h ≡ m = cc in
-    let count : length (m ∷ ms) - 1 ≡ length ms = omega arith in
-    ap (λ k. settling_by setup w old (m ∷ ms) k (length (m ∷ ms) - 1)) same ∙ ap (settling_by setup w old (m ∷ ms) m) count
-
-pub some_highest : (present : List ℕ) (h : ℕ) → highest_of present ≡ Some h → present ≢ []
-some_highest [] h is none = absurd (cc)
-some_highest (m ∷ ms) h is none = absurd (cc)
-
-pub none_highest : (present : List ℕ) → highest_of present ≡ None → present ≡ []
-none_highest [] is = refl
-none_highest (m ∷ ms) is = absurd (cc)
 
 -- the parts of what settles those that are present
 pub size_of_settling : (setup : Setup) (w : World) (old : Option (List ℕ)) (present : List ℕ) (h prepared election : ℕ) → highest_of present ≡ Some h → All (λ m. m ≤ setup.nodes) present → IsFallingBelow (NODES_MAX + 1) present

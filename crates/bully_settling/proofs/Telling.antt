@@ -33,10 +33,6 @@ has_below [] bound j falls h = absurd h
 has_below (k ∷ ks) bound j falls (inl e) = omega (arith, e, falls.1)
 has_below (k ∷ ks) bound j falls (inr h) = let l = has_below ks k j falls.2 h in omega (arith, l, falls.1)
 
-pub has_size : (ks : List ℕ) (bound : ℕ) → IsFallingBelow bound ks → length ks ≤ bound
-has_size [] bound falls = omega arith
-has_size (k ∷ ks) bound falls = let l = has_size ks k falls.2 in omega (arith, l, falls.1)
-
 pub has_fewer : (ks : List ℕ) (bound : ℕ) → 0 < bound → IsFallingBelow bound ks → length ks < bound
 has_fewer [] bound p falls = omega (arith, p)
 has_fewer (k ∷ ks) bound p falls = let l = has_fewer ks k falls.0 falls.2 in omega (arith, l, falls.1)

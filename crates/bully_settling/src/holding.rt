@@ -25,13 +25,6 @@ impl Partitions {
     }
 
     /// The partitions, in order.
-    pub fn into_vec(self) -> Vec<u16>
-        ensures { result.items ≡ self }
-    {
-        self.partitions
-    }
-
-    /// The partitions, in order.
     pub fn as_slice(&self) -> &[u16]
         ensures { result.now ≡ self.now }
     {

@@ -13,7 +13,7 @@ use bully_base::{Node, NodeSet, Setup, Status};
 use bully_calls::{Call, CallKind, Outcome};
 
 /// The kind of a [`Point`]: a point without the nodes that `Announcing` and `Readying` have left.
-#[derive(Clone, Copy, PartialEq, Eq, Debug)]
+#[derive(Clone, Copy, Debug)]
 pub enum PointKind {
     /// No procedure runs.
     Idle,

@@ -1,7 +1,7 @@
 use bully_base::{Node, Status};
 
 /// What a glance shows of one node.
-#[derive(Clone, Copy, PartialEq, Eq, Debug)]
+#[derive(Clone, Copy)]
 pub struct Glance {
     /// How many events were applied.
     pub events: u32,
@@ -12,7 +12,7 @@ pub struct Glance {
 }
 
 /// Who leads a group.
-#[derive(Clone, Copy, PartialEq, Eq, Debug)]
+#[derive(Clone, Copy)]
 pub struct Leader {
     /// How many events were applied.
     pub events: u32,

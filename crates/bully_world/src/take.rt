@@ -13,7 +13,7 @@ use bully_calls::{Answer, Event, Outcome, Refused};
 use bully_steps::Procedure;
 
 /// A step that a node took by its procedure.
-#[derive(Drop, Debug)]
+#[derive(Drop)]
 pub struct AppliedStep {
     /// What was applied. A plan has the procedure's table.
     pub event: Event,

@@ -16,7 +16,7 @@ use bully_steps::{PointKind, Procedure, Want};
 use bully_table::Table;
 
 /// A step of a node by its procedure, which the turn rule offers.
-#[derive(Clone, Copy, PartialEq, Eq)]
+#[derive(Clone, Copy)]
 pub enum StepKind {
     /// Its call is started.
     Start,
@@ -61,7 +61,7 @@ impl StepKind {
 }
 
 /// What the turn rule says. The rule: docs/ALGORITHM.md.
-#[derive(Clone, Copy, PartialEq, Eq)]
+#[derive(Clone, Copy)]
 pub enum Next {
     /// The procedure isn't in step with the world.
     Resync,

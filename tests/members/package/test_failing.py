@@ -10,6 +10,7 @@ import socket
 import sqlite3
 import threading
 import unittest
+from collections.abc import Callable
 from types import SimpleNamespace
 from typing import cast
 from unittest import mock
@@ -25,9 +26,10 @@ from bully.orders import Orders
 from bully.running import Assignment, Member
 from bully.sqlite import SqliteLog
 from bully.worker import Workers
+from .. import waiting
 from ..processes import children, is_running
 from ..steps import EMPTY, LONG, OPENING, A, B, C
-from ..waiting import PATIENCE, wait_until
+from ..waiting import PATIENCE
 from .below import assigned
 from .configurations import TOP, toml
 from .folders import InFolder
@@ -35,6 +37,11 @@ from .member_processes import BEGINS, MemberProcess, call
 from .threads import Threads
 
 TTL = 0.5
+
+
+def wait_until(is_so: Callable[[], object]) -> None:
+    """The same for longer, since workers that fail are begun later and later."""
+    waiting.wait_until(is_so, 2 * PATIENCE)
 
 
 class Counts(unittest.TestCase):
@@ -285,7 +292,7 @@ class GivesUp(Threads):
         both = [self.begin_member(node, True) for node in (1, 2)]
         wait_until(lambda: self.log.failing == {'1': False, '2': False} and self.owners() == {'1', '2'})
         rows = len(self.log.rows)
-        wait_until(lambda: all(work.begun > 4 for work in both), 2 * PATIENCE)  # (later and later)
+        wait_until(lambda: all(work.begun > 4 for work in both))
         self.assertEqual((len(self.log.rows), [work.member.gave_up for work in both]), (rows, [False, False]))
         self.assertEqual((self.failing(), self.shown.show().is_well), ({'1': False, '2': False}, False))
         both[0].fails = False
@@ -294,7 +301,7 @@ class GivesUp(Threads):
     def test_the_last_one(self) -> None:
         """It keeps what it owns, and nobody else is noted."""
         work = self.begin_member(1, True)
-        wait_until(lambda: work.begun > 4, 2 * PATIENCE)  # (later and later)
+        wait_until(lambda: work.begun > 4)
         self.assertEqual((work.member.gave_up, self.owners(), self.failing()), (False, {'1'}, {'1': False}))
 
     def test_becomes_the_only_one(self) -> None:

@@ -15,7 +15,6 @@ from pathlib import Path
 from typing import NamedTuple
 
 from bully.epochs import Opening
-from bully.logs import Found
 from bully.orders import Orders
 from bully.sqlite import SqliteLog
 from places import environment

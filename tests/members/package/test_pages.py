@@ -40,7 +40,7 @@ class Pages(Paged):
         told = json.loads(self.get('/group')[2])
         self.assertEqual((told['coordinator'], set(told['owners'])), (self.NAMES[1], {self.NAMES[1]}))
         self.assertEqual([node['present'] for node in told['nodes']], [False, True, False])
-        self.assertEqual([row['text'] for row in told['last']], self.log.rows[-20:])
+        self.assertEqual([(row['row'], row['text']) for row in told['last']], list(enumerate(self.log.rows, 2))[-20:])
         assigned = json.loads(self.get('/assignment')[2])
         self.assertEqual(
             (assigned['node'], assigned['partitions'], assigned['token']),

@@ -22,7 +22,7 @@ from bully.clocks import SECOND
 from bully.epochs import Token
 from bully.sqlite import SqliteLog
 from bully.view import LogView
-from places import ROOT, environment
+from places import environment
 from ..processes import children, ender, freeze, full_pipe, has_stopped, is_running, parent_of, thaw
 from ..waiting import PATIENCE, wait_until
 from .configurations import TOP, toml

@@ -18,10 +18,10 @@ from ..processes import children, descriptors_of, is_running
 from ..waiting import PATIENCE, wait_until
 from .below import Below, assigned
 
-# One that stays, and writes what it is told. It is `silent`, or answers too often, or ends in place of an answer, or at
-# its second begin.
+# One that stays, and writes what it is told. It is `silent`, or answers too often, or by a `longer` line, or ends in place
+# of an answer, or at its second begin.
 TALKING = """
-import json, os, sys
+import json, os, sys, time
 folder, way = sys.argv[1:]
 begun, answers = 0, os.fdopen(int(os.environ['BULLY_ANSWERS']), 'w', buffering=1)
 for line in sys.stdin:
@@ -34,6 +34,10 @@ for line in sys.stdin:
     if 'stop' in told and way in ('talks', 'fails') or way == 'early' and begun == 1 and 'stop' in told:
         print('stop', end='', file=answers, flush=True)
         print('ped', file=answers)
+    if 'stop' in told and way == 'longer':
+        print('stopped, or not', end='', file=answers, flush=True)
+        time.sleep(0.2)
+        print(file=answers)
     if 'stop' in told and way == 'ends':
         sys.exit(0)
     if begun == 2 and way == 'fails':
@@ -138,10 +142,12 @@ class Talks(Below):
         self.assertEqual((self.failures, self.lost), ([], [assigned(3, 1)]))
 
     def test_no_answer(self) -> None:
-        """It is killed, if it doesn't answer in time; or at the moment until which its work is sure."""
-        for patience, seconds in ((0.2, 1000.0), (PATIENCE, 2.0)):
-            with self.subTest(patience=patience):
-                workers = self.begin('silent', patience)
+        """It is killed, if it doesn't answer in time, or by a line that only begins so; or at the moment until which its
+        work is sure."""
+        for way, patience, seconds in (('silent', 0.2, 1000.0), ('silent', PATIENCE, 2.0), ('longer', 2.0, 1000.0)):
+            with self.subTest(way=way, patience=patience):
+                (self.folder / 'told').unlink(missing_ok=True)  # by the worker before this one
+                workers = self.begin(way, patience)
                 worker = self.worker()
                 workers.hear_until(clocks.seconds_of_boot() + seconds)
                 workers.stop(assigned(0))

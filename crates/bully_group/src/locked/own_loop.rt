@@ -13,7 +13,7 @@ use crate::seat::Seat;
 use bully_steps::Procedure;
 
 /// What became of a turn by [`Locked::turn`], which is for a caller's own loop. Each hands a procedure of the same node back.
-#[derive(Drop, Debug)]
+#[derive(Drop)]
 pub enum Turn {
     /// A step was taken, and the procedure goes on by it.
     Went(Procedure),

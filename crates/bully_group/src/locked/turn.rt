@@ -17,7 +17,7 @@ use bully_watch::Entry;
 use bully_world::{AppliedStep, Event, Next, Refused, StepKind};
 
 /// What became of a node's whole turn, in which the procedure that it holds goes on in its place.
-#[derive(Clone, Copy, PartialEq, Eq, Debug)]
+#[derive(Clone, Copy, Debug)]
 pub enum NodeTurn {
     /// The call that waited for the node ran. The procedure is as it was.
     Served,

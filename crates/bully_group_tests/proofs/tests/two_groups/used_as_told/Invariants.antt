@@ -1,7 +1,0 @@
-use Rattle.bully_group_tests.proofs.tests.two_groups.used_as_told.Given as goal
-
-abbrev pub ghosts-used_by-L-Naming : goal.ghosts-used_by-L-Naming
-ghosts-used_by-L-Naming g a = record { setup = a.setup; publisher = a.beside.now.watchers }
-
-abbrev pub ghosts-used_by-L-Ledger : goal.ghosts-used_by-L-Ledger
-ghosts-used_by-L-Ledger g a = record { name = a.blank.name; parts = a.blank.parts }

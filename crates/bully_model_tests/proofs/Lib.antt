@@ -1,3 +1,0 @@
-pub mod Trial
-pub mod Claims
-pub mod Scripts

@@ -1,0 +1,3 @@
+mod Trial
+mod Claims
+mod Scripts
