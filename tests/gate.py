@@ -21,6 +21,8 @@ from wrong_bodies import edits
 
 RECORD = ROOT / 'out' / 'proved'
 HANDED_OUT = ('crates/bully/out/bully', 'crates/bully_c/out/libbully_c.a')
+# (proofs take all that is left, and tests wait for facts, but not for ever)
+LAST = ('sh', '-c', '{ echo 10 >/proc/self/autogroup; } 2>/dev/null; exec nice -n 10 "$@"', 'sh')
 DONE = re.compile(r'^rt: (\w+) (?:NOT PROVED|proved|is kept)')
 
 
@@ -29,7 +31,7 @@ def run_gate(run: Run, crates: Crates, pool: ThreadPoolExecutor) -> bool:
     comes to the main one, comes before that or after it."""
     if 'library' in run.done:
         pool.submit(make_library, run, crates)
-    words = ['env', 'PYTHONUNBUFFERED=1', f'RT_JOBS={os.environ.get("RT_JOBS") or all_jobs()}', 'rt', 'ci']
+    words = [*LAST, 'env', 'PYTHONUNBUFFERED=1', f'RT_JOBS={os.environ.get("RT_JOBS") or all_jobs()}', 'rt', 'ci']
     gate = pool.submit(run.children.begin, words, ROOT, subprocess.PIPE, errors=None).result()
     lines: List[str] = []
     for line in io.TextIOWrapper(gate.stdout or io.BytesIO(), errors='replace'):

@@ -206,6 +206,9 @@ class Work:
         self.member: Member
         self.begun = 0
 
+    def serve(self, member: Member) -> None:
+        self.member = member
+
     def start(self, work: Assignment) -> None:
         now = seconds_of_boot()
         rest = self.failures.rest_seconds(now)
@@ -239,8 +242,8 @@ class GivesUp(Threads):
 
     def begin_member(self, node: int, fails: bool, give_up: int = 3) -> Work:
         work = self.work[node] = Work(fails, give_up)
-        work.member, _, self.threads[node] = self.begin(
-            self.log, node, self.ttl, start=lambda each: work.start(each), stop=work.stop, failures=work.failures
+        _, _, self.threads[node] = self.begin(
+            self.log, node, self.ttl, work.serve, start=work.start, stop=work.stop, failures=work.failures
         )
         return work
 

@@ -409,12 +409,13 @@ os.kill(os.getpid(), signal.SIGSTOP)
         self.assertFalse(is_running(worker))
 
     def kill_both(self, member: int, guard: int) -> None:
-        """Both at one moment: neither does anything behind the end of the other."""
-        for number in (signal.SIGSTOP, signal.SIGKILL):
-            for process in (member, guard):
-                os.kill(process, number)
-            if number == signal.SIGSTOP:
-                wait_until(lambda: has_stopped(member) and has_stopped(guard))
+        """Both at one moment: neither does anything after the end of the other. A stopped guard goes on if its member ends, so it is
+        killed first."""
+        for process in (member, guard):
+            os.kill(process, signal.SIGSTOP)
+        wait_until(lambda: has_stopped(member) and has_stopped(guard))
+        for process in (guard, member):
+            os.kill(process, signal.SIGKILL)
 
     def test_killed_with_its_guard(self) -> None:
         """The worker dies, and what that began lives, as nobody knows of it. Another member begins all the same."""

@@ -184,8 +184,7 @@ class Running(Threads):
 
         log = MemoryLog(OPENING)
         _, told, thread = self.begin(log, 1, start=start)
-        thread.join()
-        self.assertIsInstance(self.raised, KeyError)
+        self.ends_by(thread, KeyError)
         self.assertEqual(told, [f'stop {self.token_of(log)}'])
         self.assertEqual((log.rows[-1], log.presences), ('crash,1', {}))
 
@@ -200,8 +199,7 @@ class Running(Threads):
         wait_until(lambda: told)
         rows = len(log.rows)
         member.leave()
-        thread.join()
-        self.assertIsInstance(self.raised, KeyError)
+        self.ends_by(thread, KeyError)
         self.assertEqual((len(log.rows), set(log.presences)), (rows, {'1'}))
 
     def test_a_row_that_is_refused(self) -> None:
@@ -212,8 +210,7 @@ class Running(Threads):
         with log._changed:
             log.rows.append('recover,1')
             log._changed.notify_all()
-        thread.join()
-        self.assertIsInstance(self.raised, NotLearned)
+        self.ends_by(thread, NotLearned)
         self.assertEqual((len(told), log.presences), (2, {}))
 
     def test_a_stranger(self) -> None:

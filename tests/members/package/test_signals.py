@@ -95,7 +95,8 @@ class Signals(WithMember):
         with socket.create_server(('127.0.0.1', 0)) as free:
             port = free.getsockname()[1]
         words, more = self.container(port)
-        self.see_first(words, more, lambda first: waits_for(first, signal.SIGTERM))
+        # (unshare holds it back for a moment, too, and lets it by before it becomes that program)
+        self.see_first(words, more, lambda first: name_of(first) != WITHIN[0] and waits_for(first, signal.SIGTERM))
 
     def see_first(self, words: Sequence[str], more: dict[str, str], is_there: Callable[[int], bool]) -> None:
         """The first process of a container ends in order at whichever moment, once it is there."""

@@ -4,7 +4,7 @@ from __future__ import annotations
 import threading
 import time
 import unittest
-from collections.abc import Sequence
+from collections.abc import Callable, Sequence
 from typing import Any
 
 from bully.clocks import seconds_of_boot
@@ -14,6 +14,7 @@ from bully.member import Life, Promise
 from bully.memory import MemoryLog
 from bully.running import Member
 from ..steps import LONG
+from ..waiting import PATIENCE
 
 
 def put(log: Log, *rows: str) -> None:
@@ -74,17 +75,22 @@ class Noting(MemoryLog):
 
 
 class Threads(unittest.TestCase):
-    """Tests with members in threads over one log in memory."""
+    """Tests with members in threads over one log in memory. A member that raises what no test awaits is a failure."""
+
+    raised: BaseException | None = None
 
     def begin(
-        self, log: MemoryLog, node: int, ttl: float = 2.0, **more: Any
+        self, log: MemoryLog, node: int, ttl: float = 2.0, made: Callable[[Member], object] = id, **more: Any
     ) -> tuple[Member, list[str], threading.Thread]:
+        """A member that runs. `made` gets it before its callbacks may be called."""
         told: list[str] = []
         start = more.pop('start', lambda assignment: told.append(f'start {assignment.token}'))
         stop = more.pop('stop', lambda assignment: told.append(f'stop {assignment.token}'))
         member = Member(log, node, start, stop, ttl=ttl, settings=log.opening().settings, **more)
+        made(member)
         thread = threading.Thread(target=self.run_member, args=[member])
         thread.start()
+        self.addCleanup(self.see_none_raised)
         self.addCleanup(thread.join)
         self.addCleanup(member.leave)
         return member, told, thread
@@ -94,6 +100,16 @@ class Threads(unittest.TestCase):
             member.run()
         except Exception as failure:
             self.raised = failure
+
+    def ends_by(self, thread: threading.Thread, kind: type[Exception]) -> None:
+        """The member of this thread raises such an exception."""
+        thread.join(PATIENCE)
+        self.assertIsInstance(self.raised, kind)
+        self.raised = None
+
+    def see_none_raised(self) -> None:
+        if self.raised is not None:
+            raise self.raised
 
     def token_of(self, log: MemoryLog) -> Token:
         """That of the first plan."""
