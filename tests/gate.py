@@ -14,15 +14,13 @@ from typing import Dict, List
 from building.crates import ROOT, Crates, find_kit, read_crates, version_of
 from building.kept import drop, keep, made_of
 from building.library import ARCHIVE
-from building.running import all_jobs
+from building.running import all_jobs, give_way
 from counts import Counts
 from parts import Part, Run, chosen
 from wrong_bodies import edits
 
 RECORD = ROOT / 'out' / 'proved'
 HANDED_OUT = ('crates/bully/out/bully', 'crates/bully_c/out/libbully_c.a')
-# (proofs take all that is left, and tests wait for facts, but not for ever)
-LAST = ('sh', '-c', '{ echo 10 >/proc/self/autogroup; } 2>/dev/null; exec nice -n 10 "$@"', 'sh')
 DONE = re.compile(r'^rt: (\w+) (?:NOT PROVED|proved|is kept)')
 
 
@@ -31,8 +29,9 @@ def run_gate(run: Run, crates: Crates, pool: ThreadPoolExecutor) -> bool:
     comes to the main one, comes before that or after it."""
     if 'library' in run.done:
         pool.submit(make_library, run, crates)
-    words = [*LAST, 'env', 'PYTHONUNBUFFERED=1', f'RT_JOBS={os.environ.get("RT_JOBS") or all_jobs()}', 'rt', 'ci']
+    words = ['env', 'PYTHONUNBUFFERED=1', f'RT_JOBS={os.environ.get("RT_JOBS") or all_jobs()}', 'rt', 'ci']
     gate = pool.submit(run.children.begin, words, ROOT, subprocess.PIPE, errors=None).result()
+    give_way(gate.pid)  # proofs take what is left, and tests wait for facts, but not for ever
     lines: List[str] = []
     for line in io.TextIOWrapper(gate.stdout or io.BytesIO(), errors='replace'):
         print(line, end='', flush=True)

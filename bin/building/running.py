@@ -18,6 +18,13 @@ from .crates import ROOT, Stopped
 KEPT = {stream: kept for stream, kept in ((0, 7), (1, 8), (2, 9)) if Path(f'/dev/fd/{kept}').exists()}
 
 
+def give_way(process: int) -> None:
+    """Has others be served before this process and those that it begins."""
+    os.setpriority(os.PRIO_PROCESS, process, 10)
+    with suppress(OSError):  # of a kernel that has groups for that
+        Path(f'/proc/{process}/autogroup').write_text('10')
+
+
 def all_jobs(more: int = 0) -> int:
     """As many processes of the prover as there are cores, or some more; but one for each 3 GB of free memory, and one at least."""
     most, told = len(os.sched_getaffinity(0)) + more, Path('/proc/meminfo').read_text()
