@@ -18,6 +18,8 @@ from ..steps import EMPTY, LONG, OPENING, A, B, add, present
 from ..waiting import PATIENCE, wait_until
 from .in_etcd import InEtcd
 
+TTL = 5  # seconds that presences last which thirty members renew in turn
+
 
 def setUpModule() -> None:
     begin_alone(__name__)
@@ -281,11 +283,11 @@ class Killed(InEtcd):
             address = servers.address('x', *(server for server in servers.each if server is not leader))
             members = {str(node): self.opened(address, 1.0) for node in range(1, 31)}
             for name, log in members.items():
-                self.assertTrue(log.take(name, life, EMPTY, 3 * SECOND))
+                self.assertTrue(log.take(name, life, EMPTY, TTL * SECOND))
                 self.assertTrue(log.promise(name, life, Promise(1, 8)))
             self.renew_for(members, life, 1.0)
             leader.pause()
-            self.renew_for(members, life, 6.0)
+            self.renew_for(members, life, 2.0 * TTL)
             leader.resume()
             self.renew_for(members, life, 2.0)
             wait_until(servers.are_up)
@@ -299,12 +301,12 @@ class Killed(InEtcd):
         while time.monotonic() < end:
             for name, log in members.items():
                 with contextlib.suppress(Unanswered):
-                    self.assertTrue(log.renew(name, life, 3 * SECOND))
+                    self.assertTrue(log.renew(name, life, TTL * SECOND))
 
     def test_full(self) -> None:
         """An etcd that is full may have done what it refuses, the first time."""
         servers = self.servers(words=['--quota-backend-bytes', '1000000'])
-        log, count = self.begun(servers.address('x')), 0
+        log, count = self.begun(servers.address('x'), patience=PATIENCE), 0
         with self.assertRaisesRegex(Unanswered, 'space exceeded'):
             while log.promise('a', A, Promise(1, count)) and log.append(1, count, ['x' * 100_000]):
                 count += 1
@@ -340,8 +342,16 @@ class Users(InEtcd):
         server.ask('/v3/kv/deleterange', {'key': coded('x/'), 'range_end': coded('x0')}, token=token)
 
     def denied(self, call: Callable[[], object], why: str) -> None:
+        """It is refused, once the server answers: it takes long for a password if much else runs."""
+
+        def is_answered() -> bool:
+            with contextlib.suppress(Unanswered):
+                call()
+                return True
+            return False
+
         with self.assertRaisesRegex(Denied, f'^127.0.0.1:{self.servers_of_users.each[0].port}: .*{why}'):
-            call()
+            wait_until(is_answered)
 
     def test_denied(self) -> None:
         create = EtcdLog.create
