@@ -145,6 +145,8 @@ class Run:
             behind.callback(self.all_are_done)
             begun = {pool.submit(self.try_part, part): part.name for part in self.parts}
             is_green = make(pool)
+            for _ in range(1, all_jobs()):
+                self.provers.release()  # what the gate had is free
             for ended in as_completed(begun):
                 said, status, seconds = ended.result()
                 print(f'{said.rstrip()}\n== {begun[ended]}: {seconds:.0f} s', flush=True)
