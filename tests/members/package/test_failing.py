@@ -344,6 +344,7 @@ class GivesUp(Threads):
 
     def test_in_a_pause(self) -> None:
         """Nobody would take over, so nothing is given up before its end."""
+        self.ttl = 2.0  # that no presence ends
         self.begin_member(1, False)
         fails = self.begin_member(3, False, 1)
         wait_until(lambda: self.owners() == {'1', '3'})
