@@ -1,28 +1,29 @@
 /* bully.h: one node of a group, or what a process knows of a group and does in it, from C and from whatever calls C.
  *
- * The node elects a coordinator with its group by Garcia-Molina's Bully algorithm and has the group's task, as `docs/NODE.md`
- * says: that page has the two ways to embed a node, what the program has to keep, and why. An agent is one node that sends calls to
- * the others. A replica is what a process knows of a group whose history is a log in a store outside. A member is such a process, by
- * its rules: it says what is to be done next. This library leaves sockets, stores, clocks, threads and files to the program; it makes
- * no thread, takes no lock and prints nothing. `bin/library` builds it.
+ * The node elects a coordinator with its group by Garcia-Molina's Bully algorithm and has the group's task.
+ * `docs/NODE.md` has the two ways to embed a node, what the program has to keep, and why. An agent is one node that
+ * sends calls to the others. A replica is what a process knows of a group whose history is a log in a store outside. A
+ * member has the rules of such a process: it says what is to be done next. This library leaves sockets, stores, clocks,
+ * threads and files to the program; it makes no thread, takes no lock and prints nothing. `bin/library` builds it.
  *
- * Each function answers a status. If that isn't BULLY_OK, nothing has changed and nothing was written but what the
- * function's comment says. Each tests its arguments, in the order in which the statuses stand in its comment:
+ * Each function returns a status. If that isn't BULLY_OK, nothing has changed, and nothing was written but what the
+ * function's comment says. Each function tests its arguments in the order in which its comment lists the statuses:
  *
- * - BULLY_NULL: a pointer is null that must not be, or a length is above PTRDIFF_MAX bytes. A pointer with a `size_t` right after it
- *   leads to so many items, any other one to one item. A pointer to no items may be null.
+ * - BULLY_NULL: a pointer is null that must not be, or a length is above PTRDIFF_MAX bytes. A pointer with a `size_t`
+ *   right after it points to that many items, any other one to one item. A pointer to no items may be null.
  * - BULLY_CLOSED: the handle isn't open.
  *
- * What no test can see, the program has to keep:
+ * The program has to keep these rules, which no test can see:
  *
- * - a handle is zeroed before it is opened, and nothing but this library writes it then; it may be moved, but no copy is used
- *   beside it;
+ * - a handle is zeroed before it is opened, and nothing but this library writes it then; it may be moved, but no copy
+ *   is used beside it;
  * - one call of a handle at a time; it may go from thread to thread, and other threads may use other handles meanwhile;
- * - a pointer and its length speak of memory that is there, and no two of them of the same memory, unless both are only read;
+ * - a pointer and its length are those of memory that is there, and no two of them of the same memory, unless both are
+ *   only read;
  * - malloc, realloc and free are those of the C library, and no call comes from a signal handler.
  *
- * Nodes are numbered from 1, and 0 stands for none. A table has an owner, a node, for each partition. Text is ASCII, without a
- * zero byte at its end: its length says where it ends.
+ * Nodes are numbered from 1, and 0 means none. A table has an owner, a node, for each partition. Text is ASCII, without
+ * a zero byte at its end: its length says where it ends.
  */
 #ifndef BULLY_H
 #define BULLY_H
@@ -55,7 +56,7 @@ enum {
     BULLY_OK = 0,
 
     /* Why an event is refused, as `docs/ALGORITHM.md` lists the causes. */
-    BULLY_FULL = 1,         /* as many events as the setup bounds were told */
+    BULLY_FULL = 1,         /* there are as many events as the setup allows */
     BULLY_BAD_NODE = 2,     /* a node is none of the setup's */
     BULLY_IS_DOWN = 3,      /* the node is Down */
     BULLY_IS_UP = 4,        /* the node recovers and isn't Down */
@@ -86,7 +87,7 @@ enum {
     BULLY_BAD_TTL = 34,        /* ttl: below BULLY_TTL_MIN, or more than BULLY_TTL_MAX */
     BULLY_BAD_ANSWER = 35,     /* no number of an answer of a store */
 
-    /* The first fault of a line, from its left, as `docs/NODE.md` lists them. */
+    /* The first fault of a line, from its left, as `docs/FORMATS.md` lists them. */
     BULLY_LINE_WORD = 40,   /* it doesn't begin with `ask`, or with `tell`, or isn't UTF-8 */
     BULLY_LINE_CALLER = 41,
     BULLY_LINE_NUMBER = 42,
@@ -108,20 +109,21 @@ enum {
     BULLY_BAD_CONFIG = 55
 };
 
-/* The status's name, as BULLY_OK is named "OK"; "?" of a number that is none. It never fails, and the text is never freed. */
+/* The status's name, as "OK" for BULLY_OK; "?" for a number that is no status. It never fails, and the text is never
+ * freed. */
 const char *bully_status_name(bully_status status);
 
-/* The version of the library, as `bully --version` tells it. It never fails, and the text is never freed. */
+/* The version of the library, as `bully --version` prints it. It never fails, and the text is never freed. */
 const char *bully_version(void);
 
 /* ---- Setups ---- */
 
-/* What the group is set up with. Behind it, where a function takes a setup, stand the weights of its nodes, that of node 1 first:
- * as many as nodes, each from 1 to BULLY_WEIGHT_MAX; or none, and then each weighs 1. */
+/* What the group is set up with. A function that takes a setup takes the weights of its nodes after it, that of node 1
+ * first: as many as nodes, each from 1 to BULLY_WEIGHT_MAX; or none, and then each weighs 1. */
 typedef struct bully_setup {
     uint16_t nodes;      /* 1 to BULLY_NODES_MAX */
     uint16_t partitions; /* 1 to BULLY_PARTITIONS_MAX */
-    uint32_t events_max; /* 1 to BULLY_EVENTS_MAX: how many events the group tells at most */
+    uint32_t events_max; /* 1 to BULLY_EVENTS_MAX: how many events the group has at most */
     uint32_t keeps;      /* not 0: a node keeps its task over a crash */
 } bully_setup;
 
@@ -135,59 +137,63 @@ typedef struct bully_verdict {
     bully_status cause; /* refused: why; else BULLY_OK */
 } bully_verdict;
 
-/* Judges a trace, as `bully check` does. Of a trace that has a fault of form, `number` of the verdict is its row; it is 0
- * where an allocation failed.
+/* Judges a trace, as `bully check` does. If the trace has a fault of form, `number` of the verdict is its row; it is 0
+ * if an allocation failed.
  * BULLY_NULL; BULLY_OUT_OF_MEMORY; BULLY_BAD_HEADER, BULLY_BAD_ROW, BULLY_TOO_MANY_ROWS: the first in the trace. */
 bully_status bully_check(const uint8_t *trace, size_t length, bully_verdict *verdict);
 
-/* The header of a trace of this setup, with its line end: of version 1 if that can tell it, and else of version 2, as
- * `docs/FORMATS.md` says. A header doesn't tell events_max: the bound of a trace is BULLY_EVENTS_MAX.
- * BULLY_NULL, BULLY_BAD_NODES, BULLY_BAD_PARTITIONS, BULLY_BAD_LIMIT, BULLY_BAD_WEIGHTS, BULLY_OUT_OF_MEMORY; BULLY_SHORT, with the
- * length. */
-bully_status bully_header(const bully_setup *setup, const uint16_t *weights, size_t weight_count, char *row, size_t room,
-                          size_t *length);
+/* The header of a trace of this setup, with its line end: of version 1 if that can express the setup, and else of
+ * version 2, as `docs/FORMATS.md` says. A header doesn't have events_max: the bound of a trace is BULLY_EVENTS_MAX.
+ * BULLY_NULL, BULLY_BAD_NODES, BULLY_BAD_PARTITIONS, BULLY_BAD_LIMIT, BULLY_BAD_WEIGHTS, BULLY_OUT_OF_MEMORY;
+ * BULLY_SHORT, with the length. */
+bully_status bully_header(const bully_setup *setup, const uint16_t *weights, size_t weight_count, char *row,
+                          size_t room, size_t *length);
 
 /* ---- Configurations ---- */
 
-/* Reads a group's configuration, a TOML document as `docs/FORMATS.md` has it, and tells the group: the header of a log of it,
- * as bully_header has that, and then a line for each node in the order of their numbers: how many bytes its name has, a colon
- * and the name. This text is in UTF-8: a name may have any characters, a line end or a zero byte, too.
- * BULLY_NULL, BULLY_OUT_OF_MEMORY; BULLY_BAD_CONFIG, and then its first fault is told as that page names it, as `Range nodes`;
- * BULLY_SHORT, with the length. */
+/* Reads a group's configuration, a TOML document as `docs/FORMATS.md` defines it, and writes the group: the header of a
+ * log of it, as bully_header writes that, and then a line for each node in the order of their numbers: how many bytes
+ * its name has, a colon and the name. This text is in UTF-8: a name may have any characters, also a line end or a zero
+ * byte.
+ * BULLY_NULL, BULLY_OUT_OF_MEMORY; BULLY_BAD_CONFIG, and then its first fault is written as that page names it, as
+ * `Range nodes`; BULLY_SHORT, with the length. */
 bully_status bully_configuration(const uint8_t *text, size_t length, char *told, size_t room, size_t *told_length);
 
 /* ---- Tables ---- */
 
-/* Plans the table over these members, in any order and each counted once: balanced, with the fewest moves from the old table;
- * old_count 0: from none. `owners` has room for owner_count owners, as many as there are partitions, and `moves` gets how many
- * partitions change their owner: all of them, where there is no old table.
+/* Plans the table over these members, in any order and each counted once: balanced, with the fewest moves from the old
+ * table; old_count 0: from none. `owners` has room for owner_count owners, as many as there are partitions, and `moves`
+ * gets how many partitions change their owner: all of them, if there is no old table.
  * BULLY_NULL, BULLY_BAD_NODES, BULLY_BAD_PARTITIONS, BULLY_BAD_LIMIT, BULLY_BAD_WEIGHTS; BULLY_BAD_NODE: a member;
  * BULLY_TABLE_LENGTH: of the old table, or of owner_count; BULLY_TABLE_OWNER: of the old table; BULLY_NO_MEMBER;
  * BULLY_OUT_OF_MEMORY. */
-bully_status bully_table(const bully_setup *setup, const uint16_t *weights, size_t weight_count, const uint16_t *members,
-                         size_t member_count, const uint16_t *old, size_t old_count, uint16_t *owners, size_t owner_count,
-                         uint16_t *moves);
+bully_status bully_table(const bully_setup *setup, const uint16_t *weights, size_t weight_count,
+                         const uint16_t *members, size_t member_count, const uint16_t *old, size_t old_count,
+                         uint16_t *owners, size_t owner_count, uint16_t *moves);
 
 /* ---- One node ---- */
 
-/* A handle of an agent: what the library keeps of one node. Closed where it is zeroed. */
+/* A handle of an agent: what the library keeps of one node. Closed if it is zeroed. */
 typedef struct bully_agent {
     void *held;
 } bully_agent;
 
 #define BULLY_AGENT_CLOSED { NULL }
 
-/* Opens the handle: the agent of a node that is Down, whose log has so many events, 0 at first, and has kept this task;
- * task_count 0: none. With as many events as the setup bounds, or more, it is opened, and each event is BULLY_FULL.
+/* Opens the handle: the agent of a node that is Down, whose log has this many events, 0 at first, and which has kept
+ * this task; task_count 0: none. With as many events as the setup allows, or more, it is opened, and each event is
+ * BULLY_FULL.
  * BULLY_NULL, BULLY_OPEN, BULLY_BAD_NODES, BULLY_BAD_PARTITIONS, BULLY_BAD_LIMIT, BULLY_BAD_WEIGHTS, BULLY_BAD_NODE,
  * BULLY_TABLE_LENGTH, BULLY_TABLE_OWNER, BULLY_OUT_OF_MEMORY. */
-bully_status bully_agent_open(bully_agent *agent, const bully_setup *setup, const uint16_t *weights, size_t weight_count,
-                              uint16_t node, uint32_t events, const uint16_t *task, size_t task_count);
+bully_status bully_agent_open(bully_agent *agent, const bully_setup *setup, const uint16_t *weights,
+                              size_t weight_count, uint16_t node, uint32_t events, const uint16_t *task,
+                              size_t task_count);
 
 /* Closes the handle, and gives back all that was kept. BULLY_NULL, BULLY_CLOSED. */
 bully_status bully_agent_close(bully_agent *agent);
 
-/* What a node does by itself. Each that is BULLY_OK is one event of the group, and `bully_agent_rows` has its row for the log. */
+/* What a node does by itself. Each that is BULLY_OK is one event of the group, and `bully_agent_rows` has its row for
+ * the log. */
 
 /* The node recovers, and stands for election. BULLY_NULL, BULLY_CLOSED, BULLY_FULL, BULLY_IS_UP. */
 bully_status bully_agent_recover(bully_agent *agent);
@@ -200,34 +206,40 @@ bully_status bully_agent_timeout(bully_agent *agent);
 /* The node starts the call that it wants to start; `bully_agent_request` then has what is to be sent.
  * BULLY_NULL, BULLY_CLOSED, BULLY_FULL, BULLY_IS_DOWN, BULLY_NO_STEP, BULLY_SLOT_BUSY. */
 bully_status bully_agent_start(bully_agent *agent);
-/* The node moves on without a call. BULLY_NULL, BULLY_CLOSED, BULLY_FULL, BULLY_IS_DOWN, BULLY_NO_STEP, BULLY_SLOT_BUSY. */
+/* The node moves on without a call. BULLY_NULL, BULLY_CLOSED, BULLY_FULL, BULLY_IS_DOWN, BULLY_NO_STEP,
+ * BULLY_SLOT_BUSY. */
 bully_status bully_agent_advance(bully_agent *agent);
 /* The node has planned this table, as `bully_agent_prepare` makes one.
- * BULLY_NULL, BULLY_CLOSED, BULLY_TABLE_LENGTH, BULLY_TABLE_OWNER, BULLY_OUT_OF_MEMORY, BULLY_FULL, BULLY_IS_DOWN, BULLY_NO_STEP,
- * BULLY_SLOT_BUSY, BULLY_BAD_TABLE. */
+ * BULLY_NULL, BULLY_CLOSED, BULLY_TABLE_LENGTH, BULLY_TABLE_OWNER, BULLY_OUT_OF_MEMORY, BULLY_FULL, BULLY_IS_DOWN,
+ * BULLY_NO_STEP, BULLY_SLOT_BUSY, BULLY_BAD_TABLE. */
 bully_status bully_agent_plan(bully_agent *agent, const uint16_t *owners, size_t owner_count);
-/* The node's call, an orphan, is given up. BULLY_NULL, BULLY_CLOSED, BULLY_FULL, BULLY_IS_DOWN, BULLY_NO_CALL, BULLY_NOT_ORPHAN. */
+/* The node's call, an orphan, is given up. BULLY_NULL, BULLY_CLOSED, BULLY_FULL, BULLY_IS_DOWN, BULLY_NO_CALL,
+ * BULLY_NOT_ORPHAN. */
 bully_status bully_agent_drop_orphan(bully_agent *agent);
 
 /* The table that the node should plan, from this old one; old_count 0: from none. No event.
- * BULLY_NULL, BULLY_CLOSED; BULLY_TABLE_LENGTH: of the old table, or of owner_count; BULLY_TABLE_OWNER, BULLY_OUT_OF_MEMORY. */
-bully_status bully_agent_prepare(bully_agent *agent, const uint16_t *old, size_t old_count, uint16_t *owners, size_t owner_count);
+ * BULLY_NULL, BULLY_CLOSED; BULLY_TABLE_LENGTH: of the old table, or of owner_count; BULLY_TABLE_OWNER,
+ * BULLY_OUT_OF_MEMORY. */
+bully_status bully_agent_prepare(bully_agent *agent, const uint16_t *old, size_t old_count, uint16_t *owners,
+                                 size_t owner_count);
 
 /* What comes from other nodes, or goes to them. Lines have no line end. */
 
-/* The line of the request of the node's call, while that is under way, to be sent to its callee, once; a length of 0: none is.
- * No event. BULLY_NULL, BULLY_CLOSED, BULLY_OUT_OF_MEMORY; BULLY_SHORT, with the length. */
+/* The line of the request of the node's call, while the call is under way, to be sent to its callee, once; a length of
+ * 0: no call is. No event. BULLY_NULL, BULLY_CLOSED, BULLY_OUT_OF_MEMORY; BULLY_SHORT, with the length. */
 bully_status bully_agent_request(bully_agent *agent, char *line, size_t room, size_t *length);
-/* The request of this line runs at the node; what is written is the line of the reply to its caller. One event. Premise: the
- * request is the caller's call, and runs once, while that is under way.
+/* The request of this line runs at the node; what is written is the line of the reply to its caller. One event.
+ * Premise: the request is the caller's call, and runs once, while the call is under way.
  * BULLY_NULL, BULLY_CLOSED, BULLY_LINE_.., BULLY_OUT_OF_MEMORY; BULLY_SHORT: room below that line, with its length,
  * which is at most BULLY_REPLY_MAX; BULLY_FULL, BULLY_BAD_NODE, BULLY_NO_CALL, BULLY_CALLEE_DOWN. */
-bully_status bully_agent_serve(bully_agent *agent, const char *line, size_t line_length, char *reply, size_t room, size_t *length);
-/* The node's call returns with the reply of this line; `answer` gets what it is told. One event. Premise: the call ran at its
- * callee, and was answered so. BULLY_NULL, BULLY_CLOSED, BULLY_LINE_.., BULLY_FULL; BULLY_NO_CALL: it is no reply to the call under
- * way. */
+bully_status bully_agent_serve(bully_agent *agent, const char *line, size_t line_length, char *reply, size_t room,
+                               size_t *length);
+/* The node's call returns with the reply of this line; `answer` gets what it brought. One event. Premise: the call ran
+ * at its callee, and was answered so. BULLY_NULL, BULLY_CLOSED, BULLY_LINE_.., BULLY_FULL; BULLY_NO_CALL: it is no
+ * reply to the call under way. */
 bully_status bully_agent_replied(bully_agent *agent, const char *line, size_t line_length, uint32_t *answer);
-/* The node's call of this number failed, and returns; `answer` gets what it is told. Two events. Premise: the callee is Down.
+/* The node's call of this number failed, and returns; `answer` gets what it brought. Two events. Premise: the callee is
+ * Down.
  * BULLY_NULL, BULLY_CLOSED; BULLY_FULL: without room for both; BULLY_NO_CALL. */
 bully_status bully_agent_failed(bully_agent *agent, uint32_t number, uint32_t *answer);
 
@@ -237,7 +249,13 @@ enum { BULLY_DONE = 0, BULLY_YES = 1, BULLY_NO = 2, BULLY_FAILED = 3, BULLY_DISC
 /* ---- What an agent or a replica shows of a node. No event. ---- */
 
 enum { BULLY_DOWN = 0, BULLY_ELECTION = 1, BULLY_REORGANIZATION = 2, BULLY_NORMAL = 3 };
-enum { BULLY_WANTS_NOTHING = 0, BULLY_WANTS_START = 1, BULLY_WANTS_MOVE = 2, BULLY_WANTS_PLAN = 3, BULLY_WANTS_AWAIT = 4 };
+enum {
+    BULLY_WANTS_NOTHING = 0,
+    BULLY_WANTS_START = 1,
+    BULLY_WANTS_MOVE = 2,
+    BULLY_WANTS_PLAN = 3,
+    BULLY_WANTS_AWAIT = 4
+};
 enum {
     BULLY_NO_CALL_KIND = 0,
     BULLY_ARE_YOU_UP = 1,
@@ -250,8 +268,8 @@ enum {
 typedef struct bully_state {
     uint32_t status;      /* BULLY_DOWN, BULLY_ELECTION, BULLY_REORGANIZATION or BULLY_NORMAL */
     uint32_t wants;       /* what it wants to do next: BULLY_WANTS_.. */
-    uint32_t events;      /* of an agent: how many it told, with those before it was opened; of a replica: those of its log */
-    uint32_t generation;  /* how often it was stopped or crashed: of an agent since it was opened, of a replica in its log */
+    uint32_t events;      /* of an agent: its events, with those before it was opened; of a replica: those of its log */
+    uint32_t generation;  /* how often it was stopped or crashed: an agent since it was opened, a replica in its log */
     uint32_t call;        /* the kind of the call in its slot */
     uint32_t orphan;      /* 1: that call is an orphan; else 0 */
     uint32_t number;      /* of an agent: of its last call; of a replica: 0 */
@@ -261,14 +279,14 @@ typedef struct bully_state {
     uint16_t callee;      /* of the call in its slot; 0: there is none */
 } bully_state;
 
-/* How the node stands. BULLY_NULL, BULLY_CLOSED. */
+/* The state of the node. BULLY_NULL, BULLY_CLOSED. */
 bully_status bully_agent_show(bully_agent *agent, bully_state *state);
-/* The nodes of its up set, rising. BULLY_NULL, BULLY_CLOSED; BULLY_SHORT, with the count. */
+/* The nodes of its up set, in rising order. BULLY_NULL, BULLY_CLOSED; BULLY_SHORT, with the count. */
 bully_status bully_agent_up(bully_agent *agent, uint16_t *nodes, size_t room, size_t *count);
 /* The owners of its task; a count of 0: it has none. BULLY_NULL, BULLY_CLOSED; BULLY_SHORT, with the count. */
 bully_status bully_agent_task(bully_agent *agent, uint16_t *owners, size_t room, size_t *count);
-/* The rows of its last step, for the log, each with its line end, as `docs/FORMATS.md` has them of version 3; a length of 0: it
- * took none since it was opened. BULLY_NULL, BULLY_CLOSED, BULLY_OUT_OF_MEMORY; BULLY_SHORT, with the length. */
+/* The rows of its last step, for the log, each with its line end, in version 3 of `docs/FORMATS.md`; a length of 0: it
+ * took no step since it was opened. BULLY_NULL, BULLY_CLOSED, BULLY_OUT_OF_MEMORY; BULLY_SHORT, with the length. */
 bully_status bully_agent_rows(bully_agent *agent, char *rows, size_t room, size_t *length);
 /* The row that says all of its vector, with its line end.
  * BULLY_NULL, BULLY_CLOSED, BULLY_OUT_OF_MEMORY; BULLY_SHORT, with the length. */
@@ -283,26 +301,29 @@ typedef struct bully_replica {
 
 #define BULLY_REPLICA_CLOSED { NULL }
 
-/* Opens the handle: the replica of a log that begins with this header, a row with its line end or without, before any other row.
- * BULLY_NULL, BULLY_OPEN; BULLY_BAD_HEADER: it is none, or rows stand behind it; BULLY_OUT_OF_MEMORY. */
+/* Opens the handle: the replica of a log that begins with this header, a row with its line end or without, before any
+ * other row.
+ * BULLY_NULL, BULLY_OPEN; BULLY_BAD_HEADER: it is none, or rows come after it; BULLY_OUT_OF_MEMORY. */
 bully_status bully_replica_open(bully_replica *replica, const char *header, size_t length);
 
 /* Closes the handle, and gives back all that was kept. BULLY_NULL, BULLY_CLOSED. */
 bully_status bully_replica_close(bully_replica *replica);
 
-/* Learns the rows that stand next in the log, each with its line end, a line feed, in their order and as `bully_check` takes them: up
- * to the first that isn't a row, is refused or says what isn't so. A blank line is no row, and isn't counted. `taken` gets how many were learned, also if the status isn't BULLY_OK: that says why the
- * next one wasn't, and what was learned before it stays.
- * BULLY_NULL, BULLY_CLOSED: `taken` is as before; BULLY_ROW_END: none was learned. Then of the first that isn't learned:
- * BULLY_OUT_OF_MEMORY; BULLY_TOO_MANY_ROWS; BULLY_BAD_ROW, also for a byte-order mark in front; BULLY_FULL to BULLY_NOT_ORPHAN: its event is refused; BULLY_ROW_DIFFERS. */
+/* Learns the rows that come next in the log, each with its line end, a line feed, in their order and as `bully_check`
+ * takes them: up to the first that isn't a row, is refused or says what isn't so. A blank line is no row, and isn't
+ * counted. `taken` gets how many were learned, also if the status isn't BULLY_OK. The status then says why the next one
+ * wasn't learned, and what was learned before it stays.
+ * BULLY_NULL, BULLY_CLOSED: `taken` is as before; BULLY_ROW_END: none was learned. Then of the first that isn't
+ * learned: BULLY_OUT_OF_MEMORY; BULLY_TOO_MANY_ROWS; BULLY_BAD_ROW, also for a byte-order mark in front; BULLY_FULL to
+ * BULLY_NOT_ORPHAN: its event is refused; BULLY_ROW_DIFFERS. */
 bully_status bully_replica_learn(bully_replica *replica, const char *rows, size_t length, size_t *taken);
 
-/* The row that the node appends next by itself, with its line end; a length of 0: it rests. If it isn't Down, it first runs the
- * call of the lowest caller that waits for it. Else its procedure takes a step, and a table is planned from that of the last plan.
- * The row says no more than its event, also in a log of version 3. The replica doesn't learn it: append it to the log first, behind
- * exactly the rows that were learned.
- * BULLY_NULL, BULLY_CLOSED, BULLY_BAD_NODE, BULLY_OUT_OF_MEMORY; BULLY_FULL: the log has as many rows or events as a trace has at
- * most; BULLY_SHORT, with the length. */
+/* The row that the node appends next by itself, with its line end; a length of 0: it rests. If it isn't Down, it first
+ * runs the call of the lowest caller that waits for it. Else its procedure takes a step, and a table is planned from
+ * that of the last plan. The row says no more than its event, also in a log of version 3. The replica doesn't learn it:
+ * append it to the log first, right after the rows that were learned.
+ * BULLY_NULL, BULLY_CLOSED, BULLY_BAD_NODE, BULLY_OUT_OF_MEMORY; BULLY_FULL: the log has as many rows or events as a
+ * trace may have; BULLY_SHORT, with the length. */
 bully_status bully_replica_next(bully_replica *replica, uint16_t node, char *row, size_t room, size_t *length);
 
 /* Events that a process appends for reasons of its own. (`bully_replica_next` drops an orphan by itself.) */
@@ -314,64 +335,69 @@ enum {
     BULLY_EVENT_DROP = 5
 };
 
-/* The row of this event of the node, with its line end, to be appended as `bully_replica_next` says; or why it is refused.
- * BULLY_NULL, BULLY_CLOSED, BULLY_BAD_NODE, BULLY_BAD_EVENT; BULLY_FULL, BULLY_IS_DOWN, BULLY_IS_UP, BULLY_BUSY, BULLY_NO_CALL,
- * BULLY_NOT_ORPHAN; BULLY_OUT_OF_MEMORY; BULLY_SHORT, with the length. */
-bully_status bully_replica_event(bully_replica *replica, uint16_t node, uint32_t event, char *row, size_t room, size_t *length);
+/* The row of this event of the node, with its line end, to be appended as `bully_replica_next` says; or why it is
+ * refused.
+ * BULLY_NULL, BULLY_CLOSED, BULLY_BAD_NODE, BULLY_BAD_EVENT; BULLY_FULL, BULLY_IS_DOWN, BULLY_IS_UP, BULLY_BUSY,
+ * BULLY_NO_CALL, BULLY_NOT_ORPHAN; BULLY_OUT_OF_MEMORY; BULLY_SHORT, with the length. */
+bully_status bully_replica_event(bully_replica *replica, uint16_t node, uint32_t event, char *row, size_t room,
+                                 size_t *length);
 
-/* How the node stands. BULLY_NULL, BULLY_CLOSED, BULLY_BAD_NODE. */
+/* The state of the node. BULLY_NULL, BULLY_CLOSED, BULLY_BAD_NODE. */
 bully_status bully_replica_show(bully_replica *replica, uint16_t node, bully_state *state);
-/* The nodes of the node's up set, rising. BULLY_NULL, BULLY_CLOSED, BULLY_BAD_NODE; BULLY_SHORT, with the count. */
+/* The nodes of the node's up set, in rising order. BULLY_NULL, BULLY_CLOSED, BULLY_BAD_NODE; BULLY_SHORT, with the
+ * count. */
 bully_status bully_replica_up(bully_replica *replica, uint16_t node, uint16_t *nodes, size_t room, size_t *count);
-/* The owners of the node's task; a count of 0: it has none. BULLY_NULL, BULLY_CLOSED, BULLY_BAD_NODE; BULLY_SHORT, with the count. */
+/* The owners of the node's task; a count of 0: it has none. BULLY_NULL, BULLY_CLOSED, BULLY_BAD_NODE; BULLY_SHORT, with
+ * the count. */
 bully_status bully_replica_task(bully_replica *replica, uint16_t node, uint16_t *owners, size_t room, size_t *count);
 
 typedef struct bully_group {
     uint32_t rows;       /* how many rows were learned, claims too */
-    uint32_t events;     /* how many events they told */
-    uint32_t token;      /* of the last plan: how many events there are up to it and with it; 0: there is none */
-    uint16_t planner;    /* whose the last plan is; 0: there is none */
-    uint16_t nodes;      /* what the header tells */
+    uint32_t events;     /* how many of them were events */
+    uint32_t token;      /* of the last plan: the number of events up to and including it; 0: there is none */
+    uint16_t planner;    /* the node that made the last plan; 0: there is none */
+    uint16_t nodes;      /* as the header has it */
     uint16_t partitions;
     uint16_t keeps;      /* 1: a node keeps its task over a crash; else 0 */
 } bully_group;
 
-/* How the group stands. Each node that is Normal has the last plan's planner as coordinator, and its table as task.
+/* The state of the group. Each node that is Normal has the last plan's planner as coordinator, and its table as task.
  * BULLY_NULL, BULLY_CLOSED. */
 bully_status bully_replica_group(bully_replica *replica, bully_group *group);
-/* The owners of the last plan's table; a count of 0: there is none. BULLY_NULL, BULLY_CLOSED; BULLY_SHORT, with the count. */
+/* The owners of the last plan's table; a count of 0: there is none. BULLY_NULL, BULLY_CLOSED; BULLY_SHORT, with the
+ * count. */
 bully_status bully_replica_planned(bully_replica *replica, uint16_t *owners, size_t room, size_t *count);
 
-/* Nodes that are present may stand in any order, and each counts once. An old table is the last one of an epoch before, by the
- * numbers of this group, for a log without a plan; old_count 0: there is none. In it 0 stands for an owner that this group hasn't.
- * To the library that is the node behind the group's last; or node 1 in a group of BULLY_NODES_MAX nodes, which may then keep what
- * it didn't have. */
+/* Live nodes may be in any order, and each counts once. An old table is the last one of an epoch before, in the numbers
+ * of this group, for a log without a plan; old_count 0: there is none. In it 0 means an owner that this group doesn't
+ * have. The library takes that as the node after the group's last one; in a group of BULLY_NODES_MAX nodes as node 1,
+ * which may then keep what it didn't have. */
 
-/* The rows that bring the group to rest among the nodes that are present, each with its line end: they are to be appended behind
- * exactly the rows that were learned, with nothing between, and by one process alone. With nobody present all crash; else the
- * highest is elected, and plans, from the last plan's table, or else from the old one. They are at most 11 for each node of the
- * group. The replica doesn't learn them.
- * BULLY_NULL, BULLY_CLOSED; BULLY_BAD_NODE: one that is present; BULLY_TABLE_LENGTH, BULLY_TABLE_OWNER: of the old table;
+/* The rows that make the group stable among the live nodes, each with its line end. Append them right after the rows
+ * that were learned, with nothing between, and in one process alone. With no live node all nodes crash; else the
+ * highest live node is elected, and plans from the last plan's table, or else from the old one. They are at most 11 for
+ * each node of the group. The replica doesn't learn them.
+ * BULLY_NULL, BULLY_CLOSED; BULLY_BAD_NODE: one of `live`; BULLY_TABLE_LENGTH, BULLY_TABLE_OWNER: of the old table;
  * BULLY_FULL: the log has no room for all of them; BULLY_OUT_OF_MEMORY; BULLY_SHORT, with the length. */
-bully_status bully_replica_settle(bully_replica *replica, const uint16_t *present, size_t present_count, const uint16_t *old,
-                                  size_t old_count, char *rows, size_t room, size_t *length);
-/* Whether the group is at rest among the nodes that are present: all of these are Normal under the highest of them, all others are
- * Down, and if any is present, there is a last plan, its token is above this place, and all its owners are present. `rests` gets
- * 1, or else 0.
+bully_status bully_replica_rebalance(bully_replica *replica, const uint16_t *live, size_t live_count,
+                                     const uint16_t *old, size_t old_count, char *rows, size_t room, size_t *length);
+/* Whether the group is stable among the live nodes: all of these are Normal under the highest of them, all others are
+ * Down, and if any node is live, there is a last plan, its token is above this offset, and all its owners are live.
+ * `is_stable` gets 1, or else 0.
  * BULLY_NULL, BULLY_CLOSED, BULLY_BAD_NODE. */
-bully_status bully_replica_is_at_rest(bully_replica *replica, const uint16_t *present, size_t present_count, uint32_t place,
-                                      uint32_t *rests);
-/* By which token the node's process may work behind so many events, and on which partitions, rising, the first of a group being 0:
- * the node is Normal, and the last plan's token is above this place. A token and a count of 0: on none.
+bully_status bully_replica_is_stable(bully_replica *replica, const uint16_t *live, size_t live_count, uint32_t offset,
+                                     uint32_t *is_stable);
+/* By which token the node's process may work, and on which partitions, in rising order: the node is Normal, and the
+ * last plan's token is above this offset. The first partition of a group is 0. A token and a count of 0: on none.
  * BULLY_NULL, BULLY_CLOSED, BULLY_BAD_NODE, BULLY_OUT_OF_MEMORY; BULLY_SHORT, with the token and the count. */
-bully_status bully_replica_owned(bully_replica *replica, uint16_t node, uint32_t place, uint32_t *token, uint16_t *partitions, size_t room,
-                                 size_t *count);
+bully_status bully_replica_owned(bully_replica *replica, uint16_t node, uint32_t offset, uint32_t *token,
+                                 uint16_t *partitions, size_t room, size_t *count);
 
 /* ---- A process that acts for a node, by the rules of a member ---- */
 
-/* A handle of a member: what the library keeps of a process that acts for one node of a group, as `docs/ALGORITHM.md` has its rules.
+/* A handle of a member: what the library keeps of a process that acts for one node of a group, as `docs/REBALANCING.md` has its rules.
  * It says what is to be done now, whoever drives it does that, and tells it what became of it. It has no clock, no store and no
- * chance of its own. Times are whole nanoseconds of one clock that never goes back. A place in an epoch's log is how many rows
+ * chance of its own. Times are whole nanoseconds of one clock that never goes back. An offset in an epoch's log is how many rows
  * stand behind its header; each of them is an event. Closed if it is zeroed. */
 typedef struct bully_member {
     void *held;
@@ -379,47 +405,51 @@ typedef struct bully_member {
 
 #define BULLY_MEMBER_CLOSED { NULL }
 
-/* Opens the handle: a member that has learned nothing, and asked for nothing, of an epoch whose log begins with this header, for
- * the node that has its name there. rows_max: how many rows the log may have, from 22 for each node to BULLY_EVENTS_MAX. The old
- * table is as `bully_replica_settle` takes one. process: a number that no other process of the group ever has. ttl: for how long a
- * presence lasts from its last renewal.
- * BULLY_NULL, BULLY_OPEN; BULLY_BAD_HEADER: it is none, or rows stand behind it; BULLY_BAD_NODE, BULLY_TABLE_LENGTH,
+/* Opens the handle: a member that has learned nothing, and asked for nothing, of an epoch whose log begins with this
+ * header, for the node that has its name there. rows_max: how many rows the log may have, from 22 for each node to
+ * BULLY_EVENTS_MAX. The old table is as `bully_replica_rebalance` takes one. process: a number that no other process of
+ * the group ever has. ttl: for how long a lease lasts after its last renewal.
+ * BULLY_NULL, BULLY_OPEN; BULLY_BAD_HEADER: it is none, or rows come after it; BULLY_BAD_NODE, BULLY_TABLE_LENGTH,
  * BULLY_TABLE_OWNER, BULLY_BAD_ROWS_MAX, BULLY_BAD_TTL, BULLY_OUT_OF_MEMORY. */
-bully_status bully_member_open(bully_member *member, const char *header, size_t length, uint32_t epoch, uint16_t node, uint32_t rows_max,
-                               const uint16_t *old, size_t old_count, uint64_t process, uint64_t ttl);
+bully_status bully_member_open(bully_member *member, const char *header, size_t length, uint32_t epoch, uint16_t node,
+                               uint32_t rows_max, const uint16_t *old, size_t old_count, uint64_t process,
+                               uint64_t ttl);
 
 /* Closes the handle, and gives back all that was kept. BULLY_NULL, BULLY_CLOSED. */
 bully_status bully_member_close(bully_member *member);
 
 /* What a step is. */
 enum {
-    BULLY_STEP_ASK = 1,   /* to ask the store for `request`, and to tell what became of that */
-    BULLY_STEP_BEGIN = 2, /* to begin to work by `token`, on what `bully_member_owned` gives; nothing is written first */
-    BULLY_STEP_STOP = 3,  /* to see to it that all work ends, and to tell when it has, by `bully_member_stopped` */
-    BULLY_STEP_WAIT = 4,  /* to wait for `until`, and for `at_most` nanoseconds, and then to call `bully_member_woke` */
-    BULLY_STEP_REST = 5,  /* to do nothing for `at_most` nanoseconds, or until it is told something */
-    BULLY_STEP_END = 6    /* nothing more, for the reason `ending` */
+    BULLY_STEP_ASK = 1,      /* send `request` to the store, and tell the member what became of it */
+    BULLY_STEP_BEGIN = 2,    /* begin work by `token` on what `bully_member_owned` gives; nothing is written first */
+    BULLY_STEP_STOP = 3,     /* stop all work, and call `bully_member_stopped` when it has ended */
+    BULLY_STEP_WAIT = 4,     /* wait for `until`, or for `at_most` nanoseconds, and then call `bully_member_woke` */
+    BULLY_STEP_BACK_OFF = 5, /* do nothing for `at_most` nanoseconds, or until the member is told something */
+    BULLY_STEP_END = 6       /* do nothing more: the member has ended, for the reason `ending` */
 };
 
-/* What is asked of the store. A life is the pair of `process` and `number`, and an epoch is the member's. Each is done at one
- * moment, or not at all. */
+/* Requests to the store. A session is the pair of `process` and `number`, and an epoch is the member's. Each request is
+ * done at one moment, or not at all. */
 enum {
-    BULLY_ASK_TAKE = 1,    /* the node's presence for this life, which promises `place`: if nobody has it, and the log ends at `place` */
-    BULLY_ASK_RENEW = 2,   /* the presence once more: if this life has it, without a gap */
-    BULLY_ASK_RELEASE = 3, /* the end of the presence, if this life has it */
-    BULLY_ASK_LOOK = 4,    /* the rows behind all that was learned, and what `bully_member_looked` is told */
-    BULLY_ASK_PROMISE = 5, /* this life's promise of `place`, if it has the presence; a higher one stays */
-    BULLY_ASK_APPEND = 6,  /* to append what `bully_member_settlement` gives: if the log ends at `place`, somebody is present, and all
-                              that are, strangers too, have promised this place of this epoch */
-    BULLY_ASK_FINISH = 7,  /* to end the epoch, and to begin the next one: on the same conditions */
-    BULLY_ASK_FOLLOW = 8   /* what the current epoch began with */
+    BULLY_ASK_ACQUIRE = 1,   /* the node's lease for this session, which promises `offset`: if nobody has it, and the
+                                log ends at `offset` */
+    BULLY_ASK_RENEW = 2,     /* renew the lease: if this session has had it without a gap */
+    BULLY_ASK_RELEASE = 3,   /* release the lease, if this session has it */
+    BULLY_ASK_SNAPSHOT = 4,  /* the rows after all that was learned, and what `bully_member_snapshot_read` is given */
+    BULLY_ASK_PROMISE = 5,   /* this session's promise of `offset`, if it has the lease; a higher promise stays */
+    BULLY_ASK_APPEND = 6,    /* append the rows of `bully_member_rebalance`: if the log ends at `offset`, somebody holds
+                                a lease, and all who do, unknown processes too, have promised this offset of
+                                this epoch */
+    BULLY_ASK_ROLL_OVER = 7, /* end the epoch, and begin the next one, on the same conditions */
+    BULLY_ASK_FOLLOW = 8     /* what the current epoch began with */
 };
 
-/* What ends a wait before its time: other rows, lives or wishes than were seen; or one of these. */
+/* What ends a wait early: rows, sessions or requests to resize other than those that were seen; or one of these. */
 enum {
-    BULLY_UNTIL_NEWS = 1,     /* no more */
-    BULLY_UNTIL_ANY_IDLE = 2, /* somebody that is present has promised the end of the log, and hadn't when the member looked last */
-    BULLY_UNTIL_ALL_IDLE = 3  /* all that are present have */
+    BULLY_UNTIL_NEWS = 1,     /* nothing else */
+    BULLY_UNTIL_ANY_IDLE = 2, /* a holder of a lease has promised the end of the log, and hadn't when the member last
+                                 read a snapshot */
+    BULLY_UNTIL_ALL_IDLE = 3  /* all holders of leases have promised the end of the log */
 };
 
 /* Why a member ends. */
@@ -427,25 +457,25 @@ enum {
     BULLY_ENDING_NONE = 0,
     BULLY_ENDING_LEFT = 1,      /* it was told to leave */
     BULLY_ENDING_NOT_THERE = 2, /* the group has no node of its name any more */
-    BULLY_ENDING_BROKEN = 3     /* the log has a row that isn't learned, or that tells no event */
+    BULLY_ENDING_BROKEN = 3     /* the log has a row that isn't learned, or that has no event */
 };
 
-/* A step. What its kind and its request don't have is 0. */
+/* A step. A field that its kind and its request don't have is 0. */
 typedef struct bully_step {
-    uint64_t at_most; /* wait, rest: nanoseconds */
-    uint64_t process; /* take, renew, release, promise: of the life */
+    uint64_t at_most; /* wait, back off: nanoseconds */
+    uint64_t process; /* acquire, renew, release, promise: of the session */
     uint64_t number;
     uint32_t kind;    /* BULLY_STEP_.. */
     uint32_t request; /* ask: BULLY_ASK_.. */
     uint32_t until;   /* wait: BULLY_UNTIL_.. */
-    uint32_t place;   /* take, promise, append, finish */
+    uint32_t offset;  /* acquire, promise, append, roll over */
     uint32_t token;   /* begin */
     uint32_t ending;  /* end: BULLY_ENDING_.. */
 } bully_step;
 
-/* What the member does now: the first of its rules that applies. It notes that, so what it says is to be done. As long as a request
- * is awaited it asks for nothing else: the step is BULLY_STEP_STOP, or BULLY_STEP_REST. So of one whose answer is lost, or can't be
- * told, `bully_member_answered` is to be told that it wasn't answered.
+/* What the member does now: the first of its rules that applies. The member notes that, so the step has to be done. As
+ * long as a request is awaited it asks for nothing else: the step is BULLY_STEP_STOP or BULLY_STEP_BACK_OFF. So if the
+ * answer of a request is lost, or can't be passed on, call `bully_member_answered` with BULLY_STORE_UNANSWERED.
  * BULLY_NULL, BULLY_CLOSED. */
 bully_status bully_member_next(bully_member *member, uint64_t now, bully_step *step);
 
@@ -453,118 +483,127 @@ bully_status bully_member_next(bully_member *member, uint64_t now, bully_step *s
 enum {
     BULLY_STORE_DONE = 1,
     BULLY_STORE_REFUSED = 2,   /* it wasn't done, and won't be */
-    BULLY_STORE_UNANSWERED = 3 /* it may be done later, or never, or was done already */
+    BULLY_STORE_UNANSWERED = 3 /* it may have been done already, or may be done later, or never */
 };
 
-/* What became of the last request: BULLY_STORE_... A look or a follow whose result doesn't come is BULLY_STORE_UNANSWERED,
- * whatever is told here. Nothing changes if no request is awaited.
+/* What became of the last request: BULLY_STORE_... A snapshot or a follow whose result doesn't come counts as
+ * BULLY_STORE_UNANSWERED, whatever this call says. Nothing changes if no request is awaited.
  * BULLY_NULL, BULLY_CLOSED, BULLY_BAD_ANSWER. */
 bully_status bully_member_answered(bully_member *member, uint64_t now, uint32_t answer);
 
-/* The rows that a look found behind all that was learned, before `bully_member_looked` is told of it: they are learned as
- * `bully_replica_learn` does. Unless the status is BULLY_OK, BULLY_ROW_END or BULLY_OUT_OF_MEMORY, the member ends as
- * BULLY_ENDING_BROKEN; so it does if one of the rows tells no event. The look stays awaited. The statuses are those of `bully_replica_learn`. */
+/* The rows that a snapshot found after all that was learned, before `bully_member_snapshot_read` is called for it: they
+ * are learned as `bully_replica_learn` learns rows. Unless the status is BULLY_OK, BULLY_ROW_END or
+ * BULLY_OUT_OF_MEMORY, the member ends as BULLY_ENDING_BROKEN; so it does if one of the rows has no event. The snapshot
+ * stays awaited. The statuses are those of `bully_replica_learn`. */
 bully_status bully_member_learn(bully_member *member, const char *rows, size_t length, size_t *taken);
 
-/* Who is present for a node: the life, and what it has promised, a place of an epoch. */
-typedef struct bully_presence {
+/* Who holds the lease of a node: the session, and the offset of an epoch that it has promised. */
+typedef struct bully_lease {
     uint64_t process;
     uint64_t number;
     uint32_t epoch;
-    uint32_t place;
+    uint32_t offset;
     uint16_t node;
-} bully_presence;
+} bully_lease;
 
-/* What a look found beside the rows, at the same moment: which epoch is the current one; who is present for a node of it, by
- * rising nodes; whether somebody is present whose name no node of it has (not 0: yes); and whether something else is wished for
- * (not 0: yes). If the epoch isn't the member's, nothing else counts. Nothing changes if no look is awaited.
- * BULLY_NULL, BULLY_CLOSED; BULLY_BAD_NODE: a presence of no node of the group, or, in another epoch, of no number of a node;
- * BULLY_OUT_OF_MEMORY. */
-bully_status bully_member_looked(bully_member *member, uint64_t now, uint32_t epoch, const bully_presence *presences, size_t presence_count,
-                                 uint32_t has_strangers, uint32_t is_wished);
+/* What a snapshot found beside the rows, at the same moment: which epoch is the current one; who holds the lease of a
+ * node of it, in rising order of the nodes; whether an unknown process holds a lease, whose name no node of it has (not
+ * 0: yes); and whether other settings are requested (not 0: yes). If the epoch isn't the member's, nothing else counts.
+ * Nothing changes if no snapshot is awaited.
+ * BULLY_NULL, BULLY_CLOSED; BULLY_BAD_NODE: a lease of no node of the group, or, in another epoch, of no number of a
+ * node; BULLY_OUT_OF_MEMORY. */
+bully_status bully_member_snapshot_read(bully_member *member, uint64_t now, uint32_t epoch, const bully_lease *leases,
+                                        size_t lease_count, uint32_t has_unknown, uint32_t has_request);
 
-/* In place of any other answer: the member's epoch is over, and its log was taken away. BULLY_NULL, BULLY_CLOSED. */
+/* Instead of any other answer: the member's epoch is over, and its log was removed. BULLY_NULL, BULLY_CLOSED. */
 bully_status bully_member_passed(bully_member *member);
 
-/* What the current epoch began with: the member goes on there, by its life, and has learned nothing of its log. Nothing changes if
- * no follow is awaited, and it counts as unanswered if the epoch is the member's. The arguments are those of `bully_member_open`.
- * BULLY_NULL, BULLY_CLOSED; BULLY_BAD_HEADER: it is none, or rows stand behind it; BULLY_BAD_NODE, BULLY_TABLE_LENGTH,
+/* What the current epoch began with: the member goes on there with its session, and has learned nothing of the log.
+ * Nothing changes if no follow is awaited, and it counts as unanswered if the epoch is the member's. The arguments are
+ * those of `bully_member_open`.
+ * BULLY_NULL, BULLY_CLOSED; BULLY_BAD_HEADER: it is none, or rows come after it; BULLY_BAD_NODE, BULLY_TABLE_LENGTH,
  * BULLY_TABLE_OWNER, BULLY_BAD_ROWS_MAX, BULLY_OUT_OF_MEMORY. */
-bully_status bully_member_followed(bully_member *member, uint64_t now, const char *header, size_t length, uint32_t epoch, uint16_t node,
-                                   uint32_t rows_max, const uint16_t *old, size_t old_count);
-/* The current epoch's group has no node of the member's name: it ends. Nothing changes if no follow is awaited.
+bully_status bully_member_followed(bully_member *member, uint64_t now, const char *header, size_t length,
+                                   uint32_t epoch, uint16_t node, uint32_t rows_max, const uint16_t *old,
+                                   size_t old_count);
+/* The current epoch's group has no node of the member's name: the member ends. Nothing changes if no follow is awaited.
  * BULLY_NULL, BULLY_CLOSED. */
 bully_status bully_member_not_there(bully_member *member);
 /* A wait is over. BULLY_NULL, BULLY_CLOSED. */
 bully_status bully_member_woke(bully_member *member);
-/* It has to end in order. BULLY_NULL, BULLY_CLOSED. */
+/* The member has to leave in an orderly way. BULLY_NULL, BULLY_CLOSED. */
 bully_status bully_member_leave(bully_member *member);
-/* What was begun by this token has ended outside. BULLY_NULL, BULLY_CLOSED. */
+/* The work that was begun by this token has ended outside the member. BULLY_NULL, BULLY_CLOSED. */
 bully_status bully_member_lost(bully_member *member, uint32_t token);
-/* Nothing is worked on any more. BULLY_NULL, BULLY_CLOSED. */
+/* All work has ended. BULLY_NULL, BULLY_CLOSED. */
 bully_status bully_member_stopped(bully_member *member);
 
-/* The rows of an append, each with its line end: they settle the group among those that are present, as `bully_replica_settle`
- * does, or, if the member ends, among nobody.
- * BULLY_NULL, BULLY_CLOSED; BULLY_FULL: the log has no room for all of them; BULLY_OUT_OF_MEMORY; BULLY_SHORT, with the length. */
-bully_status bully_member_settlement(bully_member *member, char *rows, size_t room, size_t *length);
-/* What the member's node owns by a plan behind all that its life has promised, as `bully_replica_owned` tells it.
+/* The rows of an append, each with its line end: they rebalance the group among the live nodes, as
+ * `bully_replica_rebalance` does, or, if the member ends, among none.
+ * BULLY_NULL, BULLY_CLOSED; BULLY_FULL: the log has no room for all of them; BULLY_OUT_OF_MEMORY; BULLY_SHORT, with the
+ * length. */
+bully_status bully_member_rebalance(bully_member *member, char *rows, size_t room, size_t *length);
+/* What the member's node owns, by a plan after all that its session has promised, as `bully_replica_owned` shows it.
  * BULLY_NULL, BULLY_CLOSED, BULLY_OUT_OF_MEMORY; BULLY_SHORT, with the token and the count. */
-bully_status bully_member_owned(bully_member *member, uint32_t *token, uint16_t *partitions, size_t room, size_t *count);
+bully_status bully_member_owned(bully_member *member, uint32_t *token, uint16_t *partitions, size_t room,
+                                size_t *count);
 
-/* What who is present so owns, by a plan behind what that life has promised of the member's epoch, as `bully_replica_owned` tells
- * it: on these partitions its process may work.
+/* What the holder of this lease owns, by a plan after what its session has promised in the member's epoch, as
+ * `bully_replica_owned` shows it: on these partitions its process may work.
  * BULLY_NULL, BULLY_CLOSED, BULLY_BAD_NODE, BULLY_OUT_OF_MEMORY; BULLY_SHORT, with the token and the count. */
-bully_status bully_member_owned_of(bully_member *member, const bully_presence *presence, uint32_t *token, uint16_t *partitions,
-                                   size_t room, size_t *count);
-/* Whether the group rests for the member, by its last look, so that nothing is to be done but to work: it is at rest, as
- * `bully_replica_is_at_rest` tells it, among those who are up in the log or have stayed long enough by now, behind each place that
- * one of them has promised; by a plan behind all that the member's own life has promised; nothing else is wished for; and the log
- * has room for one more settlement. `rests` gets 1, or else 0. A member that takes no presence may observe a group so.
+bully_status bully_member_owned_of(bully_member *member, const bully_lease *lease, uint32_t *token,
+                                   uint16_t *partitions, size_t room, size_t *count);
+/* Whether the group is stable for the member, by its last snapshot, so that there is nothing to do but to work. That is
+ * so if all of these hold: the group is stable, as `bully_replica_is_stable` says, among the live nodes that are up in
+ * the log or have stayed long enough by now, for each offset that one of them has promised; its plan comes after all
+ * that the member's own session has promised; no other settings are requested; and the log has room for one more
+ * rebalance. `is_stable` gets 1, or else 0. A member that acquires no lease may observe a group by this call.
  * BULLY_NULL, BULLY_CLOSED. */
-bully_status bully_member_rests(bully_member *member, uint64_t now, uint32_t *rests);
+bully_status bully_member_is_stable(bully_member *member, uint64_t now, uint32_t *is_stable);
 
-/* Whether the process has the presence of its node. */
+/* Whether the process has the lease of its node. */
 enum {
-    BULLY_LIFE_ABSENT = 0,
-    BULLY_LIFE_UNKNOWN = 1, /* this life may have it: whether it was taken wasn't answered */
-    BULLY_LIFE_PRESENT = 2
+    BULLY_SESSION_ABSENT = 0,
+    BULLY_SESSION_UNKNOWN = 1, /* this session may have it: the request to acquire it wasn't answered */
+    BULLY_SESSION_LIVE = 2
 };
 
-/* How far its work is. */
+/* The state of its work. */
 enum {
     BULLY_WORK_IDLE = 0,
     BULLY_WORK_WORKING = 1,
-    BULLY_WORK_LOST = 2,    /* what it began ended outside */
-    BULLY_WORK_STOPPING = 3 /* it was told to stop, and hasn't told yet that it has */
+    BULLY_WORK_LOST = 2,    /* its work ended outside the member */
+    BULLY_WORK_STOPPING = 3 /* it was told to stop its work, and hasn't reported yet that the work has ended */
 };
 
 typedef struct bully_member_state {
-    uint64_t process;   /* of its life; absent: 0 */
+    uint64_t process;     /* of its session; absent: 0 */
     uint64_t number;
-    uint64_t since;     /* present: when the last renewal that was done was asked for; else 0 */
-    uint64_t sure_left; /* for how many nanoseconds from now its presence is sure: so long it may work on what it was told to begin */
-    uint32_t life;      /* BULLY_LIFE_.. */
-    uint32_t promised;  /* up to which place of this epoch its life has promised to be idle, whether or not the store heard of that */
-    uint32_t work;      /* BULLY_WORK_.. */
-    uint32_t token;     /* of its work; idle: 0 */
-    uint32_t ending;    /* why it ends, if it does: BULLY_ENDING_.. */
+    uint64_t since;       /* live: when its last renewal that was done was asked for; else 0 */
+    uint64_t sure_left;   /* for how many nanoseconds from now its lease is sure: for that long it may go on working */
+    uint32_t session;     /* BULLY_SESSION_.. */
+    uint32_t promised;    /* up to which offset of this epoch its session has promised to be idle, whether or not the
+                             store knows of that */
+    uint32_t work;        /* BULLY_WORK_.. */
+    uint32_t token;       /* of its work; idle: 0 */
+    uint32_t ending;      /* why it ends, if it does: BULLY_ENDING_.. */
     uint32_t epoch;
-    uint32_t place;     /* the end of the log, as far as it was learned */
+    uint32_t offset;      /* the end of the log, as far as it was learned */
     uint16_t node;
-    uint16_t is_wished; /* 1: its last look found that something else is wished for; else 0 */
+    uint16_t has_request; /* 1: its last snapshot found that other settings are requested; else 0 */
 } bully_member_state;
 
-/* How the member stands now. BULLY_NULL, BULLY_CLOSED. */
+/* The state of the member now. BULLY_NULL, BULLY_CLOSED. */
 bully_status bully_member_show(bully_member *member, uint64_t now, bully_member_state *shown);
 
 /* What it has learned, as a replica shows it. */
 
-/* How a node stands. BULLY_NULL, BULLY_CLOSED, BULLY_BAD_NODE. */
+/* The state of a node. BULLY_NULL, BULLY_CLOSED, BULLY_BAD_NODE. */
 bully_status bully_member_node(bully_member *member, uint16_t node, bully_state *state);
-/* How the group stands. BULLY_NULL, BULLY_CLOSED. */
+/* The state of the group. BULLY_NULL, BULLY_CLOSED. */
 bully_status bully_member_group(bully_member *member, bully_group *group);
-/* The owners of the last plan's table; a count of 0: there is none. BULLY_NULL, BULLY_CLOSED; BULLY_SHORT, with the count. */
+/* The owners of the last plan's table; a count of 0: there is none. BULLY_NULL, BULLY_CLOSED; BULLY_SHORT, with the
+ * count. */
 bully_status bully_member_planned(bully_member *member, uint16_t *owners, size_t room, size_t *count);
 
 #ifdef __cplusplus

@@ -1,6 +1,5 @@
 """The parts of what is tried, and how they run: each as soon as what it needs is built, beside the others. Over what is built without proofs
 here for `bin/test`, and over what the gate proves for `bin/prove`."""
-import fcntl
 import shutil
 import tempfile
 import time
@@ -15,7 +14,7 @@ from building.kept import made_of
 from building.library import make_library
 from building.proving import Building, Say
 from building.running import Children, all_jobs
-from building.unproved import FOLDER, build_for_tests, product_of
+from building.unproved import FOLDER, alone, build_for_tests, product_of
 from counts import Counts
 
 
@@ -53,8 +52,8 @@ PARTS = [
     Part('c', 'bindings/c/try BUILT/library', 'library', 'gcc g++'),
     Part('rust', 'bindings/rust/try BUILT/library BUILT/bully_workbench', 'library bully_workbench', 'cargo'),
     Part('package', 'tests/members/run package BUILT/library', 'library'),
-    Part('rules', 'tests/members/run rules BUILT/library', 'library', short='--settle 100 --explore 50000 --restarts 4 --manners 3',
-         full='--settle 5000 --explore 500000 --restarts 100 --manners 300', limit=7200),
+    Part('rules', 'tests/members/run rules BUILT/library', 'library', short='--rebalance 100 --explore 50000 --restarts 4 --manners 3',
+         full='--rebalance 5000 --explore 500000 --restarts 100 --manners 300', limit=7200),
     # (those of the stores; in full all of the package, and those of the rules, for each of which a library is built)
     Part('bugs', 'tests/members/run wrong BUILT/library --jobs 4 memory: sqlite: etcd:', 'library', full='test', limit=7200),
     Part('bugs-of-rules', 'tests/members/run wrong BUILT/library --edited BUILT/edited .edit', 'library', short=NONE, whole=NONE,
@@ -65,7 +64,7 @@ PARTS = [
     Part('epochs-over-etcd', f'{MEMBERS} --over-etcd --epochs', 'library', short='--to 12', whole='--to 60', full='--to 3000', limit=7200),
     Part('told', f'{MEMBERS} --told', 'library', short='--to 12', whole='--to 60', full='--to 3000', limit=7200),
     Part('etcd', 'tests/members/run compare BUILT/library', 'library', 'etcd', short='--requests 1000 --logs 300'),
-    Part('kills', 'tests/members/run try BUILT/library', 'library', short='--kills 2 --pauses 2 --epochs 1 --orders 1 --share 2',
+    Part('kills', 'tests/members/run try BUILT/library', 'library', short='--kills 2 --pauses 2 --epochs 1 --maintenance 1 --share 2',
          whole='--kills 4 --pauses 6 --share 2', full='--kills 100 --pauses 50 --share 1', limit=7200),
     Part('network', 'tests/members/run network BUILT/library', 'library', 'etcd', '--faults 4', '--faults 8', '--faults 100', limit=7200),
     Part('soak', 'tests/members/run soak BUILT/library', 'library', short=NONE, whole=NONE, full='--seconds 20'),
@@ -169,10 +168,8 @@ def make_unproved(name: str, run: Run, room: Path, say: Say) -> None:
 
 def test(names: List[str], how: str, say: Say) -> Counts:
     """Tries these parts, or all, over what is built without proofs: as many things at once as there are cores, first those that most waits for."""
-    FOLDER.mkdir(parents=True, exist_ok=True)
     run = Run(chosen(names, how), how, FOLDER)
     things = sorted(run.done, key=lambda name: FIRST.index(name) if name in FIRST else len(FIRST))
-    with (FOLDER / 'lock').open('w') as lock, tempfile.TemporaryDirectory() as room, ThreadPoolExecutor(all_jobs()) as builders:
-        fcntl.flock(lock, fcntl.LOCK_EX)
+    with alone(say), tempfile.TemporaryDirectory() as room, ThreadPoolExecutor(all_jobs()) as builders:
         run.run(lambda _: bool([builders.submit(make_unproved, name, run, Path(room), say) for name in things]))
     return run.counts

@@ -4,7 +4,7 @@
     running   work beside other work, within cores and memory
     proving   a crate proved and built, over all that it stands on
     trying    the program built without its proofs
-    unproved  what bin/test tries, built without proofs and optimized
+    unproved  what bin/test tries and the demo of members runs, built without proofs and optimized
     layer     the layer of C, as far as it is made of bully.h
     library   the library for C
 """

@@ -56,18 +56,23 @@ def drop(product: Path) -> None:
     product.unlink(missing_ok=True)
 
 
+def lock(handle: int, what: str, say: Callable[[str], None]) -> None:
+    """Locks a file or a folder, in the way of rt, and waits until no other call has it."""
+    try:
+        fcntl.flock(handle, fcntl.LOCK_EX | fcntl.LOCK_NB)
+    except BlockingIOError:
+        say(f'waits for another call, which builds or checks {what}')
+        fcntl.flock(handle, fcntl.LOCK_EX)
+
+
 @contextlib.contextmanager
 def locked(crates: Sequence[Crate], say: Callable[[str], None]) -> Iterator[Tuple[int, ...]]:
-    """Keeps all others from building or checking in the folders of these crates, in the way of rt, and waits until nobody does. A process
-    that is begun with these handles keeps them locked, even if this one is killed."""
+    """Keeps all others from building or checking in the folders of these crates. A process that is begun with these handles keeps them locked,
+    even if this one is killed."""
     handles = {crate.name: os.open(crate.folder, os.O_RDONLY) for crate in sorted(crates)}
     try:
         for name, handle in handles.items():
-            try:
-                fcntl.flock(handle, fcntl.LOCK_EX | fcntl.LOCK_NB)
-            except BlockingIOError:
-                say(f'waits for another call, which builds or checks {name}')
-                fcntl.flock(handle, fcntl.LOCK_EX)
+            lock(handle, name, say)
         yield tuple(handles.values())
     finally:
         for handle in handles.values():

@@ -17,7 +17,7 @@ from .layer import HEADER, layer_of, read_header
 from .proving import Building, Say, bring, build_all, crate_of
 from .running import all_jobs
 
-SHARED = 'libbully.so.0'
+SHARED = 'libbully.so.1'
 # By what others find the library: templates, and where they stand in its folder.
 TEMPLATES = {
     'bully.pc.in': 'lib/pkgconfig/bully.pc',

@@ -1,11 +1,13 @@
-/* bully.c: what stands between C and the proved functions.
+/* bully.c: what comes between C and the proved functions.
  *
- * The functions of crates/bully_c are proved, but for references and slices: none of these can be null, and C can pass a null
- * pointer. So each function of bully.h tests its pointers and lengths here, as that header says, and then calls the proved
- * function that has its name with `bully_c_` in the place of `bully_`, and its parameters, less `alloc`, which has no size. Nothing
- * else is decided here. Behind bully_status_name and bully_version is no proved function: they give texts that bin/library makes.
+ * The functions of crates/bully_c are proved, but for references and slices: none of these can be null, and C can pass
+ * a null pointer. So each function of bully.h tests its pointers and lengths here, as that header says, and then calls
+ * the proved function that has its name with `bully_c_` in the place of `bully_`, and its parameters, less `alloc`,
+ * which has no size. Nothing else is decided here. bully_status_name and bully_version have no proved function: they
+ * return texts that bin/library makes.
  *
- * What bully.h says all of isn't written here: bin/building/layer.py makes `wrappers.h` and `names.h` of it, and prints the former.
+ * What follows from bully.h alone isn't written here: bin/building/layer.py makes `wrappers.h` and `names.h` from that
+ * header, and prints the former.
  */
 #include "bully.h"
 
@@ -16,23 +18,23 @@ static int can_lie(const void *items, size_t count, size_t size) {
     return count <= (size_t)PTRDIFF_MAX / size && (items != NULL || count == 0);
 }
 
-/* Where no items lie: a place for all of them, since a slice isn't null either. Nothing reads or writes it. */
+/* A place for slices of no items, because these must not be null either. Nothing reads or writes it. */
 static uint64_t nowhere;
 
-/* The items to be read, or nowhere where there are none. */
+/* The items to be read, or nowhere if there are none. */
 static const void *source(const void *items, size_t count) {
     return count == 0 ? &nowhere : items;
 }
 
-/* The items to be written, or nowhere where there are none. */
+/* The items to be written, or nowhere if there are none. */
 static void *target(void *items, size_t count) {
     return count == 0 ? &nowhere : items;
 }
 
 /* ---- The functions that answer a status ---- */
 
-/* Each after a declaration of the proved one, which has its type: a reference is a pointer here, and a slice a pointer with its length
- * after it. */
+/* Each after a declaration of the proved one, which has its type: a reference is a pointer here, and a slice a pointer
+ * with its length after it. */
 #include "wrappers.h"
 
 /* ---- Names ---- */

@@ -1,5 +1,5 @@
-"""The command `bully-member`, which `bully.command` has. From the first line on signals wait until that hears them: the
-first process of a container would lose them."""
+"""The command `bully-member`, whose code is in `bully.command`. Signals are held back from the first line on until the
+command handles them: otherwise the first process of a container would lose them."""
 from __future__ import annotations
 
 import signal
@@ -7,9 +7,9 @@ import sys
 
 
 def main() -> int:
-    """Runs the command by the words of this process. Its status."""
+    """Runs the command with the arguments of this process. Returns its exit status."""
     signal.pthread_sigmask(signal.SIG_BLOCK, signal.valid_signals())
-    from bully.command import main as run  # which takes its time
+    from bully.command import main as run  # it takes a while
 
     return run()
 

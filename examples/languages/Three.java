@@ -49,7 +49,7 @@ public class Three {
     }
 
     static void show() {
-        Memory state = new Memory(36); // a bully_state: its status stands at byte 0, its coordinator at byte 30
+        Memory state = new Memory(36); // a bully_state: its status is at byte 0, its coordinator at byte 30
         String[] statuses = {"down", "election", "reorganization", "normal"};
         for (short node = 1; node <= 3; node++) {
             must(bully.bully_replica_show(group, node, state));

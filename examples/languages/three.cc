@@ -41,7 +41,7 @@ public:
 private:
     bool append(bully_status made) {
         must(made);
-        log.append(row, length); // in a store: behind exactly the rows that were learned, or not at all
+        log.append(row, length); // in a store: after exactly the rows that were learned, or not at all
         must(bully_replica_learn(&held, row, length, &taken));
         return length > 0; // else the node rests
     }

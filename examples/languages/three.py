@@ -8,7 +8,7 @@ group = Replica(Setup(nodes=3, partitions=5).header())
 
 
 def append(row: str) -> None:
-    log.append(row)  # in a store: behind exactly the rows that were learned, or not at all
+    log.append(row)  # in a store: after exactly the rows that were learned, or not at all
     group.learn([row])
 
 

@@ -1,36 +1,12 @@
 """What the commands tell the prover, how they end, and what they do with what was built."""
 import os
 import re
-import shutil
 import signal
 import unittest
 from pathlib import Path
 from typing import List
 
-from stand_in import ROOT, Tree, is_there, waited
-
-HEADER = """#include <stdint.h>
-typedef uint32_t bully_status;
-enum {
-    BULLY_OK = 0,
-};
-bully_status bully_begin(uint32_t number);
-"""
-# (with the function behind the wrapper, since nothing is in the archive)
-LAYER = """#include "bully.h"
-#include "wrappers.h"
-bully_status bully_c_begin(uint32_t number) { return number; }
-"""
-# What an archive has of the library, by the same names.
-LAYOUT = [
-    'include/bully.h', 'lib/cmake/bully/bullyConfig.cmake', 'lib/cmake/bully/bullyConfigVersion.cmake', 'lib/libbully.a', 'lib/libbully.so',
-    'lib/libbully.so.0', 'lib/pkgconfig/bully.pc',
-]  # fmt: skip
-
-
-def files_of(folder: Path) -> List[str]:
-    """The files of the folder and of those below it, by their names from there."""
-    return sorted(str(path.relative_to(folder)) for path in folder.rglob('*') if not path.is_dir())
+from stand_in import HEADER, LAYOUT, Tree, files_of, is_there, waited
 
 
 class Commands(unittest.TestCase):
@@ -112,18 +88,12 @@ class Commands(unittest.TestCase):
             self.assertEqual((refused.returncode, refused.stderr), (125, said))
 
     def test_library_is_made_of_the_archive_and_stays_if_that_is_not_proved(self) -> None:
-        self.tree.list_crates({'base': '', 'bully_c': 'base'})
-        self.tree.write('bully_c', 'src/lib.rt', '// the functions for C\n')
-        reader = 'bindings/python/bully/header.py'
-        for name, text in (('include/bully.h', HEADER), ('bindings/c/bully.c', LAYER), (reader, (ROOT / reader).read_text())):
-            (self.tree.top / name).parent.mkdir(parents=True)
-            (self.tree.top / name).write_text(text)
-        shutil.copytree(ROOT / 'bindings' / 'packaging', self.tree.top / 'bindings' / 'packaging')
+        self.tree.add_library()
         folder = self.tree.room / 'library'
         made = self.tree.call('library', str(folder))
         self.assertEqual((made.returncode, made.stdout), (0, ''), made.stderr)
         self.assertEqual(files_of(folder), LAYOUT)
-        self.assertEqual(os.readlink(folder / 'lib' / 'libbully.so'), 'libbully.so.0')
+        self.assertEqual(os.readlink(folder / 'lib' / 'libbully.so'), 'libbully.so.1')
         self.assertNotIn('@', (folder / 'lib' / 'pkgconfig' / 'bully.pc').read_text())
         self.assertEqual(self.tree.begun(), ['base', 'bully_c', 'bully_c_exports'])
         words = self.tree.words()[2]
@@ -140,7 +110,8 @@ class Commands(unittest.TestCase):
         self.assertEqual((refused.returncode, begun), (1, proved))
         self.assertIn('library: bully.h: number of bully_begin is no number of a known size', refused.stderr)
         self.assertEqual({name: (folder / name).stat().st_ino for name in files_of(folder)}, before)
-        self.assertEqual([self.tree.call('library', *words).returncode for words in (('',), ('a', 'b'), ('--other', 'a'), ('--gated',), ('--gated', 'a', 'b'), ('--gate', 'a'))], [2] * 6)
+        strange = ('', 'a b', '--other a', '--gated', '--gated a b', '--gate a', '--unproved', '--gated a --unproved b')
+        self.assertEqual({words: self.tree.call('library', *words.split(' ')).returncode for words in strange}, dict.fromkeys(strange, 2))
 
 
 class Ending(unittest.TestCase):

@@ -1,4 +1,5 @@
 """What bin/test builds without proofs, and which parts it runs."""
+import fcntl
 import signal
 import subprocess
 import sys
@@ -8,7 +9,7 @@ from pathlib import Path
 from building.crates import Stopped, read_crates
 from building.exports import write_exports
 from building.unproved import export, write_main
-from stand_in import Tree, as_ever, is_there, waited
+from stand_in import LAYOUT, Tree, as_ever, files_of, is_there, waited
 
 # bin/test with these parts in place of its own.
 RUN = '''
@@ -116,6 +117,29 @@ class Unproved(unittest.TestCase):
     def test_a_strange_name_is_refused(self) -> None:
         refused = self.tree.call('test', 'snippets', 'nobody')
         self.assertEqual((refused.returncode, refused.stderr), (1, 'test: there is no part nobody: bin/test --list has their names\n'))
+
+    def test_the_library_is_built_once_and_says_that_nothing_is_proved(self) -> None:
+        self.tree.add_library()
+        self.tree.write('bully_c', 'src/tables.rt', EXPORTS)
+        folder = self.tree.room / 'library'
+        first, second = (self.tree.call('library', '--unproved', str(folder)) for _ in range(2))
+        self.assertEqual((first.returncode, first.stdout, second.returncode), (0, '', 0), first.stderr)
+        self.assertEqual((files_of(folder), self.tree.begun()), (LAYOUT, ['try']))
+        self.assertIn('library: builds it without its proofs, in about two minutes. So this library is not proved: bin/library proves', first.stderr)
+        self.assertNotIn('proof', second.stderr)
+
+    def test_the_library_waits_for_another_call_that_builds(self) -> None:
+        self.tree.add_library()
+        self.tree.write('bully_c', 'src/tables.rt', EXPORTS)
+        lock = self.tree.top / 'out' / 'unproved' / 'lock'
+        lock.parent.mkdir(parents=True)
+        with lock.open('w') as held:
+            fcntl.flock(held, fcntl.LOCK_EX)
+            call = self.tree.begin('library', '--unproved', str(self.tree.room / 'library'))
+            waited(lambda: 'waits for another call, which builds or checks what is in ' in self.tree.said(), 'it waits')
+            self.assertEqual(self.tree.begun(), [])
+        call.communicate(timeout=60)
+        self.assertEqual((call.returncode, self.tree.begun()), (0, ['try']))
 
     def test_the_main_of_a_library_reaches_each_function_for_c(self) -> None:
         self.tree.list_crates({'base': '', 'bully_c': 'base'})

@@ -10,12 +10,12 @@ from typing import NamedTuple, TypeVar
 from unittest import mock
 
 from bully import etcd
+from bully.core import Promise, Session, Until
+from bully.encoding import maintenance_of, session_text
 from bully.epochs import Opening
-from bully.etcd import EtcdLog, place_text
-from bully.gateway import Address, Client, Json, Refusal, Silent, behind
-from bully.logs import Wanted, are_idle
-from bully.member import Life, Promise, Until
-from bully.stored import life_text, orders_of
+from bully.etcd import EtcdLog, offset_text
+from bully.etcd_client import Address, Client, Json, Refusal, Silent, behind
+from bully.shared_log import Wanted, are_idle
 from .cluster import SERVERS, Cluster, Outcome
 
 ADDRESS = f'etcd://{",".join(map(str, SERVERS))}/group'
@@ -48,31 +48,31 @@ class Journal:
         self.turn, self.seen = turn, seen  # the server that was asked first, and what was known then
         self._clock = clock
         self._seen: list[float | Outcome] = []
-        self._place = 0
+        self._offset = 0
 
     def rewind(self) -> None:
-        self._place = 0
+        self._offset = 0
 
     def add(self, outcome: Outcome) -> None:
         self._seen.append(outcome)
 
     def clock(self) -> float:
-        if self._place == len(self._seen):
+        if self._offset == len(self._seen):
             self._seen.append(self._clock())
         moment = self._next()
         assert isinstance(moment, float)
         return moment
 
     def outcome(self, request: Request) -> Outcome:
-        if self._place == len(self._seen):
+        if self._offset == len(self._seen):
             raise Pending(request)
         outcome = self._next()
         assert not isinstance(outcome, float)
         return outcome
 
     def _next(self) -> float | Outcome:
-        self._place += 1
-        return self._seen[self._place - 1]
+        self._offset += 1
+        return self._seen[self._offset - 1]
 
 
 class Asking(Client):
@@ -119,27 +119,27 @@ class KeptLog(EtcdLog):
         return self._client
 
     def wait(
-        self, epoch: int, place: int, lives: Mapping[str, Life], until: Until, seconds: float, woken: int | None = None,
+        self, epoch: int, offset: int, sessions: Mapping[str, Session], until: Until, seconds: float, woken: int | None = None,
     ) -> None:  # fmt: skip
         """Nobody waits by this."""
 
     def has_news(
-        self, epoch: int, place: int, lives: Mapping[str, Life], wanted: Wanted, until: Until, before: AbstractSet[str],
+        self, epoch: int, offset: int, sessions: Mapping[str, Session], wanted: Wanted, until: Until, before: AbstractSet[str],
     ) -> bool:  # fmt: skip
-        """Whether a wait is over before its time behind a look that found this wish and these orders, and these idle:
-        of etcd as it is, whatever a server knows."""
-        there, here = self.client.cluster.keys, place_text(Promise(epoch, place)).encode()
-        end, wished = there.get(self._keys.place).value, there.get(self._keys.next).value
-        orders = orders_of(self.address, there.get(self._keys.orders).value)
-        if end != here or (None if wished is None else Opening.parse(wished.decode()), orders) != wanted:
+        """Whether a wait is over before its time after a snapshot that found these settings requested, this
+        maintenance, and these nodes idle: of etcd as it is, whatever a server knows."""
+        there, here = self.client.cluster.keys, offset_text(Promise(epoch, offset)).encode()
+        end, requested_settings = there.get(self._keys.offset).value, there.get(self._keys.next).value
+        maintenance = maintenance_of(self.address, there.get(self._keys.maintenance).value)
+        if end != here or (None if requested_settings is None else Opening.parse(requested_settings.decode()), maintenance) != wanted:
             return True
-        told = {name.encode(): life_text(life).encode() for name, life in lives.items()}
-        return self._below(self._keys.lives) != told or are_idle(
+        told = {name.encode(): session_text(session).encode() for name, session in sessions.items()}
+        return self._below(self._keys.sessions) != told or are_idle(
             until, self._below(self._keys.promises), here, {name.encode() for name in before}
         )
 
     def _below(self, prefix: bytes) -> dict[bytes, bytes | None]:
-        """The values of all keys that begin so, by what is behind that."""
+        """The values of all keys with this prefix, by the rest of the key."""
         found = self.client.cluster.keys.found(prefix, behind(prefix))
         return {key[len(prefix) :]: version.value for key, version in found}
 

@@ -5,12 +5,12 @@ import random
 from collections.abc import Callable
 from typing import NamedTuple
 
+from bully.core import Promise, Session
 from bully.epochs import Opening
-from bully.logs import Log, LogError
-from bully.member import Life, Promise
+from bully.maintenance import Maintenance
 from bully.memory import MemoryLog
-from bully.orders import Orders
-from .steps import LONG, looked
+from bully.shared_log import Log, LogError
+from .steps import LONG, snapshot_read
 
 
 def answer_of(ask: Callable[[Log], object], log: Log) -> object:
@@ -22,38 +22,38 @@ def answer_of(ask: Callable[[Log], object], log: Log) -> object:
 
 
 class Meant(NamedTuple):
-    """What calls of a log are made with: for whom, and where; what is appended, wished for, begun, ordered and noted."""
+    """What calls of a log are made with: for whom, and where; which rows, settings, opening, maintenance and note."""
 
     name: str
-    life: Life
+    session: Session
     here: Promise
-    is_odd: bool  # it may be another place than the end of the log
+    is_odd: bool  # `here` may be another offset than the end of the log
     rows: list[str]
-    wish: Opening
+    requested: Opening
     opening: Opening
-    orders: Orders
-    known: Orders | None
+    maintenance: Maintenance
+    known: Maintenance | None
     gave_up: bool | None
     other: str
-    its: Life
+    its: Session
 
 
 def calls_with(meant: Meant) -> list[tuple[int, str, Callable[[Log], object]]]:
-    """Each call of a log: how often it is made beside the others, its name, and the call."""
-    name, life, here, _, rows, wish, opening, orders, known, gave_up, other, its = meant
-    epoch, place, many, some = here.epoch, here.place, 8, 4
+    """Each call of a log: how often it is made compared with the others, its name, and the call."""
+    name, session, here, _, rows, requested, opening, maintenance, known, gave_up, other, its = meant
+    epoch, offset, many, some = here.epoch, here.offset, 8, 4
     return [
-        (some, f'take {name} {life} {here}', lambda log: log.take(name, life, here, LONG)),
-        (2, f'renew {name} {life}', lambda log: log.renew(name, life, LONG)),
-        (some, f'release {name} {life}', lambda log: log.release(name, life)),
-        (some, f'promise {name} {life} {here}', lambda log: log.promise(name, life, here)),
-        (many, f'append {here} {rows}', lambda log: log.append(epoch, place, rows)),
-        (some, f'finish {here} {opening}', lambda log: log.finish(epoch, place, opening)),
-        (some, f'look {here}', lambda log: (looked(log, epoch, place), dict(log.look(0, 0).failing))),
-        (1, f'read {here}', lambda log: list(log.read(epoch, place))),
-        (1, f'ask {wish} {epoch}', lambda log: log.ask(wish, epoch)),
+        (some, f'acquire {name} {session} {here}', lambda log: log.acquire(name, session, here, LONG)),
+        (2, f'renew {name} {session}', lambda log: log.renew(name, session, LONG)),
+        (some, f'release {name} {session}', lambda log: log.release(name, session)),
+        (some, f'promise {name} {session} {here}', lambda log: log.promise(name, session, here)),
+        (many, f'append {here} {rows}', lambda log: log.append(epoch, offset, rows)),
+        (some, f'roll_over {here} {opening}', lambda log: log.roll_over(epoch, offset, opening)),
+        (some, f'snapshot {here}', lambda log: (snapshot_read(log, epoch, offset), dict(log.snapshot(0, 0).failing))),
+        (1, f'read {here}', lambda log: list(log.read(epoch, offset))),
+        (1, f'ask {requested} {epoch}', lambda log: log.ask(requested, epoch)),
         (1, f'cancel {epoch}', lambda log: log.cancel(epoch)),
-        (2, f'order {orders} {known}', lambda log: log.order(orders, known)),
+        (2, f'set_maintenance {maintenance} {known}', lambda log: log.set_maintenance(maintenance, known)),
         (some, f'note {name} {gave_up}', lambda log: log.note(name, gave_up)),
         (some, f'give_up {name} {other} {its}', lambda log: log.give_up(name, other, its)),
         (1, f'times {epoch}', lambda log: sorted(log.times(epoch))), (1, 'epochs', lambda log: log.epochs()),
@@ -63,11 +63,11 @@ def calls_with(meant: Meant) -> list[tuple[int, str, Callable[[Log], object]]]:
 
 
 class Calls:
-    """Calls of a log, by chance: mostly such as are done, as far as a log in memory tells."""
+    """Random calls of a log: mostly those that a log in memory would do."""
 
     def __init__(self, choice: random.Random, memory: MemoryLog) -> None:
         self.choice, self.memory = choice, memory
-        self.done = dict.fromkeys(('take', 'promise', 'append', 'finish', 'ask', 'order', 'give_up'), 0)
+        self.done = dict.fromkeys(('acquire', 'promise', 'append', 'roll_over', 'ask', 'set_maintenance', 'give_up'), 0)
 
     def choose(self) -> tuple[str, Callable[[Log], object]]:
         """The name of a call, and the call."""
@@ -85,29 +85,29 @@ class Calls:
     def _chosen(self) -> tuple[str, Callable[[Log], object]]:
         meant = self._meant()
         if self.choice.random() < 0.3 and not meant.is_odd:  # all are idle up to the end of the log
-            idle = dict(self.memory.presences)
-            return 'promise of all', lambda log: [log.promise(each, idle[each].life, meant.here) for each in sorted(idle)]
+            idle = dict(self.memory.holders)
+            return 'promise of all', lambda log: [log.promise(each, idle[each].session, meant.here) for each in sorted(idle)]
         asked = calls_with(meant)
         _, told, ask = self.choice.choices(asked, [weight for weight, _, _ in asked])[0]
         return told, ask
 
     def _meant(self) -> Meant:
         choice, memory = self.choice, self.memory
-        name, life = choice.choice('abc'), Life(choice.randint(1, 2), choice.randint(1, 2))
-        held = memory.presences.get(name)
+        name, session = choice.choice('abc'), Session(choice.randint(1, 2), choice.randint(1, 2))
+        held = memory.holders.get(name)
         if held is not None and choice.random() < 0.8:
-            life = held.life
+            session = held.session
         is_odd = choice.random() < 0.2
         epoch = max(1, memory.epoch + choice.choice([-1, -1, 0, 1]) * is_odd)
         here = Promise(epoch, max(0, len(memory.rows) + choice.choice([-2, -1, 0, 1]) * is_odd))
         rows = [f'{name},{number}' for number in range(choice.randint(1, 4))]
         names, limit = choice.choice([('a', 'b', 'c'), ('c', 'd', 'e')]), choice.choice([66, 500])
-        wish = Opening(epoch + 1, 'bully,1,3,6', names, limit)
-        opening = memory.opening().next(choice.choice([memory.wish, memory.wish, None, wish]), (1, 2, 3, 1, 2, 0))
-        orders, before = (
-            Orders(frozenset(choice.sample('abc', 1)), choice.choice([None, {'a': life}])) for _ in range(2)
+        requested = Opening(epoch + 1, 'bully,1,3,6', names, limit)
+        opening = memory.opening().next(choice.choice([memory.requested, memory.requested, None, requested]), (1, 2, 3, 1, 2, 0))
+        maintenance, before = (
+            Maintenance(frozenset(choice.sample('abc', 1)), choice.choice([None, {'a': session}])) for _ in range(2)
         )
-        known = choice.choice([memory.orders, memory.orders, before, None])
-        gave_up, other = choice.choice([None, None, None, None, False, True]), choice.choice([*memory.presences, name])
-        its = memory.presences[other].life if other in memory.presences else life
-        return Meant(name, life, here, is_odd, rows, wish, opening, orders, known, gave_up, other, its)
+        known = choice.choice([memory.maintenance, memory.maintenance, before, None])
+        gave_up, other = choice.choice([None, None, None, None, False, True]), choice.choice([*memory.holders, name])
+        its = memory.holders[other].session if other in memory.holders else session
+        return Meant(name, session, here, is_odd, rows, requested, opening, maintenance, known, gave_up, other, its)

@@ -6,7 +6,7 @@ recorder apart judges what their workers do.
 LIBRARY_FOLDER is what `bin/library` wrote. It takes Linux 5.6 and root. While the first member works the second one,
 of the other node, is begun again and again: it has to end by its status, and to say why. Once the first one has left
 the second one works, and the first one is refused. No unit may overlap another one, or be asked for by an old token.
-Workers work on for half a ttl behind SIGTERM. The last line is 'N passed, M failed'; the exit status is 0 where
+Workers continue for half a ttl after SIGTERM. The last line is 'N passed, M failed'; the exit status is 0 where
 M is 0, and else 1.
 """
 from __future__ import annotations
@@ -28,7 +28,7 @@ from .waiting import wait_until
 
 OFFSETS = (100_000, -60)  # seconds by which the clock of the second member is ahead
 WORKER = str(HERE / 'worker.py')
-SAID = 'another time namespace holds presences'
+SAID = 'another time namespace holds leases'
 REFUSED = 6  # the status of a member that no further try helps
 
 

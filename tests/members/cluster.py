@@ -1,11 +1,11 @@
 """An etcd of three servers in simulated time, as far as a log uses it, and what may become of its leaders.
 
 It has one order of all that is done, as etcd does. Up to chance is what etcd leaves open: what becomes of requests
-while there is no leader; how late a lease ends that isn't renewed; what a server tells by itself, if it is asked so
+while there is no leader; how late a lease ends that isn't renewed; what a server answers by itself, if it is asked so
 (`serializable`); and what a leader does that was cut off or paused, and doesn't know that another one came. That one
 goes on to renew leases, of which no other server hears. Once it is back it may end a lease of its own term that it
 hasn't renewed for the ttl, whatever was renewed under the new leader. A new leader gives each lease its full ttl. And
-no leader ends a lease earlier than the ttl behind a renewal that was done under it.
+no leader ends a lease earlier than the ttl after a renewal that was done under it.
 """
 from __future__ import annotations
 
@@ -17,7 +17,7 @@ from dataclasses import dataclass, field
 from functools import partial
 from typing import NamedTuple, Union
 
-from bully.gateway import KV_RANGE, KV_TXN, LEASE_GRANT, LEASE_KEEPALIVE, Endpoint, Json, Refusal, Silent
+from bully.etcd_client import KV_RANGE, KV_TXN, LEASE_GRANT, LEASE_KEEPALIVE, Endpoint, Json, Refusal, Silent
 
 SERVERS = tuple(Endpoint(f's{number}', 2379) for number in range(3))
 NO_LEADER, NOT_FOUND, INVALID = 14, 5, 3  # codes of gRPC
@@ -37,8 +37,8 @@ class Weather:
     leaderless: float  # for how long there is none, at most
     stale: float  # how long a lost leader takes itself for one, at most
     lag: float  # how old is what a server knows by itself, at most
-    watch_late: float  # how late a watch tells something, at most
-    watch_broken: float  # how much it doesn't tell, in a storm
+    watch_late: float  # how late a watch reports something, at most
+    watch_broken: float  # how much it doesn't report, in a storm
 
 
 def weather_of(choice: random.Random) -> Weather:
@@ -216,7 +216,7 @@ class Cluster:
         return self.keep_alive(int(told['ID']))
 
     def read_old(self, path: str, told: Json, revision: int, term: int) -> Outcome:
-        """What a server tells by itself that knows so much."""
+        """What a server that knows so much answers by itself."""
         if path == KV_RANGE:
             return self.answer(term, **self.found(told, revision))
         return self.transact(told, revision, term)
@@ -346,7 +346,7 @@ class Cluster:
             self.revoke(lease)
 
     def revoke(self, lease: int) -> None:
-        """The lease ends, and what stood under it is gone."""
+        """The lease ends, and what was under it is gone."""
         keys = sorted(self.leases.pop(lease).keys)
         if keys:
             for key in keys:
@@ -381,9 +381,9 @@ class Cluster:
             self.renew(lease)
         awaiting, self.awaiting = self.awaiting, []
         for request in awaiting:
-            self.settle(*request)
+            self.resolve(*request)
 
-    def settle(self, path: str, told: Json, reply: Reply) -> None:
+    def resolve(self, path: str, told: Json, reply: Reply) -> None:
         """What becomes of a request that waited: it is done, with an answer or without one, later, or not at all."""
         chance = self.choice.random()
         if chance < 0.4:
@@ -405,12 +405,12 @@ class Cluster:
             if path == LEASE_KEEPALIVE:
                 self.renew_stale(stale, told, reply)
             else:
-                self.settle_late(path, told, reply)
+                self.resolve_late(path, told, reply)
         for lease, end in stale.ends.items():
             if end <= self.clock() and self.choice.random() < 0.8:
                 self.after(self.choice.uniform(0, 0.2), partial(self.end_by_word, lease))
 
-    def settle_late(self, path: str, told: Json, reply: Reply) -> None:
+    def resolve_late(self, path: str, told: Json, reply: Reply) -> None:
         if self.choice.random() < 0.5:
             self.after(0.0, lambda: self.receive(self.leader.server, path, told, reply))
 
@@ -421,7 +421,7 @@ class Cluster:
 
 
 def is_serializable(path: str, told: Json) -> bool:
-    """Whether a server may tell this by itself."""
+    """Whether a server may answer this by itself."""
     if path == KV_RANGE:
         return bool(told.get('serializable'))
     steps = [*told['success'], *told['failure']] if path == KV_TXN else []
@@ -429,12 +429,12 @@ def is_serializable(path: str, told: Json) -> bool:
 
 
 def interval(asked: Json) -> tuple[bytes, bytes | None]:
-    """The first key of a range, and the first one behind it, if it isn't one key."""
+    """The first key of a range, and the first one after it, unless the range is one key."""
     return b64decode(asked['key']), b64decode(asked['range_end']) if 'range_end' in asked else None
 
 
 def pair_told(key: bytes, version: Version, asked: Json) -> Json:
-    """A key, as etcd tells it in JSON."""
+    """A key, as etcd writes it in JSON."""
     told = {
         'key': b64encode(key).decode(),
         'create_revision': str(version.created),

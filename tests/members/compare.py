@@ -19,12 +19,12 @@ from pathlib import Path
 from typing import Any
 
 from bully.etcd import EtcdLog, same
-from bully.gateway import (
+from bully.etcd_client import (
     KV_RANGE, KV_TXN, LEASE_GRANT, LEASE_KEEPALIVE, Json, coded, exists, number_is, put_at, range_at, range_below,
     ranges, value_is,
 )  # fmt: skip
-from bully.logs import Log
 from bully.memory import MemoryLog
+from bully.shared_log import Log
 from .asking import made, opened
 from .calls import Calls, answer_of
 from .cluster import Cluster, weather_of
@@ -226,7 +226,7 @@ def compare_log(servers: Servers, seed: int, done: dict[str, int]) -> str | None
 
 def compare_logs(servers: Servers, logs: int, seed: int) -> tuple[int, int]:
     """Over how many logs all was answered the same way, and over how many it wasn't."""
-    failed, done = 0, dict.fromkeys(('take', 'append', 'finish'), 0)
+    failed, done = 0, dict.fromkeys(('acquire', 'append', 'roll_over'), 0)
     for number in range(seed, seed + logs):
         said = compare_log(servers, number, done)
         if said:

@@ -5,14 +5,14 @@ from collections.abc import Callable
 from dataclasses import dataclass
 from typing import TYPE_CHECKING
 
-from bully import logs
+from bully import shared_log
+from bully.adapter import core_opening_of
+from bully.core import Ask, BackOff, Begin, Core, End, Ending, Promise, Request, Session, StoreAnswer, Wait
 from bully.epochs import Opening, Token
-from bully.looks import core_opening_of
-from bully.member import Ask, Begin, Core, End, Ending, Life, Promise, Request, Rest, StoreAnswer, Wait
-from .judged import Found, table_of
+from .judged import Snapshot, table_of
 
 if TYPE_CHECKING:
-    from .settling import Simulation
+    from .stabilizing import Simulation
 
 NAMES = tuple('abcdefg')
 STEPS = 100  # more than a member takes at one moment
@@ -26,28 +26,28 @@ class Wrong(Exception):
 
 @dataclass
 class Unit:
-    """What a worker does at a moment. It began surely, and its presence lasts until `lease`."""
+    """A unit of work that a worker has surely begun. The lease of its member lasts until `lease`."""
 
     token: Token
     partitions: set[int]
-    life: Life
+    session: Session
     lease: int
     was_paused: bool = False
 
 
 class Worker:
-    """The worker of a member, with its guard: it begins no unit from `until` on, whatever the member does."""
+    """The worker of a member, with its watchdog: it begins no unit from `until` on, whatever the member does."""
 
     def __init__(self, member: Member) -> None:
         self.member, self.simulation = member, member.simulation
-        self.work: tuple[int, Token, set[int], Life] | None = None  # with the token as the rules tell it
+        self.work: tuple[int, Token, set[int], Session] | None = None  # with the token as the rules have it
         self.unit: Unit | None = None
         self.until = self.paused_until = 0
         self.is_told = False
 
-    def begin(self, token: int, epoch: int, partitions: set[int], life: Life) -> None:
+    def begin(self, token: int, epoch: int, partitions: set[int], session: Session) -> None:
         assert self.work is None and self.unit is None
-        self.work, self.is_told = (token, Token.of(epoch, token), partitions, life), False
+        self.work, self.is_told = (token, Token.of(epoch, token), partitions, session), False
         self.soon(self.simulation.some(0.02), self.next_unit)
 
     def next_unit(self) -> None:
@@ -60,8 +60,8 @@ class Worker:
             token, self.work = self.work[0], None
             self.member.soon(0, lambda: self.member.lose(token))
         else:
-            _, token_over_all, partitions, life = self.work
-            self.unit = Unit(token_over_all, partitions, life, self.until + simulation.ttl // 5)
+            _, token_over_all, partitions, session = self.work
+            self.unit = Unit(token_over_all, partitions, session, self.until + simulation.ttl // 5)
             simulation.begin_unit(self)
             simulation.after(simulation.between(0.004, simulation.trouble.unit), self.end_unit)
 
@@ -93,7 +93,7 @@ class Worker:
             self.unit.was_paused = True
 
     def die(self) -> None:
-        """Its guard ends it, once it isn't paused."""
+        """Its watchdog ends it, once it isn't paused."""
         if self.paused_until <= self.simulation.now:
             self.unit = self.work = None
 
@@ -110,10 +110,10 @@ class Member:
 
     def __init__(self, simulation: Simulation, name: str, number: int, opening: Opening) -> None:
         self.simulation, self.name, self.number = simulation, name, number
-        self.opening, self.place = opening, 0
+        self.opening, self.offset = opening, 0
         self.rules = Core(core_opening_of(opening, self.node), number, simulation.ttl)
-        self.life: Life | None = None
-        self.found: Found | None = None  # as it looked last
+        self.session: Session | None = None
+        self.found: Snapshot | None = None  # what the last snapshot found
         self.awaited: Wait | None = None
         self.is_dead: bool = False
         self.is_leaving = self.is_asking = self.is_stopping = False
@@ -167,7 +167,7 @@ class Member:
             self.steps + 1 if self.stepped_at == self.simulation.now else 1,
             self.simulation.now,
         )
-        if self.steps > STEPS or isinstance(step, (Wait, Rest)) and step.at_most <= 0:
+        if self.steps > STEPS or isinstance(step, (Wait, BackOff)) and step.at_most <= 0:
             raise Wrong(f'{self} does not let time go on: {step}')
         if isinstance(step, Ask):
             self.ask(step)
@@ -175,7 +175,7 @@ class Member:
             self.awaited = self.waits(step)
             self.later(step.at_most, self.wake)
             self.simulation.tell(self)
-        elif isinstance(step, Rest):
+        elif isinstance(step, BackOff):
             self.later(step.at_most, self.go)
         elif isinstance(step, End):
             self.end(step.ending)
@@ -194,12 +194,12 @@ class Member:
 
     def begin(self, token: int) -> None:
         rows = self.simulation.store.epochs[self.epoch - 1].rows
-        if not 0 < token <= self.place or not rows[token - 1].startswith('plan,'):
+        if not 0 < token <= self.offset or not rows[token - 1].startswith('plan,'):
             raise Wrong(f'{self} begins by the token {token}, which no plan has that it knows of')
         partitions = {partition for partition, owner in enumerate(table_of(rows[token - 1])) if owner == self.node}
-        if not partitions or self.life is None:
-            raise Wrong(f'{self} begins as {self.life}, and owns {partitions}')
-        self.worker.begin(token, self.epoch, partitions, self.life)
+        if not partitions or self.session is None:
+            raise Wrong(f'{self} begins as {self.session}, and owns {partitions}')
+        self.worker.begin(token, self.epoch, partitions, self.session)
 
     def stop(self) -> None:
         self.simulation.stops(self)
@@ -258,7 +258,7 @@ class Member:
 
         def done() -> None:
             told = call()
-            simulation.happened['a request comes behind its time'] += turn != self.turn
+            simulation.happened['a request comes after its time'] += turn != self.turn
             simulation.tell_all()
             if simulation.now >= self.cut_until and not simulation.happens('an answer is lost', trouble.unanswered):
                 self.soon(simulation.trip(), lambda: answer(told))
@@ -274,21 +274,21 @@ class Member:
         now = self.simulation.now
         if told is None:
             self.rules.answered(now, StoreAnswer.UNANSWERED)
-        elif isinstance(told, logs.Found):
+        elif isinstance(told, shared_log.Snapshot):
             self.rules.learn(told.rows)
-            self.place += len(told.rows)
-            self.found = Found(told._replace(rows=()), Promise(told.epoch, self.place))
+            self.offset += len(told.rows)
+            self.found = Snapshot(told._replace(rows=()), Promise(told.epoch, self.offset))
             self.see(told)
         elif isinstance(told, Opening):
             self.follow(told)
         else:
             self.rules.answered(now, StoreAnswer.DONE if told else StoreAnswer.REFUSED)
-            if told and ask.request is Request.TAKE:
-                self.life = ask.life
+            if told and ask.request is Request.ACQUIRE:
+                self.session = ask.session
         self.worker.until = self.rules.sure_until
 
-    def see(self, told: logs.Found) -> None:
-        """The rules are told what the package's own driver tells them of what a look found."""
+    def see(self, told: shared_log.Snapshot) -> None:
+        """The rules are told what the package's own driver tells them of what a snapshot found."""
         raise NotImplementedError
 
     def follow(self, opening: Opening) -> None:
@@ -297,5 +297,5 @@ class Member:
             self.rules.followed(self.simulation.now, None)
             return
         if opening.epoch != self.epoch:
-            self.opening, self.place = opening, 0
+            self.opening, self.offset = opening, 0
         self.rules.followed(self.simulation.now, core_opening_of(opening, self.node))

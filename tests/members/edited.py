@@ -49,8 +49,8 @@ def copy_with(edit: Path, tree: Path) -> None:
 
 
 def build(edit: Path, folder: Path) -> bool:
-    """Builds a library with the edit into the folder, in some two minutes, unless it stands there, made of what the sources are now. Whether it
-    stands there then."""
+    """Builds a library with the edit into the folder, in some two minutes, unless it is there, made of what the sources
+    are now. Whether it is there then."""
     with tempfile.TemporaryDirectory() as room:
         copy_with(edit, Path(room, 'tree'))
         return subprocess.run([sys.executable, '-c', BUILD, str(folder)], cwd=Path(room, 'tree'), check=False).returncode == 0

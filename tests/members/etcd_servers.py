@@ -22,7 +22,7 @@ from unittest import mock
 from bully import etcd
 from bully.epochs import Opening
 from bully.etcd import EtcdLog
-from bully.gateway import Answer, Endpoint
+from bully.etcd_client import Answer, Endpoint
 from .processes import has_stopped
 from .steps import OPENING
 from .waiting import wait_until
@@ -60,7 +60,7 @@ class Place(NamedTuple):
 
 
 def free_places(count: int) -> list[Place]:
-    """Places on the loopback."""
+    """Free places on the loopback."""
     found = [Endpoint('127.0.0.1', port) for port in free_ports(2 * count)]
     return [Place(client, peer) for client, peer in zip(found[::2], found[1::2])]
 
@@ -69,7 +69,7 @@ class Server:
     """A server of etcd, in a process of its own."""
 
     def __init__(self, folder: Path, name: str, place: Place, cluster: str, words: Sequence[str]) -> None:
-        self.name, self.place, self.port = name, place, place.client.port
+        self.name, self.address, self.port = name, place, place.client.port
         self.folder = folder
         client, peer = f'{"https" if "--cert-file" in words else "http"}://{place.client}', f'http://{place.peer}'
         self.words = [
@@ -106,9 +106,9 @@ class Server:
     def ask(self, path: str, told: Json, tls: ssl.SSLContext | None = None, token: str = '') -> Json:
         """What it answers. Raises OSError, HTTPException, ValueError."""
         if tls is None:
-            connection = http.client.HTTPConnection(*self.place.client, timeout=5.0)
+            connection = http.client.HTTPConnection(*self.address.client, timeout=5.0)
         else:
-            connection = http.client.HTTPSConnection(*self.place.client, timeout=5.0, context=tls)
+            connection = http.client.HTTPSConnection(*self.address.client, timeout=5.0, context=tls)
         with contextlib.closing(connection):
             connection.request('POST', path, json.dumps(told), {'Authorization': token} if token else {})
             answer: Json = json.loads(connection.getresponse().read())
@@ -150,7 +150,7 @@ class Servers:
         self, count: int = 1, words: Sequence[str] = QUICK, tls: ssl.SSLContext | None = None,
         places: Sequence[Place] = (),
     ) -> None:  # fmt: skip
-        """As many servers as there are places, or else so many on the loopback."""
+        """As many servers as there are places; without places so many on the loopback."""
         self._folder = tempfile.TemporaryDirectory()
         self._tls = tls
         self.each: list[Server] = []
@@ -203,7 +203,7 @@ class Servers:
         return bool(told.get('leader') == told['header']['member_id'] and server.is_up())
 
     def address(self, prefix: str, *servers: Server, kind: str = 'etcd') -> str:
-        return f'{kind}://{",".join(str(server.place.client) for server in servers or self.each)}/{prefix}'
+        return f'{kind}://{",".join(str(server.address.client) for server in servers or self.each)}/{prefix}'
 
     def _kill(self) -> None:
         for server in self.each:
@@ -339,13 +339,13 @@ def add_users(server: Server) -> None:
 OLDER = {1: ['bully,1,3,6', *['start,1'] * 1200], 2: ['bully,1,3,6', 'recover,1']}
 
 
-def older_row(prefix: str, epoch: int, place: int) -> str:
+def older_row(prefix: str, epoch: int, offset: int) -> str:
     """The key of a row in such a log."""
-    return f'{prefix}/log/{epoch:010}/{place:010}'
+    return f'{prefix}/log/{epoch:010}/{offset:010}'
 
 
 def put_older(server: Server, prefix: str) -> None:
-    """Such a log stands below the prefix."""
+    """Puts such a log below the prefix."""
     for epoch, rows in OLDER.items():
         server.put(f'{prefix}/opening/{epoch:010}', OPENING.text())
         for place, row in enumerate([*rows, *(['end,bully,1,3,6'] if epoch + 1 in OLDER else [])]):
@@ -353,7 +353,7 @@ def put_older(server: Server, prefix: str) -> None:
 
 
 def prune_in_part(log: EtcdLog, first: int) -> None:
-    """The epochs before this one are taken away by a process that ends in the middle of that: behind two appends."""
+    """The epochs before this one are taken away by a process that ends in the middle of that: after two appends."""
     change, left = log._change, ['that they are gone', 'a part of their rows']
 
     def end(conditions: Sequence[Json], done: Sequence[Json], *refused: Json) -> Answer:

@@ -1,11 +1,12 @@
 """All states of a small store and of what is under way between it and its members, up to a bound: does any reach what
 must not be?
 
-Abstract: an append is one plan. A place is a number, EPOCH * 100 + ROWS with the header, so places of a later epoch are
-higher, and the last plan stands one before the end of the log, if more than the header is there. A member looks, asks,
-gives up, begins and stops work whenever it may. Requests are done in any order, late, or never. A presence may end at
-any time, and work by it has ended then: that is the clocks' premise. Wrong is that one works by another plan than the
-last one of the current epoch, or that a node uses a token below one that it used, or uses it again in another life.
+Abstract: an append is one plan. An offset is a number, EPOCH * 100 + ROWS with the header, so offsets of a later epoch
+are higher, and the last plan is one before the end of the log, if more than the header is there. A member reads a
+snapshot, asks, gives up, begins and stops work whenever it may. Requests are done in any order, late, or never. A lease
+may end at any time, and work by it has ended then: that is the premise of the clocks. It is wrong if a node works by
+another plan than the last one of the current epoch, uses a token below one that it has used, or uses a token again in
+another session.
 """
 from __future__ import annotations
 
@@ -18,8 +19,8 @@ FIRST = EPOCH + 1  # the end of a log of the first epoch with its header alone
 
 # Conditions that may be left out, one at a time. Each has to lead to what is wrong.
 CONDITIONS = (
-    'append while not idle', 'append anywhere', 'finish while not idle', 'finish anywhere', 'take anywhere',
-    'take promises nothing', 'promise forgotten', 'promises while it works', 'promise lost',
+    'append while not idle', 'append anywhere', 'roll over while not idle', 'roll over anywhere', 'acquire anywhere',
+    'acquire promises nothing', 'promise forgotten', 'promises while it works', 'promise lost',
 )  # fmt: skip
 
 
@@ -27,25 +28,25 @@ class Bounds(NamedTuple):
     nodes: int = 2
     rows: int = 2  # plans of an epoch
     epochs: int = 2
-    lives: int = 2
+    sessions: int = 2
     under_way: int = 2
 
 
-# So small that all states are seen, in seconds: of two nodes with two lives each, of two over two epochs, and of three.
+# So small that all states are seen, in seconds: two nodes with two sessions each, two over two epochs, and three.
 WHOLE = (Bounds(2, 2, 1, 2, 1), Bounds(2, 1, 2, 1, 1), Bounds(3, 1, 1, 1, 1))
 ALL = 1_000_000  # states, which none of them has
 
 
 class Node(NamedTuple):
-    """What the store has of a node: a life (0: none), and its promise. And what its process knows: its life; the one
-    that it asks for; how many it asked for; up to where it has read; what its life has promised; the plan by which it
-    works (0: none); and what it used last, in which life."""
+    """What the store has of a node: a session (0: none), and its promise. And what its process knows: its session; the
+    session that it asks for; how many it has asked for; up to where it has read; what its session has promised; the
+    plan by which it works (0: none); and what it used last, in which session."""
 
     held: int = 0
     promise: int = 0
-    life: int = 0
+    session: int = 0
     asking: int = 0
-    lives: int = 0
+    sessions: int = 0
     learned: int = FIRST
     promised: int = 0
     work: int = 0
@@ -53,12 +54,12 @@ class Node(NamedTuple):
 
 
 class Request(NamedTuple):
-    """What is under way: of which node (-1: of any), for which life, at which place."""
+    """A request that is under way: of which node (-1: of any), for which session, at which offset."""
 
     kind: str
     node: int
-    life: int
-    place: int
+    session: int
+    offset: int
 
 
 class State(NamedTuple):
@@ -97,36 +98,36 @@ class Explorer:
             return state._replace(nodes=nodes, asked=state.asked | ({more} if more else frozenset()))
 
         has_room = len(state.asked) < self.bounds.under_way
-        if not node.life and not node.asking and node.lives < self.bounds.lives and has_room:
-            life, promised = node.lives + 1, 0 if self.without == 'take promises nothing' else node.learned
-            yield 'asks for a presence', to(
-                Request('take', number, life, node.learned), asking=life, lives=life, promised=promised
+        if not node.session and not node.asking and node.sessions < self.bounds.sessions and has_room:
+            session, promised = node.sessions + 1, 0 if self.without == 'acquire promises nothing' else node.learned
+            yield 'asks for a lease', to(
+                Request('acquire', number, session, node.learned), asking=session, sessions=session, promised=promised
             )
         if node.asking:
             yield 'gives up', to(asking=0)
         if node.learned != end:
-            yield 'looks', to(learned=end)
-        if node.life and (not node.work or self.without == 'promises while it works') and has_room:
+            yield 'reads a snapshot', to(learned=end)
+        if node.session and (not node.work or self.without == 'promises while it works') and has_room:
             promised = node.promised if self.without == 'promise forgotten' else node.learned
-            yield 'asks to be idle', to(Request('promise', number, node.life, node.learned), promised=promised)
-        if node.life and has_room:
-            for kind in ('append', 'finish'):
+            yield 'asks to be idle', to(Request('promise', number, node.session, node.learned), promised=promised)
+        if node.session and has_room:
+            for kind in ('append', 'roll over'):
                 yield f'asks to {kind}', to(Request(kind, -1, 0, node.learned))
         plan = plan_before(node.learned)
-        if node.life and node.held == node.life and not node.work and plan and plan >= node.promised:
-            yield 'begins', to(work=plan, used=(plan, node.life))
+        if node.session and node.held == node.session and not node.work and plan and plan >= node.promised:
+            yield 'begins', to(work=plan, used=(plan, node.session))
         if node.work:
             yield 'stops', to(work=0)
         if node.held:
-            yield 'presence ends', to(held=0, promise=0, work=0, life=0 if node.life == node.held else node.life)
+            yield 'lease ends', to(held=0, promise=0, work=0, session=0 if node.session == node.held else node.session)
         if node.held and self.without == 'promise lost':
             yield 'promise is lost', to(promise=end)
 
     def done_to_log(self, state: State, request: Request) -> Iterator[Way]:
         end = state.end
         promises = {node.promise for node in state.nodes if node.held}
-        is_idle = promises == {request.place} or self.without == f'{request.kind} while not idle' and bool(promises)
-        is_there = end == request.place or self.without == f'{request.kind} anywhere'
+        is_idle = promises == {request.offset} or self.without == f'{request.kind} while not idle' and bool(promises)
+        is_there = end == request.offset or self.without == f'{request.kind} anywhere'
         after = end + 1 if request.kind == 'append' else (end // EPOCH + 1) * EPOCH + 1
         is_within = after % EPOCH <= self.bounds.rows + 1 and after // EPOCH <= self.bounds.epochs
         done = is_idle and is_there and is_within
@@ -141,18 +142,18 @@ class Explorer:
             return state._replace(nodes=nodes)
 
         if request.kind == 'promise':
-            yield 'is idle', to(promise=max(request.place, node.promise)) if node.held == request.life else state
-        elif node.held or state.end != request.place and self.without != 'take anywhere':
-            yield 'presence is refused', to(asking=0 if node.asking == request.life else node.asking)
+            yield 'is idle', to(promise=max(request.offset, node.promise)) if node.held == request.session else state
+        elif node.held or state.end != request.offset and self.without != 'acquire anywhere':
+            yield 'lease is refused', to(asking=0 if node.asking == request.session else node.asking)
         else:
-            promise = 0 if self.without == 'take promises nothing' else request.place
-            yield 'is present', to(held=request.life, promise=promise)
-            if node.asking == request.life and not node.life:
-                yield 'is present, and knows', to(held=request.life, promise=promise, life=request.life, asking=0)
+            promise = 0 if self.without == 'acquire promises nothing' else request.offset
+            yield 'is live', to(held=request.session, promise=promise)
+            if node.asking == request.session and not node.session:
+                yield 'is live, and knows', to(held=request.session, promise=promise, session=request.session, asking=0)
 
     def explore(self, most: int) -> tuple[str | None, int]:
-        """How what must not be is reached, if it is, by the fewest steps; and how many states were seen, which is
-        `most` if there are more."""
+        """How a wrong state is reached by the fewest steps, if one is; and how many states were seen, which is `most`
+        if there are more."""
         first = State(FIRST, (Node(),) * self.bounds.nodes)
         seen: dict[State, tuple[State, str] | None] = {first: None}
         queue: Deque[State] = deque([first])
@@ -184,5 +185,5 @@ def wrong_with(before: State, after: State) -> str | None:
         if new.used != old.used and (
             new.used[0] < old.used[0] or new.used[0] == old.used[0] and new.used[1] != old.used[1]
         ):
-            return f'a node uses {new.used} behind {old.used}'
+            return f'a node uses {new.used} after {old.used}'
     return None

@@ -7,7 +7,7 @@ import time
 from collections.abc import Callable, Sequence
 from functools import partial
 
-from bully.gateway import Endpoint
+from bully.etcd_client import Endpoint
 from .etcd_servers import Place, Server, Servers
 from .groups import NAMES, PATIENCE, Group
 from .namespaces import CLIENTS, PEERS, Network
@@ -16,7 +16,7 @@ from .waiting import wait_until
 SERVERS = ('s0', 's1', 's2')
 CLIENT_PORT, PEER_PORT = 2379, 2380
 KILLS = 3  # how often a member is killed while each other fault happens once
-SETTLED = 1.25  # of the ttl: by then each presence was renewed, or has ended
+STEADY = 1.25  # of the ttl: by then each lease has been renewed, or has ended
 
 Fault = Callable[[], None]
 
@@ -34,7 +34,7 @@ def places(network: Network) -> list[Place]:
 
 
 def addresses(servers: Servers, prefix: str) -> dict[str, str]:
-    """The address of the log for each member, which asks another server first, and for who looks at them."""
+    """The address of the log for each member, which asks another server first; and for the view of the group ('')."""
     turned = {name: number % len(servers.each) for number, name in enumerate(('', *NAMES))}
     return {
         name: servers.address(prefix, *servers.each[first:], *servers.each[:first]) for name, first in turned.items()
@@ -46,7 +46,7 @@ class Faults:
 
     def __init__(self, group: Group, servers: Servers, network: Network | None, choice: random.Random) -> None:
         self.group, self.servers, self.network, self.choice = group, servers, network, choice
-        self.settles = SETTLED * group.ttl
+        self.steady = STEADY * group.ttl
         self.done = 0
         self.refused = 0  # units of work, by their tokens, while somebody was paused
 
@@ -88,7 +88,7 @@ class Faults:
         return found
 
     def run(self, count: int) -> None:
-        """So many faults, one after the other. All servers are up behind each of them."""
+        """So many faults, one after the other. All servers are up after each of them."""
         for fault in self.chosen(count):
             fault()
             wait_until(self.servers.are_up)
@@ -109,15 +109,15 @@ class Faults:
         name, seconds = self.choice.choice(NAMES), self.group.ttl / 2
         network.cut(name, CLIENTS)
         time.sleep(seconds)
-        self.come_to_rest(f'the end of a cut of a member for {seconds:g} s', lambda: network.heal(name, CLIENTS))
+        self.become_stable(f'the end of a cut of a member for {seconds:g} s', lambda: network.heal(name, CLIENTS))
 
     def cut_member(self, network: Network) -> None:
-        """Until the others are at rest without it."""
+        """Until the others are stable without it."""
         name = self.choice.choice(NAMES)
         member = self.group.members.pop(name)
-        self.group.come_to_rest('the begin of a cut of a member', lambda: network.cut(name, CLIENTS))
+        self.group.become_stable('the begin of a cut of a member', lambda: network.cut(name, CLIENTS))
         self.group.members[name] = member
-        self.group.come_to_rest('the end of a cut of a member', lambda: network.heal(name, CLIENTS))
+        self.group.become_stable('the end of a cut of a member', lambda: network.heal(name, CLIENTS))
 
     # Servers.
 
@@ -128,14 +128,14 @@ class Faults:
 
     def kill_server(self, leads: bool) -> None:
         server, what = self.server(leads), told(leads)
-        self.come_to_rest(f'the death of {what}', server.kill)
-        self.come_to_rest(f'the return of {what}', server.start)
+        self.become_stable(f'the death of {what}', server.kill)
+        self.become_stable(f'the return of {what}', server.start)
 
     def pause_servers(self) -> None:
         """All of them, for three times the ttl."""
         self.send_servers(Server.pause)
         time.sleep(3 * self.group.ttl)
-        self.come_to_rest('the end of a pause of all servers', partial(self.send_servers, Server.resume))
+        self.become_stable('the end of a pause of all servers', partial(self.send_servers, Server.resume))
 
     def begin_unanswered(self) -> None:
         """A member is killed, and another process comes for its node, while no server answers."""
@@ -148,7 +148,7 @@ class Faults:
         member.wait(PATIENCE)
         self.group.begin(name)
         wait_until(lambda: 'in time' in said.read_text()[before:])
-        self.come_to_rest(
+        self.become_stable(
             'the end of a pause of all servers, in which a member began', partial(self.send_servers, Server.resume)
         )
 
@@ -158,12 +158,12 @@ class Faults:
 
     def cut_server(self, network: Network, leads: bool, from_whom: str, bridges: Sequence[int]) -> None:
         server, what = self.server(leads), told(leads)
-        self.come_to_rest(f'the begin of a cut of {what} from {from_whom}', lambda: network.cut(server.name, *bridges))
-        self.come_to_rest(f'the end of a cut of {what} from {from_whom}', lambda: network.heal(server.name, *bridges))
+        self.become_stable(f'the begin of a cut of {what} from {from_whom}', lambda: network.cut(server.name, *bridges))
+        self.become_stable(f'the end of a cut of {what} from {from_whom}', lambda: network.heal(server.name, *bridges))
 
-    def come_to_rest(self, what: str, change: Callable[[], object]) -> None:
-        """The same as of a group, where presences may still end in a while."""
-        self.group.come_to_rest(what, change, self.settles)
+    def become_stable(self, what: str, change: Callable[[], object]) -> None:
+        """Makes a change to the group, where leases may still end in a while."""
+        self.group.become_stable(what, change, self.steady)
 
 
 def told(leads: bool) -> str:

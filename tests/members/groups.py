@@ -13,8 +13,8 @@ from pathlib import Path
 
 from bully import Status, check
 from bully.command import parser
-from bully.logs import Log, Unanswered
-from bully.stores import store_of
+from bully.shared_log import Log, Unanswered
+from bully.store_options import store_of
 from bully.view import GroupView, LogView
 from places import environment
 from .processes import children, close_all, own_memory, processor_seconds, send_all, workers_of
@@ -30,9 +30,9 @@ events = 1000
 turns = 1
 names = %s
 """
-PATIENCE = 60.0  # seconds that anything may take: who comes again and again counts only behind a third of that
+PATIENCE = 60.0  # seconds that anything may take: who comes again and again is admitted only after a third of that
 ROW = 64  # bytes that a row of a worker has at most
-MEMORY = 24.0  # MiB that an idle member and its guard have of their own
+MEMORY = 24.0  # MiB that an idle member and its watchdog have of their own
 
 
 def told_seconds(what: str, seconds: Sequence[float]) -> str:
@@ -42,21 +42,21 @@ def told_seconds(what: str, seconds: Sequence[float]) -> str:
 
 @dataclass
 class Times:
-    """How long a group took to come to rest behind changes of one kind, and how many rows; the same behind the end of a
-    presence, if one ended, or else behind the begin of the last one, if one began; and until all partitions were worked
-    on, if that was looked for at once."""
+    """How long a group took to become stable after changes of one kind, and how many rows that took. How long it took
+    after the end of a lease, if one ended, or else after the start of the last one, if one started. And how long until
+    all partitions were worked on, if that was checked at once."""
 
-    to_rest: list[float] = field(default_factory=list)
-    behind_end: list[float] = field(default_factory=list)
-    behind_begin: list[float] = field(default_factory=list)
+    to_stable: list[float] = field(default_factory=list)
+    after_end: list[float] = field(default_factory=list)
+    after_begin: list[float] = field(default_factory=list)
     to_work: list[float] = field(default_factory=list)
     rows: list[int] = field(default_factory=list)
 
     def __str__(self) -> str:
-        told = told_seconds('to rest in', self.to_rest) + told_seconds("behind a presence's end", self.behind_end)
-        told += told_seconds("behind a presence's begin", self.behind_begin)
+        told = told_seconds('to become stable in', self.to_stable) + told_seconds("after a lease's end", self.after_end)
+        told += told_seconds("after a lease's start", self.after_begin)
         rows = f', {statistics.median(self.rows):.0f} rows, at most {max(self.rows)}'
-        return f'{len(self.to_rest)} times{told}{rows}{told_seconds("to work in", self.to_work)}'
+        return f'{len(self.to_stable)} times{told}{rows}{told_seconds("to work in", self.to_work)}'
 
 
 class Work:
@@ -103,9 +103,9 @@ class Group:
         names: Sequence[str] = NAMES, partitions: int = PARTITIONS, words: Sequence[str] = (),
         work: Callable[[Path, int], Work] = Work,
     ) -> None:  # fmt: skip
-        """A new group. The store is told for each member, and for who looks at them (''). `within` has the words by
-        which a process is begun where a member is; `words` are more ones for each member; and `work` makes what has the
-        work, in a folder."""
+        """A new group. `stores` has the address of the log for each member, and for the view of the group ('').
+        `within` has the words by which a process is begun where a member is; `words` are more ones for each member; and
+        `work` makes what has the work, in a folder."""
         self.folder, self.ttl, self.words = folder, ttl, list(words)
         self.stores, self.within = stores, within
         self.configs = 0
@@ -117,8 +117,8 @@ class Group:
         self.count(self.command('init', '--config', str(self.config)).wait(PATIENCE) == 0, 'no log can be made')
         self.view = LogView(self.opened())
         self.shown = self.view.show()  # as it was seen last
-        self.all_present = 0.0  # when nobody was gone yet that was present before the last change
-        self.not_present = 0.0  # when not all were present yet that had a process by then
+        self.all_live = 0.0  # the last moment at which all nodes were live that were so before the last change
+        self.not_live = 0.0  # the last moment at which not all nodes were live that had a process by then
 
     def configured(self, names: Sequence[str], partitions: int) -> Path:
         """A new file with settings."""
@@ -161,59 +161,60 @@ class Group:
         if not is_so:
             print(f'FAILED: {what}', flush=True)
 
-    # Rest.
+    # The state of the group.
 
-    def look(self, present: AbstractSet[str] | None = None) -> GroupView | None:
-        """How the group stands; nothing, if the store doesn't answer. If some are told, it is noted until when these
-        were all present, and until when not all were that have a process."""
+    def snapshot(self, live: AbstractSet[str] | None = None) -> GroupView | None:
+        """What the view shows of the group; nothing, if the store doesn't answer. With `live` it is noted until when
+        all of these nodes were live, and until when not all nodes that have a process were."""
         now = time.monotonic()
         try:
             self.shown = self.view.show()
         except Unanswered:
             return None
-        if present is not None and present <= present_in(self.shown):
-            self.all_present = now
-        if present is not None and not set(self.members) <= present_in(self.shown):
-            self.not_present = now
+        if live is not None and live <= live_in(self.shown):
+            self.all_live = now
+        if live is not None and not set(self.members) <= live_in(self.shown):
+            self.not_live = now
         return self.shown
 
     def show(self) -> GroupView:
-        """How the group stands."""
+        """What the view shows of the group."""
         end = time.monotonic() + PATIENCE
         while time.monotonic() < end:
-            shown = self.look()
+            shown = self.snapshot()
             if shown is not None:
                 return shown
         raise TimeoutError('the store does not answer')
 
-    def is_at_rest(self, shown: GroupView) -> bool:
-        """Whether all that have a process work, under the highest, and own all that there is; and no others are up."""
+    def is_stable(self, shown: GroupView) -> bool:
+        """Whether all nodes that have a process work, under the highest, and own all partitions; and no others are
+        up."""
         alive = [node.name for node in shown.nodes if node.name in self.members]
         up = [node.name for node in shown.nodes if node.status is not Status.DOWN]
         normal = [node.name for node in shown.nodes if node.status is Status.NORMAL]
         return up == normal == alive and shown.coordinator == alive[-1] and set(shown.owners) == set(alive)
 
-    def rest(self, settles: float, end: float) -> float | None:
-        """Waits for a rest that lasts for so many seconds at least. When it began; nothing, if it didn't up to the
+    def stay_stable(self, seconds: float, end: float) -> float | None:
+        """Waits until the group has been stable for so many seconds. When that began; nothing, if it isn't before the
         end."""
-        since, rows, present = 0.0, -1, present_in(self.shown)
+        since, rows, live = 0.0, -1, live_in(self.shown)
         while time.monotonic() < end:
-            shown, now = self.look(present), time.monotonic()
-            if shown is None or not self.is_at_rest(shown):
+            shown, now = self.snapshot(live), time.monotonic()
+            if shown is None or not self.is_stable(shown):
                 rows = -1
             elif shown.rows != rows:
                 since, rows = now, shown.rows
-            if rows >= 0 and now >= since + settles:
+            if rows >= 0 and now >= since + seconds:
                 return since
             time.sleep(0.01)
         return None
 
     def goes_on(self, end: float, but: str = '') -> float | None:
-        """Waits until one more unit is done on each partition, but those of that node, which have no owner while it may
-        not work on them, by the token of the table. When that was."""
+        """Waits until one more unit is done on each partition by the token of the table, except on those of the node
+        `but`, which have no owner while it may not work on them. When that was."""
         before, left_out = self.work.sizes(), (but, None) if but else ()
         while time.monotonic() < end:
-            shown, sizes, tokens = self.look(), self.work.sizes(), self.work.last_tokens()
+            shown, sizes, tokens = self.snapshot(), self.work.sizes(), self.work.last_tokens()
             owners = enumerate(shown.owners if shown is not None else ())
             others = [partition for partition, owner in owners if owner not in left_out]
             are_done = all(sizes[partition] > before[partition] for partition in others)
@@ -222,24 +223,24 @@ class Group:
             time.sleep(0.01)
         return None
 
-    def come_to_rest(self, what: str, change: Callable[[], object], settles: float = 0.0) -> None:
-        """Makes a change, and waits until the group is at rest behind it, and works: how long that took, and how many
-        rows."""
+    def become_stable(self, what: str, change: Callable[[], object], steady: float = 0.0) -> None:
+        """Makes a change, and waits until the group is stable after it, and works. It notes how long that took, and how
+        many rows."""
         before, begun = self.shown, time.monotonic()
-        self.all_present = self.not_present = begun
+        self.all_live = self.not_live = begun
         change()
-        rested = self.rest(settles, begun + PATIENCE)
-        worked = self.goes_on(time.monotonic() + PATIENCE) if rested is not None else None
-        self.count(rested is not None, f'{what}: no rest')
+        stable_since = self.stay_stable(steady, begun + PATIENCE)
+        worked = self.goes_on(time.monotonic() + PATIENCE) if stable_since is not None else None
+        self.count(stable_since is not None, f'{what}: not stable')
         self.count(worked is not None, f'{what}: no work')
         self.see_processes(what)
-        if rested is not None and worked is not None:
+        if stable_since is not None and worked is not None:
             times, after = self.times.setdefault(what, Times()), self.shown
-            times.to_rest.append(rested - begun)
-            gone, come = present_in(before) - present_in(after), present_in(after) - present_in(before)
-            times.behind_end += [rested - self.all_present] if gone else []
-            times.behind_begin += [rested - self.not_present] if come and not gone else []
-            times.to_work += [worked - begun] if settles == 0 else []
+            times.to_stable.append(stable_since - begun)
+            gone, come = live_in(before) - live_in(after), live_in(after) - live_in(before)
+            times.after_end += [stable_since - self.all_live] if gone else []
+            times.after_begin += [stable_since - self.not_live] if come and not gone else []
+            times.to_work += [worked - begun] if steady == 0 else []
             times.rows.append(after.rows - (before.rows if after.epoch == before.epoch else 0))
 
     def see_processes(self, what: str) -> None:
@@ -258,41 +259,41 @@ class Group:
             self.count(status == 0, f'{what} ends with status {status}')
             self.work.partitions = partitions
 
-        self.come_to_rest(what, change)
+        self.become_stable(what, change)
         self.count(self.show().epoch == epoch + 1, 'another epoch')
         return file
 
     def kill(self, name: str) -> None:
         """The member is killed, and then another process comes for its node."""
         member = self.members.pop(name)
-        self.come_to_rest('a death', member.kill)
+        self.become_stable('a death', member.kill)
         member.wait(PATIENCE)
-        self.come_to_rest('a return', lambda: self.begin(name))
+        self.become_stable('a return', lambda: self.begin(name))
 
-    def order(self, *words: str) -> None:
-        """An order is given."""
+    def set_maintenance(self, *words: str) -> None:
+        """Runs a command by which an operator sets maintenance."""
         self.count(self.command(*words).wait(PATIENCE) == 0, f'{" ".join(words)} failed')
 
     def drain(self, name: str) -> None:
         """The node is drained, and taken back. Its process stays."""
         drained, given = self.members.pop(name), []
-        self.come_to_rest('a drain', lambda: given.append(self.command('drain', name)))
+        self.become_stable('a drain', lambda: given.append(self.command('drain', name)))
         self.count(given[0].wait(PATIENCE) == 0, 'a drain failed')
         self.count(drained.poll() is None, f'{name} was drained, and ended with status {drained.returncode}')
         self.members[name] = drained
-        self.come_to_rest('the end of a drain', lambda: self.order('undrain', name))
+        self.become_stable('the end of a drain', lambda: self.set_maintenance('undrain', name))
 
     def halt(self, name: str) -> None:
         """In a pause of the group the member is killed, and another process comes for its node: the others work on, and
         nothing is appended."""
-        self.order('pause')
+        self.set_maintenance('pause')
         before, member = self.show(), self.members.pop(name)
         member.kill()
         member.wait()
-        for is_present in (False, True):
-            if is_present:
+        for is_live in (False, True):
+            if is_live:
                 self.begin(name)
-            self.count(self.sees(name, is_present), f'{name} is {"not " if is_present else ""}present')
+            self.count(self.sees(name, is_live), f'{name} is {"not " if is_live else ""}live')
             for _ in range(3):
                 self.count(
                     self.goes_on(time.monotonic() + PATIENCE, name) is not None, 'the others do not work on in a pause'
@@ -300,20 +301,20 @@ class Group:
             after = self.show()
             same = (after.epoch, after.rows, after.token) == (before.epoch, before.rows, before.token)
             self.count(same and after.is_paused, f'in a pause the group has {after.rows} rows, and had {before.rows}')
-        self.come_to_rest('the end of a pause of the group', lambda: self.order('resume'))
+        self.become_stable('the end of a pause of the group', lambda: self.set_maintenance('resume'))
 
-    def sees(self, name: str, is_present: bool) -> bool:
-        """Waits until the node is present, or isn't. Whether that came."""
+    def sees(self, name: str, is_live: bool) -> bool:
+        """Waits until the node is live, or is not. Whether that came in time."""
         end = time.monotonic() + PATIENCE
-        while (name in present_in(self.show())) != is_present:
+        while (name in live_in(self.show())) != is_live:
             if time.monotonic() > end:
                 return False
             time.sleep(0.01)
         return True
 
     def pause(self, name: str, seconds: float, whom: str) -> None:
-        """The member, its worker or both are stopped for so long; a member for more than the ttl until the others are
-        at rest."""
+        """The member, its worker or both are stopped for so long; a member that is stopped for more than the ttl, until
+        the others are stable."""
         paused = self.members[name]
         workers = [] if whom == 'member' else workers_of(paused.pid)
         self.count(whom == 'member' or bool(workers), f'{name} has no worker to pause')
@@ -327,28 +328,28 @@ class Group:
             if whom == 'worker' or seconds < self.ttl:
                 send(signal.SIGSTOP)
                 time.sleep(seconds)
-                self.come_to_rest(f'the end of a pause of a {whom} for {seconds:g} s', lambda: send(signal.SIGCONT))
+                self.become_stable(f'the end of a pause of a {whom} for {seconds:g} s', lambda: send(signal.SIGCONT))
             else:
                 self.pause_for_long(name, whom, send)
         finally:
             close_all(workers)
 
     def pause_for_long(self, name: str, whom: str, send: Callable[[int], None]) -> None:
-        """The member is stopped until the others are at rest without it."""
+        """The member is stopped until the others are stable without it."""
         paused = self.members.pop(name)
-        self.come_to_rest(f'the begin of a pause of a {whom}', lambda: send(signal.SIGSTOP))
+        self.become_stable(f'the begin of a pause of a {whom}', lambda: send(signal.SIGSTOP))
         if paused.poll() is None:
             self.members[name] = paused
-            self.come_to_rest(f'the end of a pause of a {whom}', lambda: send(signal.SIGCONT))
+            self.become_stable(f'the end of a pause of a {whom}', lambda: send(signal.SIGCONT))
         else:
             print(f'{name} was stopped in the middle of a write, and was killed')
-            self.come_to_rest('a return', lambda: self.begin(name))
+            self.become_stable('a return', lambda: self.begin(name))
 
-    # At rest, and in the end.
+    # While the group is stable, and at its end.
 
     def idle(self, seconds: float, most: float) -> None:
-        """What members and their guards cost that have nothing to do: no row, less than this percentage of a processor,
-        and 24 MiB."""
+        """What members that have nothing to do cost, with their watchdogs: no row, less than this percentage of a
+        processor, and less than 24 MiB."""
         processes = {name: [member.pid, *children(member.pid)] for name, member in self.members.items()}
         before, rows, begun = cost(processes), self.show().rows, time.monotonic()
         time.sleep(seconds)
@@ -364,8 +365,8 @@ class Group:
         )
 
     def end(self, program: Path | None = None) -> None:
-        """All leave in order, one of them behind the others, and what they left is judged; also with everything said,
-        if there is the program `bully`."""
+        """All leave in order, one of them after the others, and what they left is judged; also with everything said, if
+        there is the program `bully`."""
         *others, last = self.members
         for names in (others, [last]):
             for name in names:
@@ -375,7 +376,7 @@ class Group:
                     self.members[name].wait(PATIENCE) == 0, f'{name} ended with status {self.members[name].returncode}'
                 )
         shown = self.show()
-        self.count(not any(node.is_present for node in shown.nodes), 'a member is still present')
+        self.count(not any(node.is_live for node in shown.nodes), 'a member is still live')
         self.count(all(node.status is Status.DOWN for node in shown.nodes), 'a node is still up')
         self.judge_log(program)
         self.judge_work()
@@ -441,9 +442,9 @@ class Group:
         self.view.close()
 
 
-def present_in(shown: GroupView) -> set[str]:
-    """Who is present."""
-    return {node.name for node in shown.nodes if node.is_present}
+def live_in(shown: GroupView) -> set[str]:
+    """The names of the live nodes."""
+    return {node.name for node in shown.nodes if node.is_live}
 
 
 def cost(processes: dict[str, list[int]]) -> list[float]:

@@ -1,4 +1,5 @@
-"""What is judged of a store of a group in simulated time: who is present, its epochs, what looks find, and what is wished for."""
+"""What is judged of a store of a group in simulated time: who holds a lease, its epochs, what snapshots find, and which
+settings are requested."""
 from __future__ import annotations
 
 from collections.abc import Callable, Mapping, Set as AbstractSet
@@ -6,18 +7,18 @@ from dataclasses import dataclass
 from functools import cached_property
 from typing import Protocol
 
-from bully import logs
+from bully import shared_log
+from bully.core import Promise, Session, Until
 from bully.epochs import Opening
-from bully.member import Life, Promise, Until
-from bully.orders import Orders
+from bully.maintenance import Maintenance
 from bully.settings import Settings
 
 
 @dataclass(frozen=True)
 class Lease:
-    """Who holds a presence, and until when."""
+    """The session that holds a lease, what it has promised, and until when it holds the lease."""
 
-    life: Life
+    session: Session
     promise: Promise
     until: int
 
@@ -44,16 +45,16 @@ def table_of(plan: str) -> tuple[int, ...]:
 
 
 @dataclass(frozen=True)
-class Found:
-    """What a look found, without its rows, and where the log ended then."""
+class Snapshot:
+    """What a snapshot found, without its rows, and where the log ended then."""
 
-    told: logs.Found
+    told: shared_log.Snapshot
     end: Promise
 
     @cached_property
-    def lives(self) -> dict[str, Life]:
-        """Whose lives it found, by name."""
-        return self.told.lives
+    def sessions(self) -> dict[str, Session]:
+        """Whose sessions it found, by name."""
+        return self.told.sessions
 
     @cached_property
     def idle(self) -> frozenset[str]:
@@ -61,19 +62,20 @@ class Found:
         return self.told.idle(self.end)
 
 
-class Watchable(logs.Log, Protocol):
+class Watchable(shared_log.Log, Protocol):
     """A log that says whether a wait is over."""
 
     def has_news(
         self,
         epoch: int,
-        place: int,
-        lives: Mapping[str, Life],
-        wanted: logs.Wanted,
+        offset: int,
+        sessions: Mapping[str, Session],
+        wanted: shared_log.Wanted,
         until: Until,
         before: AbstractSet[str],
     ) -> bool:
-        """After a look that found this to be wanted, and these idle up to that place."""
+        """The same after a snapshot that found these settings and this maintenance, and these nodes idle at that
+        offset."""
 
 
 class LogStore:
@@ -93,36 +95,36 @@ class LogStore:
         return self.epochs[-1]
 
     def held(self) -> dict[str, Lease]:
-        """Who is present, by name."""
+        """The leases that are held, by the names of their nodes."""
         raise NotImplementedError
 
-    def holds(self, name: str, life: Life) -> bool:
+    def holds(self, name: str, session: Session) -> bool:
         lease = self.held().get(name)
-        return lease is not None and lease.life == life
+        return lease is not None and lease.session == session
 
-    def has_news(self, epoch: int, found: Found, until: Until) -> bool:
-        return self.log.has_news(epoch, found.end.place, found.lives, found.told.wanted, until, found.idle)
+    def has_news(self, epoch: int, found: Snapshot, until: Until) -> bool:
+        return self.log.has_news(epoch, found.end.offset, found.sessions, found.told.wanted, until, found.idle)
 
-    # What is wished for and ordered, and old epochs.
-
-    @property
-    def orders(self) -> Orders:
-        raise NotImplementedError
-
-    def wished(self) -> Settings | None:
-        raise NotImplementedError
+    # The requested settings, the maintenance, and old epochs.
 
     @property
-    def wish(self) -> Settings | None:
-        return self.wished()
+    def maintenance(self) -> Maintenance:
+        raise NotImplementedError
 
-    @wish.setter
-    def wish(self, settings: Settings | None) -> None:
+    def requested_settings(self) -> Settings | None:
+        raise NotImplementedError
+
+    @property
+    def requested(self) -> Settings | None:
+        return self.requested_settings()
+
+    @requested.setter
+    def requested(self, settings: Settings | None) -> None:
         opening = self.log.opening()
         if settings is None or opening.is_of(settings):
             self.log.cancel(opening.epoch)
         else:
-            self.log.ask(opening.wish(settings), opening.epoch)
+            self.log.ask(opening.requested(settings), opening.epoch)
 
     def prune(self) -> None:
         self.log.prune(self.epoch.number)

@@ -19,7 +19,7 @@ class Contender:
     """An `etcdctl` that waits for a lock, and holds it then."""
 
     def __init__(self, within: Sequence[str], servers: Servers, name: str, ttl: float) -> None:
-        endpoints = ','.join(str(server.place.client) for server in servers.each)
+        endpoints = ','.join(str(server.address.client) for server in servers.each)
         words = [*within, 'etcdctl', '--endpoints', endpoints, 'lock', name, '--ttl', f'{ttl:.0f}']
         self.process = subprocess.Popen(
             words, stdin=subprocess.DEVNULL, stdout=subprocess.PIPE, env={**os.environ, 'ETCDCTL_API': '3'}

@@ -13,7 +13,7 @@ from .trouble import Trouble
 NODES = 5
 ROWS = 600  # of an epoch, for each node
 GROWTH = 2.0  # megabytes that may come to be from the first fifth on
-PARTS = 10  # how often the memory is looked at
+PARTS = 10  # how often the memory is measured
 
 
 def megabytes() -> float:
@@ -52,7 +52,7 @@ class Long:
             if number % max(1, changes // PARTS) == changes // PARTS - 1:
                 self.tidy()
         simulation.is_calm = True
-        simulation.rest()
+        simulation.become_stable()
         self.tidy()
         simulation.close()
         grown = max(self.memory[2:]) - self.memory[1]
@@ -72,7 +72,7 @@ class Long:
         self.processes -= len(simulation.members)
 
     def tidy(self) -> None:
-        """Old epochs are judged and taken away, and the memory is looked at."""
+        """Old epochs are judged and taken away, and the memory is measured."""
         store = self.simulation.store
         ended = [epoch for epoch in store.epochs if epoch.rows and epoch is not store.epoch]
         for epoch in ended:

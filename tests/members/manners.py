@@ -8,11 +8,11 @@ import random
 from collections import Counter
 from collections.abc import Callable
 
+from bully.core import Ask, Request
 from bully.epochs import Opening
-from bully.member import Ask, Request
 from .driven import Member, Wrong
 from .over_memory import LogMember, OverMemory
-from .settling import Simulation
+from .stabilizing import Simulation
 from .trouble import Trouble
 
 REMEMBERED = 61  # ttl: after so long nobody knows that a node came before
@@ -26,31 +26,32 @@ class Nothing(Trouble):
     def __init__(self, choice: random.Random) -> None:
         super().__init__(choice)
         self.lost = self.unanswered = self.slow = self.late = self.ends = self.renewal_pauses = 0.0
-        self.pauses = self.deaths = self.leaves = self.cuts = self.joins = self.loops = self.wishes = self.prunes = 0.0
+        self.pauses = self.deaths = self.leaves = self.cuts = self.joins = self.loops = self.requests = self.prunes = 0.0
         self.trip, self.patience, self.room, self.unit, self.slowest = 0.002, PATIENCE, 10_000, 0.01, None
         self.nodes_least, self.nodes = 2, 4
 
 
 class Mannered(LogMember):
-    """It is noted what it asks. Its first presence may be taken late: once the store has heard that it is given back."""
+    """It notes what it asks for. If its first lease is acquired late, that is after the store was asked to release
+    it."""
 
     simulation: Manners
 
     def __init__(self, simulation: Simulation, name: str, number: int, opening: Opening) -> None:
         super().__init__(simulation, name, number, opening)
-        self.late_take: Callable[[], object] | None = None
+        self.late_acquire: Callable[[], object] | None = None
 
     def called(self, ask: Ask) -> Callable[[], object]:
         call = super().called(ask)
-        if ask.request is not Request.RELEASE or self.late_take is None:
+        if ask.request is not Request.RELEASE or self.late_acquire is None:
             return call
-        take, self.late_take = self.late_take, None
-        return lambda: (call(), take())[0]
+        acquire, self.late_acquire = self.late_acquire, None
+        return lambda: (call(), acquire())[0]
 
     def ask(self, ask: Ask) -> None:
         self.simulation.asks[ask.request] += 1
-        if ask.request is Request.TAKE and self.simulation.takes_late:
-            self.simulation.takes_late, self.late_take = False, self.called(ask)
+        if ask.request is Request.ACQUIRE and self.simulation.acquires_late:
+            self.simulation.acquires_late, self.late_acquire = False, self.called(ask)
             self.cut_until = self.simulation.now + 1
         super().ask(ask)
 
@@ -62,54 +63,55 @@ class Manners(OverMemory):
 
     def __init__(self, seed: int) -> None:
         super().__init__(seed, Nothing)
-        self.is_calm, self.takes_late = True, False
+        self.is_calm, self.acquires_late = True, False
         self.asks: Counter[Request] = Counter()
 
     def run(self) -> None:
         names = self.store.epoch.settings.names
         for name in names:
             self.begin(name)
-        self.rest()
+        self.become_stable()
         for turn in (self.one_comes, self.one_comes_late, self.one_is_cut_off_and_leaves, self.works_for_long):
             turn(self.choice.choice(names))
-            self.rest()
+            self.become_stable()
 
     def process(self, name: str) -> Member:
         return next(member for member in self.alive() if member.name == name)
 
-    def unrest_with(self, name: str) -> str | None:
-        return self.unrest() if name in self.store.held() else f'{name} is not present'
+    def instability_with(self, name: str) -> str | None:
+        return self.instability() if name in self.store.held() else f'{name} is not live'
 
     def await_all(self, name: str, most: float) -> None:
-        """It is present, and all partitions are worked on, within so much of a ttl."""
+        """The node is live, and all partitions are worked on, within so much of a ttl."""
         end = self.now + int(most * self.ttl)
-        while self.now < end and self.unrest_with(name) is not None:
+        while self.now < end and self.instability_with(name) is not None:
             self.live(self.now + self.ttl // 200)
-        if self.unrest_with(name) is not None:
-            raise Wrong(f'{name} comes, and within {most} ttl {self.unrest_with(name)}')
+        if self.instability_with(name) is not None:
+            raise Wrong(f'{name} comes, and within {most} ttl {self.instability_with(name)}')
 
     def go(self, name: str) -> None:
         """It leaves, and the others work on."""
         self.process(name).leave()
-        self.rest()
+        self.become_stable()
 
     def one_comes(self, name: str) -> None:
-        """Who comes, and wasn't there for long, counts by its first stay, and nobody waits for anything else."""
+        """A node that comes, and wasn't there for long, is admitted after its first stay, and nobody waits for anything
+        else."""
         self.go(name)
         self.live(self.now + REMEMBERED * self.ttl + self.some(1.0))
         self.begin(name)
         self.await_all(name, PROMPT)
 
     def one_comes_late(self, name: str) -> None:
-        """An earlier life of a process, whose presence is taken late, is given back at once."""
+        """An earlier session of a process, whose lease is acquired late, is released at once."""
         self.go(name)
         self.live(self.now + REMEMBERED * self.ttl + self.some(1.0))
-        self.takes_late = True
+        self.acquires_late = True
         self.begin(name)
         self.await_all(name, PATIENCE + 3 * PROMPT)
 
     def one_is_cut_off_and_leaves(self, name: str) -> None:
-        """Who has to end, and isn't sure of its presence, asks once to give it back, and ends."""
+        """A member that has to end, and isn't sure of its lease, asks once to release it, and ends."""
         member = self.process(name)
         member.cut_until = self.now + 100 * self.ttl
         self.live(self.now + int(1.5 * self.ttl))

@@ -1,7 +1,7 @@
 """The same groups over `bully.etcd`, and an etcd whose leaders are lost (`cluster.py`).
 
 Each request of a call has its own way, and may be lost, or its answer; the member waits for it as long as
-`bully.gateway` does, and then asks the next server. A watch tells what is new late, or not at all. What is judged is
+`bully.etcd_client` does, and then asks the next server. A watch tells what is new late, or not at all. What is judged is
 read from etcd's keys as they are.
 """
 from __future__ import annotations
@@ -10,16 +10,16 @@ import random
 from collections.abc import Callable
 from functools import partial
 
-from bully import logs
+from bully import shared_log
 from bully.clocks import SECOND
+from bully.core import Ask, Promise, Request as Asked, Until, Wait
+from bully.encoding import maintenance_of, session_of
 from bully.epochs import FIRST, Opening
-from bully.etcd import FEW, WATCH_AGAIN, place_of
-from bully.gateway import Json, Silent, behind
-from bully.logs import LogError, Unanswered
-from bully.member import Ask, Promise, Request as Asked, Until, Wait
-from bully.orders import Orders
+from bully.etcd import FEW, WATCH_AGAIN, offset_of
+from bully.etcd_client import Json, Silent, behind
+from bully.maintenance import Maintenance
 from bully.settings import Settings
-from bully.stored import life_of, orders_of
+from bully.shared_log import LogError, Unanswered
 from .asking import KeptLog, Pending, Request, made, opened
 from .cluster import SERVERS, Cluster, Outcome, Version, Weather, interval, pair_told, weather_of
 from .driven import Member, Wrong
@@ -28,7 +28,7 @@ from .over_memory import LogMember, OverMemory
 from .trouble import Trouble
 
 SHORTEST = 10_000_000  # nanoseconds until somebody asks again
-TROUBLES_OF_ETCD = ('a leader is lost', 'a presence ends with its lease', 'a watch tells nothing')
+TROUBLES_OF_ETCD = ('a leader is lost', 'a lease of etcd ends', 'a watch reports nothing')
 
 
 class EtcdStore(LogStore):
@@ -48,7 +48,7 @@ class EtcdStore(LogStore):
         return self._epochs
 
     def below(self, prefix: bytes) -> dict[str, bytes]:
-        """The values of all keys that begin so, by what is behind that."""
+        """The values of all keys with this prefix, by the rest of the key."""
         found = self.cluster.keys.found(prefix, behind(prefix))
         return {key[len(prefix) :].decode(): version.value or b'' for key, version in found}
 
@@ -62,21 +62,21 @@ class EtcdStore(LogStore):
             if key.startswith(keys.root + b'opening/'):
                 opening = Opening.parse(value.decode())
                 if opening.epoch != len(self.epochs) + FIRST:
-                    raise Wrong(f'epoch {opening.epoch} begins behind {len(self.epochs)}')
+                    raise Wrong(f'epoch {opening.epoch} begins after {len(self.epochs)}')
                 self.epochs.append(Epoch(opening, []))
                 what = 'the end of an epoch'
             elif key.startswith(keys.logs):
-                here, what = place_of(key[len(keys.logs) :].decode()), 'an append'
+                here, what = offset_of(key[len(keys.logs) :].decode()), 'an append'
                 if here != Promise(self.epoch.number, len(self.epoch.rows)):
-                    end = f'place {len(self.epoch.rows)} of epoch {self.epoch.number}'
-                    raise Wrong(f'rows stand at {here}, and the log ends at {end}')
+                    end = f'offset {len(self.epoch.rows)} of epoch {self.epoch.number}'
+                    raise Wrong(f'rows are at {here}, and the log ends at {end}')
                 self.epoch.rows.extend(value.decode().splitlines())
-        if any(key.startswith(keys.presences) for key in changed):
-            lives, promises = self.below(keys.lives), self.below(keys.promises)
+        if any(key.startswith(keys.holders) for key in changed):
+            sessions, promises = self.below(keys.sessions), self.below(keys.promises)
             none = b'%010d/%010d' % (0, 0)
             self.leases = {
-                name: Lease(life_of(life.decode()), place_of(promises.get(name, none).decode()), 0)
-                for name, life in lives.items()
+                name: Lease(session_of(session.decode()), offset_of(promises.get(name, none).decode()), 0)
+                for name, session in sessions.items()
             }
         return what
 
@@ -84,12 +84,12 @@ class EtcdStore(LogStore):
         return self.leases
 
     @property
-    def orders(self) -> Orders:
-        return orders_of(self.log.address, self.cluster.keys.get(self.log._keys.orders).value)
+    def maintenance(self) -> Maintenance:
+        return maintenance_of(self.log.address, self.cluster.keys.get(self.log._keys.maintenance).value)
 
-    def wished(self) -> Settings | None:
-        wished = self.cluster.keys.get(self.log._keys.next).value
-        return None if wished is None else Opening.parse(wished.decode()).settings
+    def requested_settings(self) -> Settings | None:
+        requested_settings = self.cluster.keys.get(self.log._keys.next).value
+        return None if requested_settings is None else Opening.parse(requested_settings.decode()).settings
 
 
 class Call:
@@ -134,7 +134,7 @@ class Call:
             member.soon(self.until(request.reached), lambda: self.hear(request, silent))
 
     def arrive(self, request: Request) -> None:
-        self.simulation.happened['a request comes behind its time'] += self.awaited is not request
+        self.simulation.happened['a request comes after its time'] += self.awaited is not request
         self.simulation.cluster.receive(
             request.server, request.path, request.told, lambda outcome: self.answer(request, outcome)
         )
@@ -164,7 +164,7 @@ class EtcdMember(LogMember):
     call_type: type[Call] = Call
     asked: Ask | None = None
 
-    def opened(self) -> logs.Log:
+    def opened(self) -> shared_log.Log:
         simulation = self.simulation
         return opened(simulation.cluster, simulation.patience / SECOND, self.number % len(SERVERS))
 
@@ -237,15 +237,15 @@ class OverEtcd(OverMemory):
             self.happened['a leader is lost'] += 1
             self.cluster.lose_leader()
 
-    def see_end(self, key: bytes, life: bytes) -> None:
-        """A presence ends with its lease. Its member may not be sure of it any more."""
+    def see_end(self, key: bytes, session: bytes) -> None:
+        """A lease of etcd has ended, and with it the lease of a member, which may not be sure of that any more."""
         keys = self.there.log._keys
-        if not key.startswith(keys.lives):
+        if not key.startswith(keys.sessions):
             return
-        self.happened['a presence ends with its lease'] += 1
+        self.happened['a lease of etcd ends'] += 1
         for member in self.members:
-            if not member.is_dead and member.life == life_of(life.decode()) and self.now < member.worker.until:
-                raise Wrong(f'the presence of {member} ended, and it is sure for {member.worker.until - self.now} ns')
+            if not member.is_dead and member.session == session_of(session.decode()) and self.now < member.worker.until:
+                raise Wrong(f'the lease of {member} ended, and it is sure for {member.worker.until - self.now} ns')
 
     def see_change(self, changed: list[bytes]) -> None:
         """Something has changed in etcd."""
@@ -260,7 +260,7 @@ class OverEtcd(OverMemory):
         wait, found = member.awaited, member.found
         if wait is None or found is None or not self.store.has_news(member.epoch, found, wait.until):
             return
-        if not self.happens('a watch tells nothing', self.weather.watch_broken):
+        if not self.happens('a watch reports nothing', self.weather.watch_broken):
             turn, late = member.turn, self.of_etcd.uniform(0, self.weather.watch_late)
             member.soon(int(late * SECOND), lambda: self.wake(member, turn))
 
@@ -271,19 +271,19 @@ class OverEtcd(OverMemory):
 
 
 class Subscription:
-    """A watch of a member: what it has yet to tell, and when."""
+    """A watch of a member: what it has yet to report, and when."""
 
     def __init__(self, is_wide: bool, begin: bytes, end: bytes) -> None:
         self.is_wide, self.begin, self.end = is_wide, begin, end
         self.events: list[tuple[int, Json]] = []
 
     def add(self, due: int, event: Json) -> None:
-        """It tells all in order."""
+        """It reports all in order."""
         self.events.append((max([due, *(due for due, _ in self.events[-1:])]), event))
 
 
 class Watched(EtcdMember):
-    """A member that waits by what a watch tells to the package's own log, and looks by what that knows then."""
+    """A member that waits by what a watch reports to the package's own log, and whose snapshots are read from that."""
 
     simulation: Watching
     watch: Subscription | None = None
@@ -293,15 +293,15 @@ class Watched(EtcdMember):
         """Whether there is what it waits for, as far as its log knows."""
         log, found = self.kept, self.found
         assert found is not None
-        here = Promise(self.epoch, self.place)
+        here = Promise(self.epoch, self.offset)
         known, idle = log._seen_idle
         before = idle if known == here else frozenset()
-        return log._news.awaited(here, found.lives, wait.until, log._seen_wanted, before)()
+        return log._news.awaited(here, found.sessions, wait.until, log._seen_wanted, before)()
 
     def hear(self, wait: Wait) -> bool:
-        """Whether there is what it waits for, once what is due has been told."""
+        """Whether there is what it waits for, once what is due has been reported."""
         now, log = self.simulation.now, self.kept
-        is_wide = wait.until is not Until.NEWS or len(log._news.lives) <= FEW
+        is_wide = wait.until is not Until.NEWS or len(log._news.sessions) <= FEW
         if self.watch is None or self.watch.is_wide != is_wide:
             if now < self.broken + int(WATCH_AGAIN * SECOND):
                 return False
@@ -312,7 +312,7 @@ class Watched(EtcdMember):
         return self.is_news(wait)
 
     def begin_watch(self, log: KeptLog, is_wide: bool) -> None:
-        """Behind what is known, which is read anew if it isn't fresh."""
+        """After what is known, which is read anew if it isn't fresh."""
         self.simulation.happened['a watch begins anew'] += 1
         if not log._news.is_fresh:
             log._see_all(log._look(*log._keys.standing(0)), 0)
@@ -333,7 +333,7 @@ class Watching(OverEtcd):
     member: type[Member] = Watched
 
     def events_since(self, revision: int, begin: bytes, end: bytes) -> list[Json]:
-        """What has happened to these keys behind a revision, in order."""
+        """What has happened to these keys after a revision, in order."""
         there = self.cluster.keys
         names = [name for name in there._names if begin <= name < end]
         found = [
@@ -348,7 +348,7 @@ class Watching(OverEtcd):
         for member in self.members:
             if not isinstance(member, Watched) or member.is_dead or member.watch is None:
                 continue
-            if self.happens('a watch tells nothing', self.weather.watch_broken / 5):
+            if self.happens('a watch reports nothing', self.weather.watch_broken / 5):
                 member.break_watch()
                 continue
             due = self.now + int(self.of_etcd.uniform(0, self.weather.watch_late) * SECOND)
@@ -359,7 +359,7 @@ class Watching(OverEtcd):
         super().see_change(changed)
 
     def tell(self, member: Member) -> None:
-        """It waits, or what was late is told now."""
+        """It waits, or what was late is reported now."""
         assert isinstance(member, Watched)
         wait = member.awaited
         if wait is None or member.is_dead:
@@ -373,6 +373,6 @@ class Watching(OverEtcd):
 
 
 def event_of(key: bytes, version: Version) -> Json:
-    """What a watch tells of a key."""
+    """What a watch reports of a key."""
     told: Json = {'kv': pair_told(key, version, {})}
     return told if version.value is not None else {**told, 'type': 'DELETE'}

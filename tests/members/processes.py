@@ -125,22 +125,22 @@ class Process(NamedTuple):
 def workers_of(member: int) -> list[Process]:
     """The workers of a member."""
     found = [
-        (guard, Process(worker, os.pidfd_open(worker))) for guard in children(member) for worker in children(guard)
+        (watchdog, Process(worker, os.pidfd_open(worker))) for watchdog in children(member) for worker in children(watchdog)
     ]
-    return [worker for guard, worker in found if worker.number in children(guard)]
+    return [worker for watchdog, worker in found if worker.number in children(watchdog)]
 
 
 def family(member: int) -> dict[str, Process]:
-    """A `member` that has not been waited for, its `guard` and its `worker`; nobody, if not all three are there."""
-    guards = children(member)
-    workers = [worker for guard in guards for worker in children(guard)]
-    if len(guards) != 1 or len(workers) != 1:
+    """A `member` that has not been waited for, its `watchdog` and its `worker`; nobody, if not all three are there."""
+    watchdogs = children(member)
+    workers = [worker for watchdog in watchdogs for worker in children(watchdog)]
+    if len(watchdogs) != 1 or len(workers) != 1:
         return {}
     found: dict[str, Process] = {}
     with contextlib.suppress(ProcessLookupError):
-        for name, number in (('member', member), ('guard', guards[0]), ('worker', workers[0])):
+        for name, number in (('member', member), ('watchdog', watchdogs[0]), ('worker', workers[0])):
             found[name] = Process(number, os.pidfd_open(number))
-    if len(found) == 3 and children(guards[0]) == workers and not any(each.has_ended for each in found.values()):
+    if len(found) == 3 and children(watchdogs[0]) == workers and not any(each.has_ended for each in found.values()):
         return found
     close_all(found.values())
     return {}

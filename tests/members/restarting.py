@@ -1,13 +1,13 @@
-"""A group at rest, and one node of it whose process dies or leaves again and again. How often does that stop the
+"""A stable group, and one node of it whose process dies or leaves again and again. How often does that stop the
 others' work?
 
-A new life of it counts once it has stayed for a hundredth of the ttl, the next one for four times as long, and so on up
-to ten ttl, as long as each comes within 60 ttl behind the one before. So of lives that are present for less than ten
-ttl five count at most, by the stays of
-0.01, 0.04, 0.16, 0.64 and 2.56 ttl. Each of them stops the others' work when it counts, and when it is gone; and so
-does the end of the first one. That holds since a life is taken only once the others have settled the one before it
-Down: a node that is up counts at once. And it holds within an epoch: the next one begins with no memory of who came, so
-epochs have room for 100 events a node and more here.
+A new session of the node is admitted once it has stayed for a hundredth of the ttl, the next one for four times as
+long, and so on up to ten ttl, as long as each comes within 60 ttl after the one before. So of sessions that are live
+for less than ten ttl five are admitted at most, after stays of 0.01, 0.04, 0.16, 0.64 and 2.56 ttl. Each of them stops
+the others' work when it is admitted, and when it is gone; and so does the end of the first one. This holds because a
+session acquires its lease only once the others have rebalanced the group without the session before, so that the node
+is Down: a node that is up is admitted at once. And it holds within an epoch: the next one starts with no memory of who
+came, so epochs have room for 100 events a node and more here.
 """
 from __future__ import annotations
 
@@ -20,12 +20,12 @@ from .trouble import TTL, Trouble
 
 FOR = 60  # ttl
 MOST = (
-    6  # times a member stops work since the node has come; it counts five times, and one may see it later than others
+    6  # times a member stops work because the node has come: it is admitted five times, for some later than for others
 )
 
 
 class Restarts(Trouble):
-    """Nothing else goes wrong. A life lasts for so much of a ttl at most, and the next one comes so much later at
+    """Nothing else goes wrong. A session lasts for so much of a ttl at most, and the next one comes so much later at
     most."""
 
     def __init__(self, choice: random.Random) -> None:
@@ -46,8 +46,8 @@ class Restarting(OverMemory):
         assert isinstance(self.trouble, Restarts)
         self.restarts, self.is_calm = self.trouble, True
         self.name = ''  # of the node
-        self.stopped: Counter[tuple[str, str]] = Counter()  # by member, and whether the node is present
-        self.lives = 0
+        self.stopped: Counter[tuple[str, str]] = Counter()  # by member, and whether the node is live
+        self.sessions = 0
 
     def stops(self, member: Member) -> None:
         super().stops(member)
@@ -57,35 +57,36 @@ class Restarting(OverMemory):
     def run(self) -> None:
         for name in self.store.epoch.settings.names:
             self.begin(name)
-        self.rest()
+        self.become_stable()
         self.name = self.choice.choice(self.store.epoch.settings.names)
-        self.end_life()
+        self.end_session()
         self.live(self.now + FOR * TTL)
         for (name, what), times in self.stopped.items():
-            self.happened[f'work stops, since another node has {what}'] += times
+            self.happened[f'work stops because another node has {what}'] += times
             if times > MOST:
-                raise Wrong(f'{name} stops work {times} times, since {self.name} has {what}, in {self.lives} lives')
-        self.happened['a life that is short'] += self.lives
+                why = f'because {self.name} has {what}, in {self.sessions} sessions'
+                raise Wrong(f'{name} stops work {times} times {why}')
+        self.happened['a short session'] += self.sessions
         self.name = ''
-        self.rest()
+        self.become_stable()
 
     def process(self) -> Member | None:
-        """The node's."""
+        """The process of the node."""
         return next((member for member in self.alive() if member.name == self.name), None)
 
-    def end_life(self) -> None:
+    def end_session(self) -> None:
         """It dies or leaves."""
         process = self.process()
         if process is not None:
             process.leave() if self.choice.random() < self.restarts.leaving else process.die()
-        self.after(self.some(self.restarts.gap) + TTL // 100, self.begin_life)
+        self.after(self.some(self.restarts.gap) + TTL // 100, self.begin_session)
 
-    def begin_life(self) -> None:
+    def begin_session(self) -> None:
         if not self.name:
             return
         if self.process() is not None:
-            self.after(TTL // 100, self.begin_life)
+            self.after(TTL // 100, self.begin_session)
             return
-        self.lives += 1
+        self.sessions += 1
         self.begin(self.name)
-        self.after(self.some(self.restarts.length) + TTL // 100, self.end_life)
+        self.after(self.some(self.restarts.length) + TTL // 100, self.end_session)

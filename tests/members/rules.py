@@ -1,11 +1,12 @@
-"""Tries settlements, how members behave where nothing goes wrong, and all states of a small store.
+"""Tries rebalances, how members behave where nothing goes wrong, and all states of a small store.
 
-    tests/members/run rules LIBRARY_FOLDER [--settle COUNT] [--restarts COUNT] [--manners COUNT] [--explore MOST]
+    tests/members/run rules LIBRARY_FOLDER [--rebalance COUNT] [--restarts COUNT] [--manners COUNT] [--explore MOST]
 
 LIBRARY_FOLDER is what `bin/library` wrote. If nothing more is said all of this is tried, in sizes for each day:
 
-- `--settle`: settlements after so many random lawful logs, and after each prefix of the traces in `examples/`. What they
-  come to is judged apart from the library, and so is what it says of rest and of work; and settlers with a bug show.
+- `--rebalance`: rebalances after so many random lawful logs, and after each prefix of the traces in `examples/`. What they
+  come to is judged apart from the library, and so is what it says of stable groups and of work; and each rebalancer
+  with a bug is found.
 - `--restarts`: so many groups, of which one node comes and goes again and again: how often does that stop the others'
   work?
 - `--manners`: so many groups in which nothing goes wrong: how long do their members wait, and how often do they ask?
@@ -27,29 +28,29 @@ from places import ROOT
 from .exploring import ALL, CONDITIONS, WHOLE, Bounds, Explorer
 from .manners import Manners
 from .restarting import Restarting
-from .settled import BROKEN, prefix_cases, random_cases, rest_is_wrong, try_case
+from .rebalanced import BROKEN, prefix_cases, random_cases, try_case, wrong_answer
 
 LOGS, SETS, RESTARTS, MANNERS, STATES = 300, 2, 10, 10, 50_000
-FEW = 20  # logs, among which each settler with a bug shows
+FEW = 20  # logs, among which each rebalancer with a bug is found
 
 
 def count(counts: Counts, wrong: str | None) -> None:
     counts.hold(wrong is None, wrong or '')
 
 
-def try_settlements(counts: Counts, logs: int) -> None:
-    """Settlements bring a group to rest."""
+def try_rebalances(counts: Counts, logs: int) -> None:
+    """Rebalances make a group stable."""
     rows = 0
     for case in (*random_cases(logs), *prefix_cases(list((ROOT / 'examples').glob('*.csv')), SETS)):
         rows += len(case.rows)
         count(counts, try_case(case))
-        count(counts, rest_is_wrong(case))
-    print(f'settlements: after {rows} rows in all')
-    for name, settler in BROKEN.items():
-        wrongs = filter(None, (try_case(case, settler) for case in random_cases(FEW)))
+        count(counts, wrong_answer(case))
+    print(f'rebalances: after {rows} rows in all')
+    for name, rebalancer in BROKEN.items():
+        wrongs = filter(None, (try_case(case, rebalancer) for case in random_cases(FEW)))
         first = next(wrongs, None)
-        counts.hold(first is not None, f'a settler that {name} is not seen')
-        print(f'a settler that {name}: {first}'[:200])
+        counts.hold(first is not None, f'a rebalancer that {name} is not found')
+        print(f'a rebalancer that {name}: {first}'[:200])
 
 
 def try_groups(counts: Counts, group: type[Restarting] | type[Manners], last: int) -> None:
@@ -81,7 +82,7 @@ def explore(counts: Counts, most: int) -> None:
 def words() -> argparse.Namespace:
     parser = argparse.ArgumentParser(description=__doc__, formatter_class=argparse.RawDescriptionHelpFormatter)
     parser.add_argument('library', type=Path)
-    for part in ('--settle', '--restarts', '--manners'):
+    for part in ('--rebalance', '--restarts', '--manners'):
         parser.add_argument(part, type=int, metavar='COUNT')
     parser.add_argument('--explore', type=int, metavar='MOST')
     return parser.parse_args()
@@ -90,9 +91,9 @@ def words() -> argparse.Namespace:
 def main() -> int:
     options, counts = words(), Counts()
     os.environ['BULLY_LIBRARY'] = str(options.library.resolve())
-    is_all = not any((options.settle, options.restarts, options.manners, options.explore))
-    if is_all or options.settle:
-        try_settlements(counts, options.settle or LOGS)
+    is_all = not any((options.rebalance, options.restarts, options.manners, options.explore))
+    if is_all or options.rebalance:
+        try_rebalances(counts, options.rebalance or LOGS)
     if is_all or options.explore:
         explore(counts, options.explore or STATES)
     if is_all or options.restarts:

@@ -1,16 +1,16 @@
 """Simulates groups of members by the proved rules, one for each seed, over the stores of the package.
 
     tests/members/run simulate LIBRARY_FOLDER [--from SEED] [--to SEED | --seed SEED] [--over-etcd | --told]
-        [--epochs | --orders | --trouble NAME]
+        [--epochs | --maintenance | --trouble NAME]
     tests/members/run simulate LIBRARY_FOLDER --long [CHANGES]
 
-LIBRARY_FOLDER is what `bin/library` wrote. Each group has to come to rest once there is no more trouble, its logs have
+LIBRARY_FOLDER is what `bin/library` wrote. Each group has to become stable once there is no more trouble, its logs have
 to be lawful, and no two members may work on one partition at one moment, but for those that were paused beyond their
-presence; and then by tokens that the resource can tell apart. The log is that of `bully.memory`; with `--over-etcd`
-that of `bully.etcd`, over an etcd whose leaders are lost; with `--told` members wait there by the package's own watch,
-and look by what it told. With `--epochs` logs are soon full, groups are resized often, and old epochs are taken away;
-with `--orders` nodes are drained, and groups are paused; and `--trouble` names a kind of `trouble.py`. `--long` is one
-group of five with 10,000 changes of who is there, if no other number is told, over many epochs: the memory of all may
+lease; and then by tokens that the resource can tell apart. The log is that of `bully.memory`; with `--over-etcd` that
+of `bully.etcd`, over an etcd whose leaders are lost; with `--told` members wait there by the package's own watch, and
+read snapshots from what it reported. With `--epochs` logs are soon full, groups are resized often, and old epochs are
+taken away; with `--maintenance` nodes are drained, and groups are paused; and `--trouble` names a kind of `trouble.py`.
+`--long` is one group of five with 10,000 changes of who is there, or CHANGES, over many epochs: the memory of all may
 not grow. A kind of trouble that never happened among 200 seeds or more is a failure, too. The last line is 'N passed, M
 failed'; the exit status is 0 where M is 0, and else 1.
 """
@@ -27,9 +27,9 @@ from counts import Counts
 from .driven import Wrong
 from .long import Long
 from .over_etcd import TROUBLES_OF_ETCD, OverEtcd, Watching
-from .over_memory import TROUBLES_OF_ORDERS, OverMemory
-from .settling import Simulation
-from .trouble import BY_NAME, TROUBLES, Epochs, Ordered, Trouble
+from .over_memory import TROUBLES_OF_MAINTENANCE, OverMemory
+from .stabilizing import Simulation
+from .trouble import BY_NAME, TROUBLES, Epochs, Maintained, Trouble
 
 ENOUGH = 200  # seeds, among which each kind of trouble has to be
 
@@ -43,7 +43,7 @@ def words() -> argparse.Namespace:
     parser.add_argument('--over-etcd', action='store_true')
     parser.add_argument('--told', action='store_true')
     parser.add_argument('--epochs', dest='trouble', action='store_const', const=Epochs.__name__)
-    parser.add_argument('--orders', dest='trouble', action='store_const', const=Ordered.__name__)
+    parser.add_argument('--maintenance', dest='trouble', action='store_const', const=Maintained.__name__)
     parser.add_argument('--trouble', choices=BY_NAME)
     parser.add_argument('--long', type=int, nargs='?', const=10_000, metavar='CHANGES')
     parser.set_defaults(trouble=Trouble.__name__)
@@ -53,7 +53,7 @@ def words() -> argparse.Namespace:
 def group_type(options: argparse.Namespace) -> tuple[Callable[[int], Simulation], list[str]]:
     """The groups that the words ask for, by their seeds, and what has to happen to them."""
     trouble = BY_NAME[options.trouble]
-    there = [*TROUBLES, *(TROUBLES_OF_ORDERS if trouble is Ordered else [])]
+    there = [*TROUBLES, *(TROUBLES_OF_MAINTENANCE if trouble is Maintained else [])]
     if options.told:
         return lambda seed: Watching(seed, trouble), [*there, *TROUBLES_OF_ETCD, 'a watch begins anew']
     if options.over_etcd:

@@ -1,18 +1,18 @@
 """Tries members for a long time, over a file or over three servers of etcd, while a recorder apart judges what their
 workers do.
 
-    tests/members/run soak LIBRARY_FOLDER [--store sqlite|etcd] [--seconds SECONDS] [--seed SEED] [--rests SHARE]
+    tests/members/run soak LIBRARY_FOLDER [--store sqlite|etcd] [--seconds SECONDS] [--seed SEED] [--stable SHARE]
         [--nodes COUNT] [--ttl SECONDS] [--talk] [--program PATH] [--folder FOLDER]
 
-LIBRARY_FOLDER is what `bin/library` wrote. Members, their guards and their workers are killed and paused, by a seed,
-also a member with its worker and with its guard at one moment; so are the servers, one or all. Who has ended is begun
-again. Behind a share of the faults the group gets time to come to rest, and behind the others the next one comes. Each
+LIBRARY_FOLDER is what `bin/library` wrote. Members, their watchdogs and their workers are killed and paused, by a seed,
+also a member with its worker and with its watchdog at one moment; so are the servers, one or all. Who has ended is begun
+again. After a share of the faults the group gets time to become stable, and after the others the next one comes. Each
 worker asks the recorder, a process of its own, for each unit of work (`recorder.py`).
 
-Each kind of fault has to be seen to happen. At the end the group has to come to rest, and to leave in order; no unit
+Each kind of fault has to be seen to happen. At the end the group has to become stable, and to leave in order; no unit
 may have overlapped another one, or have been asked for by an old token; and the logs have to be lawful, also with
 everything said if PATH is the program `bully`. First the recorder has to see a worker that works on, since member and
-guard are paused. The last line is 'N passed, M failed'; the exit status is 0 where M is 0, and else 1. With `--store
+watchdog are paused. The last line is 'N passed, M failed'; the exit status is 0 where M is 0, and else 1. With `--store
 etcd`, but without the program `etcd`, nothing is tried.
 """
 from __future__ import annotations
@@ -41,7 +41,7 @@ def words() -> argparse.Namespace:
     parser.add_argument('--seconds', type=float, default=300.0)
     parser.add_argument('--seed', type=int, default=1)
     parser.add_argument(
-        '--rests', type=float, default=0.7, help='the share of faults behind which the group gets time to come to rest'
+        '--stable', type=float, default=0.7, help='the share of faults after which the group gets time to become stable'
     )
     parser.add_argument('--nodes', type=int, choices=range(2, NODES_MAX + 1), default=NODES_MAX)
     parser.add_argument('--ttl', type=float, default=2.0)
@@ -91,7 +91,7 @@ def soak_in(folder: Path, options: argparse.Namespace) -> Group:
     with contextlib.ExitStack() as closing:
         stores, servers = stores_in(closing, folder, options)
         group = begun(closing, folder, stores, options.nodes, options)
-        soak = Soak(group, servers, random.Random(options.seed), options.rests)
+        soak = Soak(group, servers, random.Random(options.seed), options.stable)
         closing.callback(soak.close)
         soak.run(options.seconds)
         group.end(options.program)

@@ -1,4 +1,4 @@
-"""A soak: a group works for a long time while its members, guards, workers and servers are killed and paused, and a
+"""A soak: a group works for a long time while its members, watchdogs, workers and servers are killed and paused, and a
 recorder apart judges it."""
 from __future__ import annotations
 
@@ -15,21 +15,21 @@ from pathlib import Path
 from typing import NamedTuple, TypeVar
 
 from .etcd_servers import Server, Servers
-from .faults import SETTLED
+from .faults import STEADY
 from .groups import HERE, NAMES, PATIENCE, Group, Work, told_seconds
 from .processes import Process, close_all, family, send_all
 from .recorder import Record, Unit
 from .waiting import wait_until
 
-REST_MAX = 12.0  # seconds that the group gets to come to rest: who comes again and again counts later and later
-BEGIN_MAX = 1.0  # seconds behind its end, within which a member is begun again
+STABLE_MAX = 12.0  # seconds that the group gets to become stable: who comes again and again is admitted later and later
+BEGIN_MAX = 1.0  # seconds after its end, within which a member is begun again
 SLICE = 0.25  # seconds for which it is waited at once
 PART_MAX = 30.0  # seconds in which a fault has to find whom it can happen to, and is seen
 
 # Whom a fault happens to, at one moment.
 WHOM: dict[str, tuple[str, ...]] = {
-    'a member': ('member',), 'a guard': ('guard',), 'a worker': ('worker',),
-    'a member and its worker': ('member', 'worker'), 'a member and its guard': ('member', 'guard'),
+    'a member': ('member',), 'a watchdog': ('watchdog',), 'a worker': ('worker',),
+    'a member and its worker': ('member', 'worker'), 'a member and its watchdog': ('member', 'watchdog'),
 }  # fmt: skip
 SHORT, LONG = (0.1, 0.4), (1.5, 3.0)  # of the ttl
 Action = Callable[[], object]
@@ -69,14 +69,14 @@ class Soak:
     """A group, and what happens to it. Who ends is begun again."""
 
     def __init__(self, group: Group, servers: Servers | None, choice: random.Random, share: float) -> None:
-        """Behind this share of the faults the group gets time to come to rest."""
+        """After this share of the faults the group gets time to become stable."""
         self.group, self.choice, self.share = group, choice, share
         self.names = [node.name for node in group.shown.nodes]
         self.happened: Counter[str] = Counter()
         self.statuses: Counter[int] = Counter()  # of members that ended
         self.later: list[Later] = []
-        self.rests: list[float] = []  # how long it took to come to rest, if the group did
-        self.without_rest = 0
+        self.to_stable: list[float] = []  # how long the group took to become stable, if it did
+        self.never_stable = 0
         self.kinds: dict[str, Strike] = {
             **self.of_processes(),
             **(self.of_servers(servers) if servers is not None else {}),
@@ -85,17 +85,17 @@ class Soak:
     # What happens.
 
     def of_processes(self) -> dict[str, Strike]:
-        """If member and guard are both paused for long nobody is left who ends the worker, and then nothing is
+        """If member and watchdog are both paused for long, nobody is left who ends the worker, and then nothing is
         promised."""
         kinds: dict[str, Strike] = {}
         for whom, names in WHOM.items():
             kinds[f'{whom} killed'] = partial(self.strike, names, (), SHORT)
             kinds[f'{whom} paused shortly'] = partial(self.strike, (), names, SHORT)
-            if whom != 'a member and its guard':
+            if whom != 'a member and its watchdog':
                 kinds[f'{whom} paused for long'] = partial(self.strike, (), names, LONG)
         kinds['a member killed whose worker is paused'] = partial(self.strike, ('member',), ('worker',), LONG)
-        kinds['a guard killed whose member is paused'] = partial(self.strike, ('guard',), ('member',), LONG)
-        kinds['a member killed whose guard is paused'] = self.strike_below
+        kinds['a watchdog killed whose member is paused'] = partial(self.strike, ('watchdog',), ('member',), LONG)
+        kinds['a member killed whose watchdog is paused'] = self.strike_below
         return kinds
 
     def of_servers(self, servers: Servers) -> dict[str, Strike]:
@@ -120,16 +120,16 @@ class Soak:
         return is_seen
 
     def strike_below(self) -> bool:
-        """A guard is paused, and then its member is killed: so the guard goes on at once. Whether both were seen."""
+        """A watchdog is paused, and then its member is killed: so the watchdog goes on at once. Whether both were seen."""
         there = self.tend_until(self.some_family, PART_MAX)
         if not there:
             return False
-        member, guard = there['member'], there['guard']
-        send_all([guard], signal.SIGSTOP)
-        is_seen = waited(lambda: guard.is_stopped or guard.has_ended) and not guard.has_ended
+        member, watchdog = there['member'], there['watchdog']
+        send_all([watchdog], signal.SIGSTOP)
+        is_seen = waited(lambda: watchdog.is_stopped or watchdog.has_ended) and not watchdog.has_ended
         send_all([member], signal.SIGKILL)
         is_seen &= waited(lambda: member.has_ended)
-        self.do_later(self.choice.uniform(*LONG) * self.group.ttl, partial(resume, [guard], there))
+        self.do_later(self.choice.uniform(*LONG) * self.group.ttl, partial(resume, [watchdog], there))
         return is_seen
 
     def some_family(self) -> dict[str, Process]:
@@ -192,17 +192,17 @@ class Soak:
                 return found
             time.sleep(0.01)
 
-    def is_at_rest(self, settles: float = 0.0) -> bool:
-        """Whether all are there, and at rest for so long."""
+    def is_stable(self, seconds: float = 0.0) -> bool:
+        """Whether all are there, and the group has been stable for so long."""
         if self.later or len(self.group.members) < len(self.names):
             return False
-        return self.group.rest(settles, time.monotonic() + settles + SLICE) is not None
+        return self.group.stay_stable(seconds, time.monotonic() + seconds + SLICE) is not None
 
     # All of it.
 
     def run(self, seconds: float) -> None:
         """Faults for so long; each kind once at least."""
-        self.group.come_to_rest('the begin', lambda: self.group.begin_all(self.names))
+        self.group.become_stable('the begin', lambda: self.group.begin_all(self.names))
         end, kinds = time.monotonic() + seconds, self.turns()
         while (
             time.monotonic() < end or time.monotonic() < end + PATIENCE and not all(map(self.happened.get, self.kinds))
@@ -218,20 +218,20 @@ class Soak:
             yield from self.choice.sample(list(self.kinds), len(self.kinds))
 
     def go_on(self) -> None:
-        """Up to the next fault: often the group may come to rest."""
+        """Up to the next fault: often the group gets time to become stable."""
         begun = time.monotonic()
         if self.choice.random() >= self.share:
             self.tend_until(lambda: False, self.choice.random() * self.group.ttl)
-        elif self.tend_until(self.is_at_rest, REST_MAX):
-            self.rests.append(time.monotonic() - begun)
+        elif self.tend_until(self.is_stable, STABLE_MAX):
+            self.to_stable.append(time.monotonic() - begun)
         else:
-            self.without_rest += 1
+            self.never_stable += 1
 
     def end(self) -> None:
-        """The trouble is over: the group comes to rest, and works."""
-        settled = self.tend_until(lambda: self.is_at_rest(SETTLED * self.group.ttl), PATIENCE)
-        self.group.count(settled, 'no rest behind the last fault')
-        self.group.count(self.group.goes_on(time.monotonic() + PATIENCE) is not None, 'no work behind the last fault')
+        """The trouble is over: the group becomes stable, and works."""
+        is_stable = self.tend_until(lambda: self.is_stable(STEADY * self.group.ttl), PATIENCE)
+        self.group.count(is_stable, 'not stable after the last fault')
+        self.group.count(self.group.goes_on(time.monotonic() + PATIENCE) is not None, 'no work after the last fault')
 
     def close(self) -> None:
         """Nobody stays paused."""
@@ -258,8 +258,8 @@ class Soak:
             print(f'{kind}: {self.happened[kind]} times')
         ended = ', '.join(f'{count} with {status}' for status, count in sorted(self.statuses.items()))
         print(f'members that ended and were begun again: {ended}')
-        rests = f'at rest behind {len(self.rests)} faults{told_seconds("in", self.rests)}'
-        print(f'{rests}; in {self.without_rest} waits of {REST_MAX:g} s not')
+        stable = f'stable after {len(self.to_stable)} faults{told_seconds("in", self.to_stable)}'
+        print(f'{stable}; in {self.never_stable} waits of {STABLE_MAX:g} s not')
 
 
 def waited(is_so: Callable[[], bool]) -> bool:
@@ -276,9 +276,9 @@ def resume(whom: Sequence[Process], there: dict[str, Process]) -> None:
     close_all(there.values())
 
 
-Told = tuple[str, int, int, int]  # what a worker tells, at a moment: its number, and a token
+Told = tuple[str, int, int, int]  # what a worker says, at a moment: its number, and a token
 
-# What workers tell of one partition, and which faults that is.
+# What workers say of one partition, and which faults that is.
 CASES: tuple[tuple[str, Sequence[Told], Sequence[str]], ...] = (
     ('one behind the other', [('begin', 1, 10, 5), ('end', 1, 20, 0), ('begin', 2, 30, 6)], []),
     ('again by one worker', [('begin', 1, 10, 5), ('end', 1, 20, 0), ('begin', 1, 20, 5)], []),
@@ -310,15 +310,15 @@ def faults_of(told: Sequence[Told]) -> list[str]:
 
 
 def see_faults(group: Group) -> None:
-    """A recorder that sees nothing would pass all: it is told of faults; and member and guard are paused for long, so
-    nobody ends their worker."""
+    """A recorder that sees nothing would pass all: so it is given faults; and member and watchdog are paused for long,
+    so that nobody ends their worker."""
     for case, told, faults in CASES:
         group.count(faults_of(told) == faults, f'units {case}: {faults_of(told)}, and not {faults}')
-    group.come_to_rest('the begin', lambda: group.begin_all(NAMES[:2]))
+    group.become_stable('the begin', lambda: group.begin_all(NAMES[:2]))
     there = family(group.members['a'].pid)
-    paused = [there['member'], there['guard']]
+    paused = [there['member'], there['watchdog']]
     send_all(paused, signal.SIGSTOP)
-    group.count(waited(lambda: all(each.is_stopped for each in paused)), 'member and guard are not stopped')
+    group.count(waited(lambda: all(each.is_stopped for each in paused)), 'member and watchdog are not stopped')
     is_seen = waited(lambda: bool(group.work.faults('overlap') or group.work.faults('old')))
     group.count(is_seen, 'the recorder does not see that a worker works on which nobody ends')
     resume(paused, there)

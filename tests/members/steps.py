@@ -2,20 +2,20 @@
 from __future__ import annotations
 
 from bully.clocks import SECOND
+from bully.core import Promise, Session
 from bully.epochs import Opening
-from bully.logs import Holder, Log
-from bully.member import Life, Promise
+from bully.shared_log import Holder, Log
 
 HEADER = 'bully,1,3,6'
 OPENING = Opening.first(HEADER)
 
 LONG = 1000 * SECOND
-A, B, C = Life(2**64 - 1, 1), Life(7, 1), Life(7, 2)
+A, B, C = Session(2**64 - 1, 1), Session(7, 1), Session(7, 2)
 EMPTY = Promise(1, 0)
 
 
 class Clock:
-    """A clock that stands, until it is set."""
+    """A clock that stays as it is until it is set."""
 
     def __init__(self) -> None:
         self.now = 100 * SECOND
@@ -24,15 +24,15 @@ class Clock:
         return self.now
 
 
-def present(log: Log) -> dict[str, Holder]:
-    """Who is present."""
-    return dict(log.look(1, 0).presences)
+def live(log: Log) -> dict[str, Holder]:
+    """Who holds a lease, by name."""
+    return dict(log.snapshot(1, 0).holders)
 
 
-def looked(log: Log, epoch: int, place: int) -> object:
-    """What a look finds."""
-    found = log.look(epoch, place)
-    return found.epoch, list(found.rows), dict(found.presences), found.wish, found.orders
+def snapshot_read(log: Log, epoch: int, offset: int) -> object:
+    """What a snapshot finds, as plain values."""
+    found = log.snapshot(epoch, offset)
+    return found.epoch, list(found.rows), dict(found.holders), found.requested, found.maintenance
 
 
 def end_of(log: Log) -> Promise:
@@ -41,16 +41,16 @@ def end_of(log: Log) -> Promise:
     return Promise(epoch, len(log.read(epoch, 0)))
 
 
-def be_idle(log: Log, *presences: tuple[str, Life], here: Promise | None = None) -> Promise:
-    """These promise the end of the log, or that place."""
+def be_idle(log: Log, *holders: tuple[str, Session], here: Promise | None = None) -> Promise:
+    """These promise the end of the log, or that offset."""
     there = here or end_of(log)
-    for name, life in presences:
-        assert log.promise(name, life, there), (name, life, there)
+    for name, session in holders:
+        assert log.promise(name, session, there), (name, session, there)
     return there
 
 
-def add(log: Log, rows: list[str], name: str = 'a', life: Life = A) -> Promise:
-    """The rows are appended, while that one alone is present. The end of the log."""
-    here = be_idle(log, (name, life))
-    assert log.append(here.epoch, here.place, rows), here
-    return Promise(here.epoch, here.place + len(rows))
+def add(log: Log, rows: list[str], name: str = 'a', session: Session = A) -> Promise:
+    """Appends the rows, while that node alone is live. The end of the log."""
+    here = be_idle(log, (name, session))
+    assert log.append(here.epoch, here.offset, rows), here
+    return Promise(here.epoch, here.offset + len(rows))

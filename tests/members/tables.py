@@ -4,7 +4,7 @@ from __future__ import annotations
 from collections.abc import Sequence
 
 from bully import Replica
-from bully.logs import Log
+from bully.shared_log import Log
 
 
 def owners_by_name(log: Log, epoch: int) -> tuple[list[str], list[str]]:

@@ -3,17 +3,17 @@ from __future__ import annotations
 
 import random
 
-from bully.member import Request
+from bully.core import Request
 
 TTL = 1_000_000_000
-TROUBLE_FOR, REST_WITHIN = 16, 25  # ttl
+TROUBLE_FOR, STABLE_WITHIN = 16, 25  # ttl
 
 TROUBLES = (
     'a pause', 'a pause before a step', 'a pause with a renewal', 'a death', 'a cut', 'a join', 'a loop',
     'a member is told to leave', 'a worker ends by itself', 'a request is lost', 'an answer is lost',
-    'a request or an answer is slow', 'a request comes behind its time', 'a wish', 'a wish is taken back',
-    'old epochs are taken away', 'the end of an epoch', 'an append',
-    'strangers are seen', 'an old token is refused', 'a unit beside one that was paused beyond its presence',
+    'a request or an answer is slow', 'a request comes after its time', 'a request to resize',
+    'a request to resize is taken back', 'old epochs are taken away', 'the end of an epoch', 'an append',
+    'unknown processes are seen', 'an old token is refused', 'a unit beside one that was paused beyond its lease',
     'a plan keeps to the epoch before', 'a member ends: left', 'a member ends: not there',
 )  # fmt: skip
 
@@ -30,28 +30,28 @@ class Trouble:
         self.joins, self.short = 1.0, 0.0  # the share of who joins that leaves again soon
         self.unit = 0.19  # of a ttl, which a unit of work takes at most
         self.loops = some(0.2)  # of one node that comes and goes again and again
-        self.ends = some(0.02)  # units behind which a worker ends by itself
-        self.wishes, self.prunes = some(0.3), some(0.5)
+        self.ends = some(0.02)  # units after which a worker ends by itself
+        self.requests, self.prunes = some(0.3), some(0.5)
         self.drains = self.halts = 0.0  # nodes that are drained, and groups that are paused
         self.room = choice.choice([22, 22, 26, 40, 10_000])  # rows of an epoch, for each node
-        self.late = some(0.3)  # by how much of a ttl a presence ends late at most
+        self.late = some(0.3)  # by how much of a ttl a lease ends late at most
         self.trip = choice.choice([0.0, 0.002, 0.002, 0.02, 0.02])
         self.patience = choice.choice([0.2, 0.2, 1.0, 3.0])  # how long a member waits for an answer
         self.nodes_least, self.nodes = 1, choice.choice([6, 6, 2])  # at most
-        self.withdrawn = choice.choice([0.0, 0.7])  # the share of wishes that are taken back soon
-        kinds = [None, None, Request.TAKE, Request.RENEW, Request.PROMISE, Request.APPEND]
+        self.withdrawn = choice.choice([0.0, 0.7])  # the share of requests to resize that are taken back soon
+        kinds = [None, None, Request.ACQUIRE, Request.RENEW, Request.PROMISE, Request.APPEND]
         self.slowest: Request | None = choice.choice(kinds)  # half the requests of this kind are slow
         self.renewal_pauses = some(0.1)  # how many renewals a pause comes with
         if choice.random() < 0.25:  # many come and go at once
             self.deaths, self.joins, self.leaves, self.slow, self.short = 0.3, 3.0, 0.0, 0.3, 0.7
         elif (
             choice.random() < 0.3
-        ):  # all is well but for these, for wishes that are taken back, and for slow requests of one kind
+        ):  # all is well but for these, for requests to resize that are taken back, and for slow requests of one kind
             self.deaths, self.joins, self.leaves, self.cuts, self.short = 0.3, 1.0, 0.0, 0.0, choice.choice([0.0, 0.7])
-            self.lost, self.unanswered, self.slow, self.wishes, self.withdrawn = (
+            self.lost, self.unanswered, self.slow, self.requests, self.withdrawn = (
                 0.0, 0.0, 0.1, choice.choice([0.0, 1.5]), 0.9,
             )  # fmt: skip
-            self.nodes, self.slowest = choice.choice([1, 2, 3]), choice.choice([Request.TAKE, Request.PROMISE])
+            self.nodes, self.slowest = choice.choice([1, 2, 3]), choice.choice([Request.ACQUIRE, Request.PROMISE])
             self.patience = choice.choice([0.2, 3.0])
 
 
@@ -61,11 +61,11 @@ class Epochs(Trouble):
     def __init__(self, choice: random.Random) -> None:
         super().__init__(choice)
         self.room = choice.choice([22, 22, 26])
-        self.wishes, self.withdrawn = choice.choice([0.5, 1.5]), choice.choice([0.0, 0.3])
+        self.requests, self.withdrawn = choice.choice([0.5, 1.5]), choice.choice([0.0, 0.3])
         self.prunes = choice.choice([0.3, 1.0])
 
 
-class Ordered(Trouble):
+class Maintained(Trouble):
     """Nodes are drained, and groups are paused."""
 
     def __init__(self, choice: random.Random) -> None:
@@ -73,19 +73,19 @@ class Ordered(Trouble):
         self.drains, self.halts = choice.choice([0.0, 0.5, 1.0]), choice.choice([0.3, 0.3, 1.0])
 
 
-class SlowTakes(Trouble):
-    """All is well but that processes of one node come and go, and half the takes are slow."""
+class SlowAcquires(Trouble):
+    """All is well but that processes of one node come and go, and half the requests to acquire a lease are slow."""
 
     def __init__(self, choice: random.Random) -> None:
         super().__init__(choice)
         self.lost = (
             self.unanswered
-        ) = self.slow = self.cuts = self.pauses = self.ends = self.wishes = self.renewal_pauses = 0.0
+        ) = self.slow = self.cuts = self.pauses = self.ends = self.requests = self.renewal_pauses = 0.0
         self.deaths, self.leaves, self.joins, self.short = 0.7, 0.0, 0.7, 0.0
-        self.nodes, self.slowest, self.trip, self.patience, self.room = 1, Request.TAKE, 0.002, 3.0, 10_000
+        self.nodes, self.slowest, self.trip, self.patience, self.room = 1, Request.ACQUIRE, 0.002, 3.0, 10_000
 
 
-class SlowPromises(SlowTakes):
+class SlowPromises(SlowAcquires):
     """All is well but that processes of a few nodes come and go, and half the promises are slow."""
 
     def __init__(self, choice: random.Random) -> None:
@@ -95,4 +95,6 @@ class SlowPromises(SlowTakes):
         )  # fmt: skip
 
 
-BY_NAME: dict[str, type[Trouble]] = {each.__name__: each for each in (Trouble, Epochs, Ordered, SlowTakes, SlowPromises)}
+BY_NAME: dict[str, type[Trouble]] = {
+    each.__name__: each for each in (Trouble, Epochs, Maintained, SlowAcquires, SlowPromises)
+}

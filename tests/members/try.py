@@ -1,16 +1,16 @@
 """Tries members in processes of their own over a log in a file, or in etcd: kills and pauses them.
 
-    tests/members/run try LIBRARY_FOLDER [--kills COUNT] [--pauses COUNT] [--epochs COUNT] [--orders COUNT] [--store etcd]
-        [--ttl SECONDS] [--seed SEED] [--share PERCENT] [--folder FOLDER] [--talk]
+    tests/members/run try LIBRARY_FOLDER [--kills COUNT] [--pauses COUNT] [--epochs COUNT] [--maintenance COUNT]
+        [--store etcd] [--ttl SECONDS] [--seed SEED] [--share PERCENT] [--folder FOLDER] [--talk]
 
 LIBRARY_FOLDER is what `bin/library` wrote. Three members share 12 partitions; while they work the group gets five nodes
 and 24 partitions. These five are killed and come back, and are paused, or their workers, or both, for less and for more
 than the ttl; and the group is resized: its nodes get other numbers. Nodes are drained, and the group is paused while
-one is killed. Each time the group has to come to rest. At the end the logs of all epochs have to be lawful, no two
-workers may have worked on one partition at one moment, no token may have fallen, and behind each change of the epoch as
-many partitions have to be where they were as can be. It tells how long it took to come to rest, how many rows, and what
-an idle member costs. With `--store etcd` the log is in a server of etcd that it starts. The last line is 'N passed, M
-failed'; the exit status is 0 where M is 0, and else 1.
+one is killed. Each time the group has to become stable. At the end the logs of all epochs have to be lawful, no two
+workers may have worked on one partition at one moment, no token may have fallen, and after each change of the epoch as
+many partitions have to be where they were as can be. It prints how long the group took to become stable, how many rows,
+and what an idle member costs. With `--store etcd` the log is in a server of etcd that it starts. The last line is 'N
+passed, M failed'; the exit status is 0 where M is 0, and else 1.
 """
 from __future__ import annotations
 
@@ -34,7 +34,9 @@ def words() -> argparse.Namespace:
     parser.add_argument('--kills', type=int, default=6)
     parser.add_argument('--pauses', type=int, default=6)
     parser.add_argument('--epochs', type=int, default=3)
-    parser.add_argument('--orders', type=int, default=2, help='how often a node is drained, and the group is paused')
+    parser.add_argument(
+        '--maintenance', type=int, default=2, help='how often a node is drained, and the group is paused'
+    )
     parser.add_argument('--store', choices=['sqlite', 'etcd'], default='sqlite')
     parser.add_argument('--ttl', type=float, default=2.0)
     parser.add_argument('--seed', type=int, default=1)
@@ -47,10 +49,10 @@ def words() -> argparse.Namespace:
 
 def grow(group: Group) -> None:
     """The group gets more nodes and partitions while it works, and then members for the new nodes."""
-    group.come_to_rest('the begin', lambda: group.begin_all(NAMES[:FEW]))
+    group.become_stable('the begin', lambda: group.begin_all(NAMES[:FEW]))
     what = f'a resize from {FEW} to {len(NAMES)} nodes, and from {PARTITIONS_OF_FEW} to {PARTITIONS} partitions'
     group.config = group.resize(what, NAMES, PARTITIONS)
-    group.come_to_rest('members for new nodes', lambda: group.begin_all(NAMES[FEW:]))
+    group.become_stable('members for new nodes', lambda: group.begin_all(NAMES[FEW:]))
 
 
 def turn(group: Group) -> None:
@@ -67,7 +69,7 @@ def run(group: Group, options: argparse.Namespace) -> None:
         ['kill'] * options.kills
         + ['pause'] * options.pauses
         + ['resize'] * options.epochs
-        + ['drain', 'halt'] * options.orders
+        + ['drain', 'halt'] * options.maintenance
     )
     choice.shuffle(changes)
     pauses: list[tuple[str, float]] = [

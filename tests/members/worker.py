@@ -1,4 +1,4 @@
-"""A worker that tells when two work on one partition: each unit of work holds the lock of its partition's file.
+"""A worker that reports when two work on one partition: each unit of work holds the lock of its partition's file.
 
     worker.py FOLDER [SOCKET]
 

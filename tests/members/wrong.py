@@ -1,7 +1,7 @@
 """Plants bugs, one at a time: in the package `bully`, in the proved rules of a member, or in both. Each has to be found.
 
     tests/members/run wrong FOLDER [WORDS ..] [--edited FOLDER] [--jobs COUNT]
-                                                plants each bug, or each in whose entry one of these words stands, and runs what has to find it
+                                                plants each bug, or each whose entry has one of these words, and runs what has to find it
     tests/members/run wrong --fit               sees that each bug fits its file, and has its test, as the gate does
     tests/members/run wrong --list [WORDS ..]   lists them
 
@@ -13,7 +13,7 @@ It is built in the other FOLDER, in some two minutes, unless it stands there, ma
 - `#` and a sentence that says what is wrong;
 - what has to find it, once or more often: `test` and a test of the package; or `run` and the words of a program of `tests/members/run`, then a bar
   and a part of what that program says if it finds the bug;
-- `edit` and an edit of a crate; or `file` and a file of the package, with lines after `-` that stand there once, and after `+` what replaces them; or
+- `edit` and an edit of a crate; or `file` and a file of the package, with lines after `-` that are there once, and after `+` what replaces them; or
   both.
 
 Without the bug a test or a program has to pass, and with it to fail. A test that doesn't end in a minute fails. The last line is 'N passed, M
@@ -35,7 +35,7 @@ from concurrent.futures import ThreadPoolExecutor
 from dataclasses import dataclass, field
 from pathlib import Path
 
-from bully.guard import adopt, end_children
+from bully.processes import adopt, end_children
 from counts import Counts
 from places import PYTHON, ROOT
 from .edited import build
@@ -53,14 +53,14 @@ print('passed' if result.passed and not result.failed else 'failed' if result.fa
 
 @dataclass
 class Change:
-    """Lines of a file of the package, and what stands in their place."""
+    """Lines of a file of the package, and what replaces them."""
 
     file: str
     old: list[str] = field(default_factory=list)
     new: list[str] = field(default_factory=list)
 
     def made(self, package: Path) -> str | None:
-        """The text of the file with the change; none if the lines don't stand there once."""
+        """The text of the file with the change; none if the lines aren't there once."""
         text, old = (package / self.file).read_text(), '\n'.join(self.old)
         return text.replace(old, '\n'.join(self.new)) if text.count(old) == 1 else None
 
@@ -119,7 +119,7 @@ def is_test(name: str) -> bool:
 
 
 def bugs(words: list[str]) -> list[Bug]:
-    """Those in whose entry some of these words stand; all, if there are none."""
+    """Those whose entries have one of these words; all, if there are none."""
     texts = BUGS.read_text().strip().split('\n\n')
     found = [Bug(text) for text in texts if not words or any(each in text for each in words)]
     for bug in found:

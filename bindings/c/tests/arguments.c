@@ -1,5 +1,5 @@
-/* Pointers to no items, which may be null, where that isn't refused; texts for handles that aren't open; a handle that is opened twice.
- * (nulls.c tries what is null, too long, or not open.) */
+/* Pointers to no items, which may be null, where that isn't refused; texts for handles that aren't open; a handle that
+ * is opened twice. (nulls.c tries what is null, too long, or not open.) */
 #include "testing.h"
 
 #include <string.h>

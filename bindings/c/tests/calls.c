@@ -1,5 +1,5 @@
-/* Tries each function of bully.h: calls FOLDER VERSION HEADER_FOLDER. The folder has the examples, the version is the one that
- * the program tells as its own, and the last folder has bully.h. The last line is 'N passed, M failed'. */
+/* Tries each function of bully.h: calls FOLDER VERSION HEADER_FOLDER. The folder has the examples, the version is the
+ * one that the program tells as its own, and the last folder has bully.h. The last line is 'N passed, M failed'. */
 #include "testing.h"
 
 #include <stdio.h>
@@ -23,7 +23,7 @@ int main(int count, char **words) {
     try_replicas();
     try_replica_arguments();
     try_learning(words[1]);
-    try_settling();
+    try_rebalancing();
     try_members();
     try_member_arguments();
     return tell_counts();

@@ -1,5 +1,5 @@
-// Two nodes in C++, with handles that close themselves, and lines and rows as strings. Each function of bully.h is called. The last
-// line is 'N passed, M failed'.
+// Two nodes in C++, with handles that close themselves, and lines and rows as strings. Each function of bully.h is
+// called. The last line is 'N passed, M failed'.
 #include "bully.h"
 
 #include <cstddef>
@@ -219,21 +219,21 @@ public:
         });
     }
 
-    std::string settle(const Owners &present, const Owners &old = Owners()) {
+    std::string rebalance(const Owners &live, const Owners &old = Owners()) {
         return text_of([&](char *rows, std::size_t room, std::size_t *length) {
-            return bully_replica_settle(&handle, present.data(), present.size(), old.data(), old.size(), rows, room, length);
+            return bully_replica_rebalance(&handle, live.data(), live.size(), old.data(), old.size(), rows, room, length);
         });
     }
 
-    bool is_at_rest(const Owners &present, std::uint32_t place) {
-        std::uint32_t rests = 77;
-        EXPECT(bully_replica_is_at_rest(&handle, present.data(), present.size(), place, &rests) == BULLY_OK);
-        return rests != 0;
+    bool is_stable(const Owners &live, std::uint32_t offset) {
+        std::uint32_t is_stable = 77;
+        EXPECT(bully_replica_is_stable(&handle, live.data(), live.size(), offset, &is_stable) == BULLY_OK);
+        return is_stable != 0;
     }
 
-    Owners owned(std::uint16_t node, std::uint32_t place, std::uint32_t *token) {
+    Owners owned(std::uint16_t node, std::uint32_t offset, std::uint32_t *token) {
         return list_of([&](std::uint16_t *items, std::size_t room, std::size_t *count) {
-            return bully_replica_owned(&handle, node, place, token, items, room, count);
+            return bully_replica_owned(&handle, node, offset, token, items, room, count);
         });
     }
 
@@ -256,7 +256,7 @@ struct Log {
     }
 
     // Each node appends what it wants, until both rest.
-    void settle() {
+    void take_turns() {
         for (;;) {
             std::string row = second.next(2);
             if (row.empty()) {
@@ -270,7 +270,8 @@ struct Log {
     }
 };
 
-// Both nodes come up, and node 2 leads node 1: 16 events, of which the plan is the twelfth. Then node 2 crashes, and keeps its task.
+// Both nodes come up, and node 2 leads node 1: 16 events, of which the plan is the twelfth. Then node 2 crashes, and
+// keeps its task.
 void share() {
     std::size_t length = 77;
     const std::string document = "nodes = 2\npartitions = 3\nevents = 9\nturns = 9\nnames = ['a', 'b']\nkeep = true\n";
@@ -281,7 +282,7 @@ void share() {
     EXPECT(log.text == "bully,2,2,3,1 1,keep\n");
     log.append(log.first.event(1, BULLY_EVENT_RECOVER));
     log.append(log.second.event(2, BULLY_EVENT_RECOVER));
-    log.settle();
+    log.take_turns();
     judge(log.text, 16);
     EXPECT(log.first.show(1).status == BULLY_NORMAL && log.second.show(2).status == BULLY_NORMAL && log.first.show(2).events == 16);
     EXPECT(log.first.show_group().token == 12 && log.second.show_group().planner == 2);
@@ -293,18 +294,18 @@ void share() {
     judge(log.text, 17);
 }
 
-// All of it is settled at once, and each process works on what its node owns.
-void settle() {
+// All of it is rebalanced at once, and each process works on what its node owns.
+void rebalance() {
     std::uint32_t token = 77;
     std::size_t taken = 77;
     Replica replica("bully,1,2,3\n");
-    std::string rows = replica.settle(Owners{1, 2}, Owners{2, 2, 0});
+    std::string rows = replica.rebalance(Owners{1, 2}, Owners{2, 2, 0});
     EXPECT(bully_replica_learn(*replica, rows.data(), rows.size(), &taken) == BULLY_OK && taken == 16);
-    EXPECT(replica.is_at_rest(Owners{2, 1}, 11) && !replica.is_at_rest(Owners{2, 1}, 12) && !replica.is_at_rest(Owners{1}, 0));
+    EXPECT(replica.is_stable(Owners{2, 1}, 11) && !replica.is_stable(Owners{2, 1}, 12) && !replica.is_stable(Owners{1}, 0));
     EXPECT((replica.owned(2, 0, &token) == Owners{0, 1} && token == 12));
     EXPECT((replica.owned(1, 0, &token) == Owners{2} && token == 12));
     EXPECT(replica.owned(1, 12, &token).empty() && token == 0);
-    EXPECT(replica.settle(Owners()) == "crash,1\ncrash,2\n");
+    EXPECT(replica.rebalance(Owners()) == "crash,1\ncrash,2\n");
 }
 
 // A member that is closed when it ends.
@@ -331,12 +332,12 @@ public:
         return step;
     }
 
-    // It looks in this epoch, and finds these rows and these presences.
-    void look(std::uint64_t now, const std::string &rows, const std::vector<bully_presence> &presences) {
+    // It reads a snapshot in this epoch, and finds these rows and these leases.
+    void read_snapshot(std::uint64_t now, const std::string &rows, const std::vector<bully_lease> &leases) {
         std::size_t taken = 77;
-        EXPECT(next(now).request == BULLY_ASK_LOOK);
+        EXPECT(next(now).request == BULLY_ASK_SNAPSHOT);
         EXPECT(bully_member_learn(&handle, rows.data(), rows.size(), &taken) == BULLY_OK);
-        EXPECT(bully_member_looked(&handle, now + 1, show(now).epoch, presences.data(), presences.size(), 0, 0) == BULLY_OK);
+        EXPECT(bully_member_snapshot_read(&handle, now + 1, show(now).epoch, leases.data(), leases.size(), 0, 0) == BULLY_OK);
     }
 
     // It asks for this, and that is done.
@@ -351,9 +352,9 @@ public:
         return shown;
     }
 
-    std::string settlement() {
+    std::string rebalance() {
         return text_of([&](char *rows, std::size_t room, std::size_t *length) {
-            return bully_member_settlement(&handle, rows, room, length);
+            return bully_member_rebalance(&handle, rows, room, length);
         });
     }
 
@@ -363,9 +364,9 @@ public:
         });
     }
 
-    Owners owned_of(const bully_presence &presence, std::uint32_t *token) {
+    Owners owned_of(const bully_lease &lease, std::uint32_t *token) {
         return list_of([&](std::uint16_t *items, std::size_t room, std::size_t *count) {
-            return bully_member_owned_of(&handle, &presence, token, items, room, count);
+            return bully_member_owned_of(&handle, &lease, token, items, room, count);
         });
     }
 
@@ -381,20 +382,21 @@ private:
     bully_member handle = BULLY_MEMBER_CLOSED;
 };
 
-// Process 9 takes the presence of its node, settles its group, works, stops, and goes on in another epoch, where it isn't there.
+// Process 9 acquires the lease of its node, rebalances its group, works, stops, and goes on in another epoch, where it
+// isn't there.
 void act() {
-    const std::vector<bully_presence> own = {{9, 1, 1, 0, 1}};
-    std::uint32_t token = 77, rests = 77;
+    const std::vector<bully_lease> own = {{9, 1, 1, 0, 1}};
+    std::uint32_t token = 77, is_stable = 77;
     bully_group shown = {};
     bully_state state = {};
     Member member;
-    member.look(0, "", {});
-    member.ask(10, BULLY_ASK_TAKE);
-    member.look(20, "", own);
+    member.read_snapshot(0, "", {});
+    member.ask(10, BULLY_ASK_ACQUIRE);
+    member.read_snapshot(20, "", own);
     member.ask(30, BULLY_ASK_APPEND);
-    member.look(40, member.settlement(), own);
+    member.read_snapshot(40, member.rebalance(), own);
     EXPECT(member.next(50).kind == BULLY_STEP_BEGIN && member.owned(&token) == Owners{0} && token == 5 && member.planned() == Owners{1});
-    EXPECT(member.owned_of(own[0], &token) == Owners{0} && bully_member_rests(*member, 50, &rests) == BULLY_OK && rests == 1);
+    EXPECT(member.owned_of(own[0], &token) == Owners{0} && bully_member_is_stable(*member, 50, &is_stable) == BULLY_OK && is_stable == 1);
     EXPECT(bully_member_group(*member, &shown) == BULLY_OK && shown.events == 6);
     EXPECT(bully_member_node(*member, 1, &state) == BULLY_OK && state.status == BULLY_NORMAL);
     EXPECT(bully_member_woke(*member) == BULLY_OK && bully_member_lost(*member, 5) == BULLY_OK);
@@ -420,7 +422,7 @@ int main() {
     EXPECT(kept.told(bully_agent_claim) == "saw,1,down,-,-,-,1 1 2\n");
     plan();
     share();
-    settle();
+    rebalance();
     act();
     tell();
     std::printf("%d passed, %d failed\n", passed, failed);

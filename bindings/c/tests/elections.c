@@ -1,5 +1,6 @@
-/* Groups that elect by the loop of docs/NODE.md: each agent does what it wants, and requests and replies go from one to the other
- * as lines. At the end all are Normal under the highest, with the table that the rule plans, and the log of all is lawful. */
+/* Groups that elect by the loop of docs/NODE.md: each agent does what it wants, and requests and replies go from one to
+ * the other as lines. At the end all are Normal under the highest, with the table that the rule plans, and the log of
+ * all is lawful. */
 #include "group.h"
 
 #include <string.h>
@@ -51,7 +52,7 @@ static int finish_call(struct group *group, uint16_t node) {
 }
 
 /* Until no node wants anything: each takes its next event, and then the calls that they started come back. */
-static void settle(struct group *group) {
+static void elect(struct group *group) {
     int goes_on = 1;
     uint16_t node;
     while (goes_on) {
@@ -94,7 +95,7 @@ static void try_election(uint16_t nodes, uint16_t partitions, const uint16_t *we
     for (node = 1; node <= nodes; node++) {
         recover(&group, node);
     }
-    settle(&group);
+    elect(&group);
     look_at_rest(&group, nodes, first);
     judge_log(&group);
     ANSWERS(OK, bully_agent_crash(&group.agents[nodes]));
@@ -103,7 +104,7 @@ static void try_election(uint16_t nodes, uint16_t partitions, const uint16_t *we
         ANSWERS(OK, bully_agent_timeout(&group.agents[node]));
         log_step(&group, node, 1);
     }
-    settle(&group);
+    elect(&group);
     look_at_rest(&group, (uint16_t)(nodes - 1), second);
     judge_log(&group);
     close_group(&group);

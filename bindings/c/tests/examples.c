@@ -1,5 +1,6 @@
-/* The examples of traces, which agents follow row by row: each step has the row that the trace has, each claim holds, an event
- * that the trace's verdict refuses is refused for that cause, and at the end each node is as the verdict's line of it says. */
+/* The examples of traces, which agents follow row by row: each step has the row that the trace has, each claim holds,
+ * an event that the trace's verdict refuses is refused for that cause, and at the end each node is as the verdict's
+ * line of it says. */
 #include "group.h"
 
 #include <stdio.h>
@@ -176,7 +177,8 @@ static void tell_node(bully_agent *agent, char *line) {
     sprintf(line, "\n");
 }
 
-/* What the file beside the example says at the end: of a lawful trace each node's line, and else what refused the last row. */
+/* What the file beside the example says at the end: of a lawful trace each node's line, and else what refused the last
+ * row. */
 static void compare_end(struct following *it, FILE *file, bully_status status) {
     char line[ROOM] = "", told[ROOM], word[ROOM] = "";
     unsigned number = 0;

@@ -73,7 +73,8 @@ void log_step(struct group *group, uint16_t node, uint32_t events) {
     add(group, text, length);
 }
 
-/* Whether a replica shows the node as its agent does, but for what it counts of the log, and for the number of a call. */
+/* Whether a replica shows the node as its agent does, but for what it counts of the log, and for the number of a
+ * call. */
 static int is_shown_alike(struct group *group, bully_replica *replica, uint16_t node) {
     bully_state state, shown;
     uint16_t items[MOST_NODES], shown_items[MOST_NODES];

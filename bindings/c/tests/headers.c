@@ -15,7 +15,7 @@ static const struct {
     size_t weight_count;
     const char *header;
 } told[] = {
-    /* docs/FORMATS.md: these two say the same */
+    /* docs/FORMATS.md: these two are the same group */
     {3, 7, 0, {0}, 0, "bully,1,3,7\n"},
     {3, 7, 0, {1, 1, 1}, 3, "bully,1,3,7\n"},
     /* weighted.csv and kept.csv */
@@ -79,7 +79,7 @@ static void try_many(uint16_t nodes, uint16_t weight) {
 
 /* ---- What is wrong with a setup ---- */
 
-/* What is wrong at first, and is mended step by step; each fault hides those behind it. */
+/* What is wrong at first, and is mended step by step; each fault hides those after it. */
 static void try_setup_faults(void) {
     bully_setup setup = setup_of(0, 0, 0);
     uint16_t weights[2] = {0, 1};
@@ -134,7 +134,8 @@ static const char *const taken[] = {
     "bully,2,2,2,1 1,clear\n",
     "bully,3,2,2,1 1,clear\n",
     "bully,3,2,2,1 1,clear",
-    /* docs/FORMATS.md: blank lines are no rows, a byte-order mark at the very start is dropped, and quotes are taken off */
+    /* docs/FORMATS.md: blank lines are no rows, a byte-order mark at the very start is dropped, and quotes are taken
+     * off */
     "\n\r\nbully,1,2,2\n\n",
     "\357\273\277bully,1,2,2\n",
     "\"bully\",1,\"2\",2\n",
@@ -149,7 +150,7 @@ static const char *const refused[] = {
     "bully",
     "recover,1\n",
     "saw,1,down,-\n",
-    /* docs/FORMATS.md, in the order of its page */
+    /* refused by docs/FORMATS.md */
     "bully,2,1,1\n",
     "bully,1,0,1\n",
     "bully,1,65,1\n",
@@ -170,7 +171,7 @@ static const char *const refused[] = {
     "bully,1, 1,1\n",
     "bully,1,1,1\xff\n",
     "bully,1,1,1 \n",
-    /* rows behind it */
+    /* rows after it */
     "bully,1,2,2\nrecover,1\n",
     "bully,1,2,2\nrecover,1",
     "bully,1,2,2\n\n\nrecover,1\n",

@@ -1,5 +1,5 @@
-/* What a replica learns of a log, and where it stops: the answers of docs/FORMATS.md, each cause of a refusal, and the examples,
- * beside what bully_check says of the whole log. */
+/* What a replica learns of a log, and where it stops: the answers of docs/FORMATS.md, each cause of a refusal, and the
+ * examples, beside what bully_check says of the whole log. */
 #include "shared.h"
 
 #include <stdio.h>
@@ -12,13 +12,13 @@
 
 /* ---- Rows that are learned, and one that isn't ---- */
 
-/* The rows behind a header: how many are learned, and why the next one isn't. */
+/* The rows after a header: how many are learned, and why the next one isn't. */
 static const struct {
     const char *header, *rows;
     bully_status status;
     uint32_t taken;
 } learned[] = {
-    /* the examples of docs/FORMATS.md */
+    /* by docs/FORMATS.md */
     {VERSION_1, "recover,01\n", BULLY_BAD_ROW, 0},
     {VERSION_1, "recover,0\n", BULLY_BAD_ROW, 0},
     {VERSION_1, "recover,65\n", BULLY_BAD_ROW, 0},
@@ -128,7 +128,7 @@ static void try_learned(void) {
     }
 }
 
-/* ---- Behind a row that isn't learned ---- */
+/* ---- After a row that isn't learned ---- */
 
 /* These rows are answered so, and so many are learned. */
 static void learn(bully_replica *replica, const char *rows, bully_status status, size_t count) {
@@ -137,7 +137,7 @@ static void learn(bully_replica *replica, const char *rows, bully_status status,
     EXPECT(taken == count);
 }
 
-/* The third of five rows is refused, also if another one has no form behind it; the replica goes on from there. */
+/* The third of five rows is refused, also if another one has no form after it; the replica goes on from there. */
 static void try_going_on(void) {
     bully_replica replica = open_replica(VERSION_1), other = open_replica(VERSION_1);
     static struct seen seen, wanted;
@@ -213,7 +213,7 @@ static void try_handles(void) {
 
 /* ---- The examples ---- */
 
-/* The line behind this one. */
+/* The line after this one. */
 static const char *line_behind(const char *line) {
     return line + strcspn(line, "\n") + 1;
 }
@@ -267,7 +267,7 @@ static void compare_example(bully_replica *replica, const bully_verdict *verdict
     }
 }
 
-/* The nodes stand as the lines say that are beside a lawful example, behind the first. */
+/* The nodes are as the lines beside a lawful example say, after the first line. */
 static void compare_nodes(bully_replica *replica, const char *wanted) {
     bully_group group = {77, 77, 77, 77, 77, 77, 77};
     char told[ROOM];
@@ -310,7 +310,8 @@ static void try_example(const char *folder, const char *name) {
 
 /* ---- Examples whose every row is what a replica tells before it ---- */
 
-/* Whether the replica tells this row: of an event of a node, or as its next one, which is the callee's if a call runs. */
+/* Whether the replica tells this row: of an event of a node, or as its next one, which is the callee's if a call
+ * runs. */
 static int is_told(bully_replica *replica, const char *row) {
     static const char *const events[] = {"crash,", "recover,", "check,", "timeout,", "drop,"};
     uint16_t node = (uint16_t)strtoul(strchr(row, ',') + 1, NULL, 10);

@@ -1,4 +1,4 @@
-/* What no member begins with, and presences that are none. (nulls.c tries what is null, too long, or not open.) */
+/* What no member begins with, and leases that are none. (nulls.c tries what is null, too long, or not open.) */
 #include "testing.h"
 
 #include <string.h>
@@ -64,20 +64,20 @@ static void try_bad_beginning(void) {
     ANSWERS(OK, bully_member_close(&member));
 }
 
-/* ---- Presences ---- */
+/* ---- Leases ---- */
 
-static void try_bad_presences(bully_member *member) {
-    static const bully_presence of_none[] = {{5, 1, 7, 0, 1}, {6, 1, 7, 0, 0}};
-    static const bully_presence of_third[] = {{5, 1, 7, 0, 3}}, of_far[] = {{5, 1, 7, 0, 1025}};
+static void try_bad_leases(bully_member *member) {
+    static const bully_lease of_none[] = {{5, 1, 7, 0, 1}, {6, 1, 7, 0, 0}};
+    static const bully_lease of_third[] = {{5, 1, 7, 0, 3}}, of_far[] = {{5, 1, 7, 0, 1025}};
     bully_step step;
     ANSWERS(OK, bully_member_next(member, 0, &step));
-    EXPECT(step.request == BULLY_ASK_LOOK);
-    ANSWERS(BAD_NODE, bully_member_looked(member, 1, 7, of_none, 2, 0, 0));
-    ANSWERS(BAD_NODE, bully_member_looked(member, 1, 7, of_third, 1, 0, 0));
-    ANSWERS(BAD_NODE, bully_member_looked(member, 1, 8, of_none, 2, 0, 0));
-    ANSWERS(BAD_NODE, bully_member_looked(member, 1, 8, of_far, 1, 0, 0));
-    /* (the look is still awaited, and the third node may be one of another epoch) */
-    ANSWERS(OK, bully_member_looked(member, 1, 8, of_third, 1, 0, 0));
+    EXPECT(step.request == BULLY_ASK_SNAPSHOT);
+    ANSWERS(BAD_NODE, bully_member_snapshot_read(member, 1, 7, of_none, 2, 0, 0));
+    ANSWERS(BAD_NODE, bully_member_snapshot_read(member, 1, 7, of_third, 1, 0, 0));
+    ANSWERS(BAD_NODE, bully_member_snapshot_read(member, 1, 8, of_none, 2, 0, 0));
+    ANSWERS(BAD_NODE, bully_member_snapshot_read(member, 1, 8, of_far, 1, 0, 0));
+    /* (the snapshot is still awaited, and the third node may be one of another epoch) */
+    ANSWERS(OK, bully_member_snapshot_read(member, 1, 8, of_third, 1, 0, 0));
     ANSWERS(OK, bully_member_next(member, 2, &step));
     EXPECT(step.request == BULLY_ASK_FOLLOW);
 }
@@ -85,7 +85,7 @@ static void try_bad_presences(bully_member *member) {
 void try_member_arguments(void) {
     bully_member member = BULLY_MEMBER_CLOSED;
     ANSWERS(OK, bully_member_open(&member, header, LENGTH, 7, 1, 44, old, 2, 5, BULLY_TTL_MIN));
-    try_bad_presences(&member);
+    try_bad_leases(&member);
     ANSWERS(OK, bully_member_close(&member));
     try_bad_beginning();
 }

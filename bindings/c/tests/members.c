@@ -1,4 +1,4 @@
-/* Members: what each does next, by the rules in docs/ALGORITHM.md, and what it makes of what it is told. All times follow from a ttl of
+/* Members: what each does next, by the rules in docs/REBALANCING.md, and what it makes of what it is told. All times follow from a ttl of
  * 1,000,000 ns: the margin is 200,000, a renewal comes every 250,000, and what wasn't answered is asked again behind 50,000. */
 #include "testing.h"
 
@@ -7,8 +7,8 @@
 #define ONE "bully,1,1,1\n"
 #define TTL BULLY_TTL_MIN
 
-/* What settles a group of one node that is Down: 6 events, of which the fifth is the plan. */
-#define SETTLEMENT "recover,1\nmove,1\nmove,1\nmove,1\nplan,1,1\nmove,1\n"
+/* What rebalances a group of one node that is Down: 6 events, of which the fifth is the plan. */
+#define REBALANCE "recover,1\nmove,1\nmove,1\nmove,1\nplan,1,1\nmove,1\n"
 
 /* ---- Steps ---- */
 
@@ -17,17 +17,17 @@ static int is_step(bully_member *member, uint64_t now, bully_step wanted) {
     memset(&step, 77, sizeof step);
     ANSWERS(OK, bully_member_next(member, now, &step));
     return step.at_most == wanted.at_most && step.process == wanted.process && step.number == wanted.number && step.kind == wanted.kind &&
-           step.request == wanted.request && step.until == wanted.until && step.place == wanted.place && step.token == wanted.token &&
+           step.request == wanted.request && step.until == wanted.until && step.offset == wanted.offset && step.token == wanted.token &&
            step.ending == wanted.ending;
 }
 
-/* Whether it asks for this. A life is that of process 5. */
-static int asks_of(bully_member *member, uint64_t now, uint32_t request, uint64_t number, uint32_t place) {
+/* Whether it asks for this. A session is that of process 5. */
+static int asks_of(bully_member *member, uint64_t now, uint32_t request, uint64_t number, uint32_t offset) {
     bully_step wanted = {0, 0, 0, BULLY_STEP_ASK, 0, 0, 0, 0, 0};
     wanted.request = request;
     wanted.process = number == 0 ? 0 : 5;
     wanted.number = number;
-    wanted.place = place;
+    wanted.offset = offset;
     return is_step(member, now, wanted);
 }
 
@@ -53,8 +53,8 @@ static int waits(bully_member *member, uint64_t now, uint64_t at_most, uint32_t 
     return is_step(member, now, wanted);
 }
 
-static int rests(bully_member *member, uint64_t now, uint64_t at_most) {
-    bully_step wanted = {0, 0, 0, BULLY_STEP_REST, 0, 0, 0, 0, 0};
+static int backs_off(bully_member *member, uint64_t now, uint64_t at_most) {
+    bully_step wanted = {0, 0, 0, BULLY_STEP_BACK_OFF, 0, 0, 0, 0, 0};
     wanted.at_most = at_most;
     return is_step(member, now, wanted);
 }
@@ -83,15 +83,15 @@ static void learn(bully_member *member, const char *rows, size_t count) {
     EXPECT(taken == count);
 }
 
-/* A look in epoch 7 finds nobody, or life 1 of process 5 with this promise. */
+/* A snapshot in epoch 7 finds nobody, or session 1 of process 5 with this promise. */
 static void find_nobody(bully_member *member, uint64_t now) {
-    ANSWERS(OK, bully_member_looked(member, now, 7, NULL, 0, 0, 0));
+    ANSWERS(OK, bully_member_snapshot_read(member, now, 7, NULL, 0, 0, 0));
 }
 
-static void find_own(bully_member *member, uint64_t now, uint32_t place, uint32_t is_wished) {
-    bully_presence presence = {5, 1, 7, 0, 1};
-    presence.place = place;
-    ANSWERS(OK, bully_member_looked(member, now, 7, &presence, 1, 0, is_wished));
+static void find_own(bully_member *member, uint64_t now, uint32_t offset, uint32_t has_request) {
+    bully_lease lease = {5, 1, 7, 0, 1};
+    lease.offset = offset;
+    ANSWERS(OK, bully_member_snapshot_read(member, now, 7, &lease, 1, 0, has_request));
 }
 
 static bully_member_state state_of(bully_member *member, uint64_t now) {
@@ -101,38 +101,39 @@ static bully_member_state state_of(bully_member *member, uint64_t now) {
     return state;
 }
 
-/* It looks, and takes its presence at time 10. */
+/* It reads a snapshot, and acquires its lease at time 10. */
 static void take(bully_member *member) {
-    EXPECT(asks(member, 0, BULLY_ASK_LOOK));
+    EXPECT(asks(member, 0, BULLY_ASK_SNAPSHOT));
     find_nobody(member, 5);
-    EXPECT(asks_of(member, 10, BULLY_ASK_TAKE, 1, 0));
+    EXPECT(asks_of(member, 10, BULLY_ASK_ACQUIRE, 1, 0));
     answer(member, 20, BULLY_STORE_DONE);
-    EXPECT(asks(member, 30, BULLY_ASK_LOOK));
+    EXPECT(asks(member, 30, BULLY_ASK_SNAPSHOT));
     find_own(member, 40, 0, 0);
 }
 
-/* And settles its group, and works at time 90. */
+/* And rebalances its group, and works at time 90. */
 static void begin(bully_member *member) {
     char text[ROOM];
     size_t length = 77;
     take(member);
     EXPECT(asks_of(member, 50, BULLY_ASK_APPEND, 0, 0));
-    ANSWERS(OK, bully_member_settlement(member, text, sizeof text, &length));
-    EXPECT(is_shown("settlement", text, length, SETTLEMENT));
+    ANSWERS(OK, bully_member_rebalance(member, text, sizeof text, &length));
+    EXPECT(is_shown("rebalance", text, length, REBALANCE));
     answer(member, 60, BULLY_STORE_DONE);
-    EXPECT(asks(member, 70, BULLY_ASK_LOOK));
-    learn(member, SETTLEMENT, 6);
+    EXPECT(asks(member, 70, BULLY_ASK_SNAPSHOT));
+    learn(member, REBALANCE, 6);
     find_own(member, 80, 0, 0);
     EXPECT(begins(member, 90, 5));
 }
 
 /* ---- Stories ---- */
 
-/* Life 1 of process 5 owns the partition by the plan of token 5, if it has promised less in epoch 7; and the group rests. */
+/* Session 1 of process 5 owns the partition by the plan of token 5, if it has promised less in epoch 7; and the group
+ * is stable. */
 static void show_owned_of(bully_member *member) {
-    bully_presence own = {5, 1, 7, 4, 1}, third = {5, 1, 7, 0, 3}, none = {5, 1, 7, 0, 0};
+    bully_lease own = {5, 1, 7, 4, 1}, third = {5, 1, 7, 0, 3}, none = {5, 1, 7, 0, 0};
     uint16_t numbers[2] = {77, 77};
-    uint32_t token = 77, rest = 77;
+    uint32_t token = 77, is_stable = 77;
     size_t count = 77;
     ANSWERS(BAD_NODE, bully_member_owned_of(member, &third, &token, numbers, 2, &count));
     ANSWERS(BAD_NODE, bully_member_owned_of(member, &none, &token, numbers, 2, &count));
@@ -140,14 +141,14 @@ static void show_owned_of(bully_member *member) {
     ANSWERS(OK, bully_member_owned_of(member, &own, &token, numbers, 2, &count));
     EXPECT(token == 5 && count == 1 && numbers[0] == 0 && numbers[1] == 77);
     ANSWERS(SHORT, bully_member_owned_of(member, &own, &token, NULL, 0, &count));
-    own.place = 5;
+    own.offset = 5;
     ANSWERS(OK, bully_member_owned_of(member, &own, &token, numbers, 2, &count));
     EXPECT(token == 0 && count == 0);
     own.epoch = 6;
     ANSWERS(OK, bully_member_owned_of(member, &own, &token, numbers, 2, &count));
     EXPECT(token == 5 && count == 1);
-    ANSWERS(OK, bully_member_rests(member, 100, &rest));
-    EXPECT(rest == 1);
+    ANSWERS(OK, bully_member_is_stable(member, 100, &is_stable));
+    EXPECT(is_stable == 1);
 }
 
 static void show_worker(bully_member *member) {
@@ -158,8 +159,8 @@ static void show_worker(bully_member *member) {
     uint32_t token = 77;
     size_t count = 77;
     EXPECT(shown.process == 5 && shown.number == 1 && shown.since == 10 && shown.sure_left == 799910);
-    EXPECT(shown.life == BULLY_LIFE_PRESENT && shown.promised == 0 && shown.work == BULLY_WORK_WORKING && shown.token == 5);
-    EXPECT(shown.ending == BULLY_ENDING_NONE && shown.epoch == 7 && shown.place == 6 && shown.node == 1 && shown.is_wished == 0);
+    EXPECT(shown.session == BULLY_SESSION_LIVE && shown.promised == 0 && shown.work == BULLY_WORK_WORKING && shown.token == 5);
+    EXPECT(shown.ending == BULLY_ENDING_NONE && shown.epoch == 7 && shown.offset == 6 && shown.node == 1 && shown.has_request == 0);
     EXPECT(state_of(member, 800009).sure_left == 1 && state_of(member, 800010).sure_left == 0 && state_of(member, 0).sure_left == 800000);
     ANSWERS(OK, bully_member_owned(member, &token, numbers, 2, &count));
     EXPECT(token == 5 && count == 1 && numbers[0] == 0 && numbers[1] == 77);
@@ -179,7 +180,7 @@ static void show_worker(bully_member *member) {
     EXPECT(state.node == 1);
 }
 
-/* It works while its presence is sure, and stops once it has lost that. */
+/* It works while its lease is sure, and stops once it has lost that. */
 static void work_and_stop(void) {
     bully_member member;
     open_one(&member);
@@ -187,28 +188,28 @@ static void work_and_stop(void) {
     show_worker(&member);
     EXPECT(waits(&member, 100, 249910, BULLY_UNTIL_ANY_IDLE));
     ANSWERS(OK, bully_member_woke(&member));
-    EXPECT(asks(&member, 110, BULLY_ASK_LOOK));
+    EXPECT(asks(&member, 110, BULLY_ASK_SNAPSHOT));
     answer(&member, 120, BULLY_STORE_UNANSWERED);
-    EXPECT(rests(&member, 130, 49990));
+    EXPECT(backs_off(&member, 130, 49990));
     EXPECT(asks_of(&member, 260010, BULLY_ASK_RENEW, 1, 0));
     answer(&member, 260020, BULLY_STORE_REFUSED);
-    EXPECT(stops(&member, 260030) && rests(&member, 260040, TTL));
-    EXPECT(state_of(&member, 260040).work == BULLY_WORK_STOPPING && state_of(&member, 260040).life == BULLY_LIFE_ABSENT);
+    EXPECT(stops(&member, 260030) && backs_off(&member, 260040, TTL));
+    EXPECT(state_of(&member, 260040).work == BULLY_WORK_STOPPING && state_of(&member, 260040).session == BULLY_SESSION_ABSENT);
     EXPECT(state_of(&member, 260040).process == 0 && state_of(&member, 260040).sure_left == 0);
     ANSWERS(OK, bully_member_stopped(&member));
     EXPECT(state_of(&member, 260050).work == BULLY_WORK_IDLE && state_of(&member, 260050).token == 0);
-    EXPECT(asks(&member, 260060, BULLY_ASK_LOOK));
+    EXPECT(asks(&member, 260060, BULLY_ASK_SNAPSHOT));
     find_nobody(&member, 260070);
-    /* its second life promises the end of the log, so that it waits for a plan behind it */
-    EXPECT(asks_of(&member, 260080, BULLY_ASK_TAKE, 2, 6) && state_of(&member, 260080).promised == 6);
+    /* its second session promises the end of the log, so that it waits for a plan after it */
+    EXPECT(asks_of(&member, 260080, BULLY_ASK_ACQUIRE, 2, 6) && state_of(&member, 260080).promised == 6);
     answer(&member, 260090, BULLY_STORE_UNANSWERED);
-    EXPECT(state_of(&member, 260090).life == BULLY_LIFE_UNKNOWN && state_of(&member, 260090).number == 2);
-    EXPECT(rests(&member, 260090, 50000) && asks_of(&member, 310090, BULLY_ASK_RELEASE, 2, 0));
+    EXPECT(state_of(&member, 260090).session == BULLY_SESSION_UNKNOWN && state_of(&member, 260090).number == 2);
+    EXPECT(backs_off(&member, 260090, 50000) && asks_of(&member, 310090, BULLY_ASK_RELEASE, 2, 0));
     ANSWERS(OK, bully_member_close(&member));
     EXPECT(member.held == NULL);
 }
 
-/* What it began ends outside; its presence ends meanwhile unless it is renewed. */
+/* What it began ends outside; its lease ends meanwhile unless it is renewed. */
 static void lose(void) {
     bully_member member;
     open_one(&member);
@@ -217,7 +218,7 @@ static void lose(void) {
     EXPECT(state_of(&member, 100).work == BULLY_WORK_WORKING);
     ANSWERS(OK, bully_member_lost(&member, 5));
     EXPECT(state_of(&member, 100).work == BULLY_WORK_LOST && state_of(&member, 100).token == 5);
-    EXPECT(stops(&member, 110) && rests(&member, 120, 249890) && asks_of(&member, 250010, BULLY_ASK_RENEW, 1, 0));
+    EXPECT(stops(&member, 110) && backs_off(&member, 120, 249890) && asks_of(&member, 250010, BULLY_ASK_RENEW, 1, 0));
     answer(&member, 250020, BULLY_STORE_DONE);
     EXPECT(state_of(&member, 250020).since == 250010);
     ANSWERS(OK, bully_member_stopped(&member));
@@ -225,27 +226,28 @@ static void lose(void) {
     ANSWERS(OK, bully_member_close(&member));
 }
 
-/* One request is under way at a time: until it is answered nothing else is asked for, and work stops that may not go on. */
+/* One request is under way at a time: until it is answered nothing else is asked for, and work that may not go on
+ * stops. */
 static void await_one(void) {
     bully_member member;
-    uint32_t rest = 77;
+    uint32_t is_stable = 77;
     open_one(&member);
-    ANSWERS(OK, bully_member_rests(&member, 0, &rest));
-    EXPECT(rest == 0 && asks(&member, 0, BULLY_ASK_LOOK) && rests(&member, 1, TTL) && rests(&member, 2 * TTL, TTL));
+    ANSWERS(OK, bully_member_is_stable(&member, 0, &is_stable));
+    EXPECT(is_stable == 0 && asks(&member, 0, BULLY_ASK_SNAPSHOT) && backs_off(&member, 1, TTL) && backs_off(&member, 2 * TTL, TTL));
     ANSWERS(OK, bully_member_close(&member));
     open_one(&member);
     begin(&member);
     ANSWERS(OK, bully_member_woke(&member));
-    EXPECT(asks(&member, 100, BULLY_ASK_LOOK));
-    /* its presence is sure up to 800,010, and would be renewed by 250,010 */
-    EXPECT(rests(&member, 110, 799900) && rests(&member, 260010, 540000));
-    EXPECT(stops(&member, 800010) && rests(&member, 800020, TTL));
+    EXPECT(asks(&member, 100, BULLY_ASK_SNAPSHOT));
+    /* its lease is sure up to 800,010, and would be renewed by 250,010 */
+    EXPECT(backs_off(&member, 110, 799900) && backs_off(&member, 260010, 540000));
+    EXPECT(stops(&member, 800010) && backs_off(&member, 800020, TTL));
     ANSWERS(OK, bully_member_stopped(&member));
-    EXPECT(rests(&member, 800030, TTL));
+    EXPECT(backs_off(&member, 800030, TTL));
     answer(&member, 800040, BULLY_STORE_UNANSWERED);
-    EXPECT(rests(&member, 800040, 50000) && asks_of(&member, 850040, BULLY_ASK_RENEW, 1, 0));
+    EXPECT(backs_off(&member, 800040, 50000) && asks_of(&member, 850040, BULLY_ASK_RENEW, 1, 0));
     /* the answer is that of the renewal, whatever was due meanwhile */
-    EXPECT(rests(&member, 850050, TTL));
+    EXPECT(backs_off(&member, 850050, TTL));
     answer(&member, 850060, BULLY_STORE_DONE);
     EXPECT(state_of(&member, 850060).since == 850040);
     ANSWERS(OK, bully_member_close(&member));
@@ -264,12 +266,12 @@ static void leave(void) {
     EXPECT(asks_of(&member, 110, BULLY_ASK_PROMISE, 1, 6) && state_of(&member, 110).promised == 6);
     answer(&member, 120, BULLY_STORE_DONE);
     EXPECT(asks_of(&member, 130, BULLY_ASK_APPEND, 0, 6));
-    ANSWERS(OK, bully_member_settlement(&member, text, sizeof text, &length));
-    EXPECT(is_shown("settlement", text, length, "crash,1\n"));
-    ANSWERS(SHORT, bully_member_settlement(&member, text, 7, &length));
+    ANSWERS(OK, bully_member_rebalance(&member, text, sizeof text, &length));
+    EXPECT(is_shown("rebalance", text, length, "crash,1\n"));
+    ANSWERS(SHORT, bully_member_rebalance(&member, text, 7, &length));
     EXPECT(length == 8);
     answer(&member, 140, BULLY_STORE_DONE);
-    EXPECT(asks(&member, 150, BULLY_ASK_LOOK));
+    EXPECT(asks(&member, 150, BULLY_ASK_SNAPSHOT));
     learn(&member, "crash,1\n", 1);
     find_own(&member, 160, 6, 0);
     EXPECT(asks_of(&member, 170, BULLY_ASK_RELEASE, 1, 0));
@@ -278,29 +280,30 @@ static void leave(void) {
     ANSWERS(OK, bully_member_close(&member));
 }
 
-/* Something else is wished for: it stops, ends the epoch, and goes on in the next one; then it isn't there any more. */
+/* Other settings are requested: it stops, rolls the epoch over, and goes on in the next one; then its node isn't there
+ * any more. */
 static void follow(void) {
     static const uint16_t old[] = {0};
     bully_member member;
     open_one(&member);
     begin(&member);
     ANSWERS(OK, bully_member_woke(&member));
-    EXPECT(asks(&member, 100, BULLY_ASK_LOOK));
+    EXPECT(asks(&member, 100, BULLY_ASK_SNAPSHOT));
     find_own(&member, 110, 0, 9);
-    EXPECT(state_of(&member, 110).is_wished == 1 && stops(&member, 120));
+    EXPECT(state_of(&member, 110).has_request == 1 && stops(&member, 120));
     ANSWERS(OK, bully_member_stopped(&member));
     EXPECT(asks_of(&member, 130, BULLY_ASK_PROMISE, 1, 6));
     answer(&member, 140, BULLY_STORE_DONE);
-    EXPECT(asks_of(&member, 150, BULLY_ASK_FINISH, 0, 6));
+    EXPECT(asks_of(&member, 150, BULLY_ASK_ROLL_OVER, 0, 6));
     answer(&member, 160, BULLY_STORE_DONE);
     EXPECT(asks(&member, 170, BULLY_ASK_FOLLOW));
     ANSWERS(BAD_NODE, bully_member_followed(&member, 180, ONE, strlen(ONE), 8, 2, 22, old, 1));
     ANSWERS(BAD_ROWS_MAX, bully_member_followed(&member, 180, ONE, strlen(ONE), 8, 1, 21, old, 1));
-    EXPECT(state_of(&member, 180).epoch == 7 && state_of(&member, 180).place == 6);
+    EXPECT(state_of(&member, 180).epoch == 7 && state_of(&member, 180).offset == 6);
     ANSWERS(OK, bully_member_followed(&member, 180, ONE, strlen(ONE), 8, 1, 22, old, 1));
-    EXPECT(state_of(&member, 180).epoch == 8 && state_of(&member, 180).place == 0 && state_of(&member, 180).promised == 0);
-    EXPECT(state_of(&member, 180).life == BULLY_LIFE_PRESENT && state_of(&member, 180).is_wished == 0);
-    EXPECT(asks(&member, 190, BULLY_ASK_LOOK));
+    EXPECT(state_of(&member, 180).epoch == 8 && state_of(&member, 180).offset == 0 && state_of(&member, 180).promised == 0);
+    EXPECT(state_of(&member, 180).session == BULLY_SESSION_LIVE && state_of(&member, 180).has_request == 0);
+    EXPECT(asks(&member, 190, BULLY_ASK_SNAPSHOT));
     ANSWERS(OK, bully_member_passed(&member));
     EXPECT(asks(&member, 200, BULLY_ASK_FOLLOW));
     ANSWERS(OK, bully_member_not_there(&member));
@@ -327,23 +330,23 @@ static void tell_in_vain(void) {
         ANSWERS(BAD_ANSWER, bully_member_answered(&member, 60, numbers[at]));
     }
     answer(&member, 60, BULLY_STORE_REFUSED);
-    EXPECT(asks(&member, 70, BULLY_ASK_LOOK));
+    EXPECT(asks(&member, 70, BULLY_ASK_SNAPSHOT));
     ANSWERS(OK, bully_member_close(&member));
 }
 
-/* ---- Several present, of whom the highest is first ---- */
+/* ---- Several live, of whom the highest is first ---- */
 
 static void wait_for_turn(void) {
-    static const bully_presence presences[] = {{5, 1, 7, 0, 1}, {9, 3, 7, 0, 2}, {8, 1, 6, 44, 3}};
+    static const bully_lease leases[] = {{5, 1, 7, 0, 1}, {9, 3, 7, 0, 2}, {8, 1, 6, 44, 3}};
     bully_member member = BULLY_MEMBER_CLOSED;
     ANSWERS(OK, bully_member_open(&member, "bully,1,3,1\n", 12, 7, 1, 66, NULL, 0, 5, TTL));
-    EXPECT(asks(&member, 0, BULLY_ASK_LOOK));
+    EXPECT(asks(&member, 0, BULLY_ASK_SNAPSHOT));
     find_nobody(&member, 5);
-    EXPECT(asks_of(&member, 10, BULLY_ASK_TAKE, 1, 0));
+    EXPECT(asks_of(&member, 10, BULLY_ASK_ACQUIRE, 1, 0));
     answer(&member, 20, BULLY_STORE_DONE);
-    EXPECT(asks(&member, 30, BULLY_ASK_LOOK));
-    ANSWERS(OK, bully_member_looked(&member, 40, 7, presences, 3, 0, 0));
-    /* two are above: two turns of 200,000 from the look on; the renewal comes first */
+    EXPECT(asks(&member, 30, BULLY_ASK_SNAPSHOT));
+    ANSWERS(OK, bully_member_snapshot_read(&member, 40, 7, leases, 3, 0, 0));
+    /* two are above: two turns of 200,000 from the snapshot on; the renewal comes first */
     EXPECT(waits(&member, 50, 249960, BULLY_UNTIL_NEWS));
     EXPECT(asks_of(&member, 250010, BULLY_ASK_RENEW, 1, 0));
     answer(&member, 250020, BULLY_STORE_DONE);
@@ -352,8 +355,8 @@ static void wait_for_turn(void) {
     EXPECT(waits(&member, 400040, 99970, BULLY_UNTIL_ALL_IDLE));
     /* in another epoch nothing counts but its number */
     ANSWERS(OK, bully_member_woke(&member));
-    EXPECT(asks(&member, 400050, BULLY_ASK_LOOK));
-    ANSWERS(OK, bully_member_looked(&member, 400060, 8, presences, 3, 1, 1));
+    EXPECT(asks(&member, 400050, BULLY_ASK_SNAPSHOT));
+    ANSWERS(OK, bully_member_snapshot_read(&member, 400060, 8, leases, 3, 1, 1));
     EXPECT(asks(&member, 400070, BULLY_ASK_FOLLOW));
     ANSWERS(OK, bully_member_close(&member));
 }

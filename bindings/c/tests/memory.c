@@ -1,6 +1,6 @@
-/* Refuses each call that allocates each of its requests in turn, the first, the second and so on, until one meets no refusal:
- * it answers BULLY_OUT_OF_MEMORY, nothing has changed, and all memory is given back. The program is linked with --wrap for malloc,
- * realloc and free. The last line is 'N passed, M failed'. */
+/* Refuses each call that allocates each of its requests in turn, the first, the second and so on, until one meets no
+ * refusal: it answers BULLY_OUT_OF_MEMORY, nothing has changed, and all memory is given back. The program is linked
+ * with --wrap for malloc, realloc and free. The last line is 'N passed, M failed'. */
 #include "shared.h"
 
 #include <stdio.h>
@@ -108,7 +108,8 @@ static bully_status claim(void) {
 
 #define VERSION_3 "bully,3,2,2,1 1,clear\n"
 
-/* Two nodes, of which node 2 leads; behind the first rows it has announced itself, and behind the second wants to plan. */
+/* Two nodes, of which node 2 leads; after the first rows it has announced itself, and after the second wants to
+ * plan. */
 #define ANNOUNCED "recover,1\nrecover,2\nmove,2\nstart,2\nrun,2\nreturn,2\nmove,2\nstart,2\nrun,2\nreturn,2\n"
 #define MOVE "move,2\n"
 #define PLAN "plan,2,1 2\n"
@@ -156,7 +157,7 @@ static bully_status learn_claim(void) {
     return bully_replica_learn(&replica, claim, strlen(claim), &length);
 }
 
-/* ---- What settles a group, and the calls of a member of one that settles itself ---- */
+/* ---- What rebalances a group, and the calls of a member of one that rebalances itself ---- */
 
 #define MEMBER_HEADER "bully,1,2,2\n"
 #define ROWS_MAX 44
@@ -164,9 +165,9 @@ static bully_status learn_claim(void) {
 static bully_member member, opened_member;
 static uint32_t token;
 
-static bully_status settle(void) {
-    static const uint16_t present[2] = {1, 2}, old[2] = {2, 0};
-    return bully_replica_settle(&replica, present, 2, old, 2, text, sizeof text, &length);
+static bully_status rebalance_replica(void) {
+    static const uint16_t live[2] = {1, 2}, old[2] = {2, 0};
+    return bully_replica_rebalance(&replica, live, 2, old, 2, text, sizeof text, &length);
 }
 
 static bully_status owned(void) {
@@ -179,12 +180,12 @@ static bully_status open_member(void) {
 }
 
 static bully_status find(void) {
-    static const bully_presence presences[2] = {{9, 1, 1, 0, 1}, {8, 1, 1, 0, 2}};
-    return bully_member_looked(&member, 40, 1, presences, 2, 0, 0);
+    static const bully_lease leases[2] = {{9, 1, 1, 0, 1}, {8, 1, 1, 0, 2}};
+    return bully_member_snapshot_read(&member, 40, 1, leases, 2, 0, 0);
 }
 
-static bully_status settlement(void) {
-    return bully_member_settlement(&member, text, sizeof text, &length);
+static bully_status rebalance_member(void) {
+    return bully_member_rebalance(&member, text, sizeof text, &length);
 }
 
 static bully_status learn_first(void) {
@@ -200,8 +201,8 @@ static bully_status own(void) {
 }
 
 static bully_status own_of(void) {
-    static const bully_presence presence = {9, 1, 1, 0, 1};
-    return bully_member_owned_of(&member, &presence, &token, owners, 2, &length);
+    static const bully_lease lease = {9, 1, 1, 0, 1};
+    return bully_member_owned_of(&member, &lease, &token, owners, 2, &length);
 }
 
 static bully_status follow(void) {
@@ -240,7 +241,8 @@ static int is_same_sight(const struct sight *one, const struct sight *other) {
            memcmp(&one->group, &other->group, sizeof one->group) == 0;
 }
 
-/* What the calls write: nothing, if they are refused, but for the number of a verdict, and of the rows that were learned. */
+/* What the calls write: nothing, if they are refused, but for the number of a verdict, and of the rows that were
+ * learned. */
 #define SPOILED 0x4d4d4d4d
 
 static void spoil(void) {
@@ -358,9 +360,9 @@ static void refuse_of_replica(void) {
     ANSWERS(OK, bully_replica_close(&replica));
 }
 
-static void refuse_of_settling(void) {
+static void refuse_of_rebalance(void) {
     ANSWERS(OK, bully_replica_open(&replica, VERSION_3, strlen(VERSION_3)));
-    refuse_each("bully_replica_settle", BULLY_OK, settle, 1);
+    refuse_each("bully_replica_rebalance", BULLY_OK, rebalance_replica, 1);
     EXPECT(is_text(text, length, "recover,1\nrecover,2\nmove,2\nstart,2\nrun,2\nreturn,2\nmove,2\nstart,2\nrun,2\nreturn,2\nmove,2\n"
                                  "plan,2,2 1\nstart,2\nrun,2\nreturn,2\nmove,2\n"));
     {
@@ -375,16 +377,16 @@ static void refuse_of_settling(void) {
     ANSWERS(OK, bully_replica_close(&replica));
 }
 
-/* The member looks and takes its presence; then it looks, and both nodes are present. */
-static void take_presence(void) {
+/* The member reads a snapshot and acquires its lease; then it reads another one, and both nodes are live. */
+static void acquire_lease(void) {
     bully_step step;
     ANSWERS(OK, bully_member_next(&member, 0, &step));
-    ANSWERS(OK, bully_member_looked(&member, 5, 1, NULL, 0, 0, 0));
+    ANSWERS(OK, bully_member_snapshot_read(&member, 5, 1, NULL, 0, 0, 0));
     ANSWERS(OK, bully_member_next(&member, 10, &step));
     ANSWERS(OK, bully_member_answered(&member, 20, BULLY_STORE_DONE));
     ANSWERS(OK, bully_member_next(&member, 30, &step));
-    EXPECT(step.request == BULLY_ASK_LOOK);
-    refuse_each("bully_member_looked", BULLY_OK, find, 1);
+    EXPECT(step.request == BULLY_ASK_SNAPSHOT);
+    refuse_each("bully_member_snapshot_read", BULLY_OK, find, 1);
 }
 
 static void refuse_of_member(void) {
@@ -393,8 +395,8 @@ static void refuse_of_member(void) {
     refuse_each("bully_member_open", BULLY_OK, open_member, 1);
     member = opened_member;
     opened_member.held = NULL;
-    take_presence();
-    refuse_each("bully_member_settlement", BULLY_OK, settlement, 1);
+    acquire_lease();
+    refuse_each("bully_member_rebalance", BULLY_OK, rebalance_member, 1);
     refuse_each("bully_member_learn, first", BULLY_OK, learn_first, 0);
     ANSWERS(OK, bully_member_learn(&member, &rows[10], strlen(rows) - 10, &length));
     refuse_each("bully_member_learn, plan", BULLY_OK, learn_table, 1);
@@ -411,8 +413,8 @@ static void refuse_of_member(void) {
     ANSWERS(OK, bully_member_close(&member));
 }
 
-/* Two rows, of which the first may be learned before a request is refused: it stays then, and the replica goes on behind it. Answers
- * whether it came to a refusal, and counts those behind the first row. */
+/* Two rows, of which the first may be learned before a request is refused: it stays then, and the replica goes on after
+ * it. Answers whether it came to a refusal, and counts those after the first row. */
 static int refuse_learning(long number, int *behind_first) {
     static const char rows[] = MOVE PLAN;
     size_t taken = 77, rest;
@@ -453,7 +455,7 @@ int main(void) {
         refuse_at_rest();
         refuse_of_replica();
         refuse_while_learning();
-        refuse_of_settling();
+        refuse_of_rebalance();
         refuse_of_member();
         EXPECT(blocks == before);
     }

@@ -1,6 +1,6 @@
-/* Makes a million calls and more in one process: two nodes, of which node 1 looks after node 2 until it has told as many events as
- * the setup bounds. Then all is closed and done again, and a replica learns as many rows as a log may have. The memory in use stays
- * as it was. The last line is 'N passed, M failed'. */
+/* Makes a million calls and more in one process: two nodes, of which node 1 looks after node 2 until it has told as
+ * many events as the setup bounds. Then all is closed and done again, and a replica learns as many rows as a log may
+ * have. The memory in use stays as it was. The last line is 'N passed, M failed'. */
 #include "testing.h"
 
 #include <stdio.h>
@@ -42,7 +42,8 @@ static long look_after(struct pair *pair) {
     return bully_agent_replied(&pair->first, reply, reply_length, &answer) == BULLY_OK && answer == BULLY_YES ? 5 : 4;
 }
 
-/* Until node 1 has told so many events, which is all. Answers how many calls there were, and how much memory they came to. */
+/* Until node 1 has told so many events, which is all. Answers how many calls there were, and how much memory they came
+ * to. */
 static long use_up(uint32_t events_max, size_t *grown) {
     struct pair pair = open_pair(events_max, RESTING);
     long calls = look_after(&pair), more;
@@ -77,7 +78,7 @@ static void open_often(void) {
 
 /* ---- A log of a million rows ---- */
 
-/* Node 1 leads alone, and is idle behind nine events. */
+/* Node 1 leads alone, and is idle after nine events. */
 #define LEADS "recover,1\nstart,1\nlose,1\nreturn,1\nmove,1\nmove,1\nmove,1\nplan,1,1 1\nmove,1\n"
 #define TIMEOUT "timeout,1\n"
 #define LAST "recover,2\n"
@@ -97,7 +98,7 @@ static char *many_rows(size_t count, const char *row, const char *last, size_t *
     return rows;
 }
 
-/* Behind a million rows nothing is told of an event, and nothing is learned. Node 2 is up, and node 1 rests. */
+/* After a million rows nothing is told of an event, and nothing is learned. Node 2 is up, and node 1 rests. */
 static void try_full_log(bully_replica *replica) {
     char row[ROOM] = "as it was";
     size_t length = 77;

@@ -1,11 +1,11 @@
-/* Each argument of each function null, too long or of no items in turn, of handles that are open and that aren't: nulls.py makes the
- * calls of the header. */
+/* Each argument of each function null, too long or of no items in turn, of handles that are open and that aren't:
+ * nulls.py makes the calls of the header. */
 #include "testing.h"
 
 #include <string.h>
 
-/* What the calls take: a handle of each kind, any number, and what pointers lead to. No function takes more than 20 arguments, or a
- * struct of more than 128 bytes. */
+/* What the calls take: a handle of each kind, any number, and what pointers lead to. No function takes more than 20
+ * arguments, or a struct of more than 128 bytes. */
 static bully_agent agent = BULLY_AGENT_CLOSED;
 static bully_replica replica = BULLY_REPLICA_CLOSED;
 static bully_member member = BULLY_MEMBER_CLOSED;
@@ -68,7 +68,7 @@ static void try_open(void) {
     ANSWERS(OK, bully_member_group(&member, &group));
     EXPECT(group.rows == 0);
     ANSWERS(OK, bully_member_next(&member, 0, &step));
-    EXPECT(step.request == BULLY_ASK_LOOK);
+    EXPECT(step.request == BULLY_ASK_SNAPSHOT);
     ANSWERS(OK, bully_agent_recover(&agent));
     ANSWERS(OK, bully_agent_close(&agent));
     ANSWERS(OK, bully_replica_close(&replica));

@@ -4,7 +4,7 @@
     bindings/c/tests/nulls.py HEADER
 
 What is wanted comes from the header alone, which says: BULLY_NULL comes first, of a pointer that is null and must not be, and of a length above
-PTRDIFF_MAX bytes; a pointer with a `size_t` after it leads to so many items, and may be null if these are none. Then a handle that isn't open
+PTRDIFF_MAX bytes; a pointer with a `size_t` after it points to that many items, and may be null if these are none. Then a handle that isn't open
 is BULLY_CLOSED, and one that is opened a second time BULLY_OPEN. What `bin/building` makes of this rule is not read here.
 """
 import sys

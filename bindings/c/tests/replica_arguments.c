@@ -1,5 +1,5 @@
-/* Arguments of a replica's calls, and of bully_header: pointers to no items, numbers of no node and of no event, and room that is too
- * small. (nulls.c tries what is null, too long, or not open.) */
+/* Arguments of a replica's calls, and of bully_header: pointers to no items, numbers of no node and of no event, and
+ * room that is too small. (nulls.c tries what is null, too long, or not open.) */
 #include "shared.h"
 
 #include <string.h>

@@ -4,13 +4,13 @@
 
 #include <string.h>
 
-/* How a node stands that has no call in its slot, and how one stands that has; behind how many events is told apart. */
+/* The state of a node without a call in its slot, and of one with a call; after how many events is given separately. */
 #define STANDS(node, generation, status, coordinator, halter, wants) \
     {BULLY_##status, BULLY_WANTS_##wants, 0, generation, BULLY_NO_CALL_KIND, 0, 0, node, coordinator, halter, 0}
 #define CALLS(node, generation, status, coordinator, halter, call, callee) \
     {BULLY_##status, BULLY_WANTS_AWAIT, 0, generation, BULLY_##call, 0, 0, node, coordinator, halter, callee}
 
-/* Whether the node that this state names is so, behind so many events. */
+/* Whether the node that this state names is in it, after this many events. */
 static int stands(bully_replica *replica, uint32_t events, const bully_state *wanted) {
     bully_state state, whole = *wanted;
     memset(&state, 77, sizeof state);
@@ -21,7 +21,8 @@ static int stands(bully_replica *replica, uint32_t events, const bully_state *wa
 
 /* ---- Elections of two nodes ---- */
 
-/* Node 2 leads node 1, from its first move on: whose row comes next, and how a node stands behind it in the first election. */
+/* Node 2 leads node 1, from its first move on: whose row comes next, and the state of a node after it in the first
+ * election. */
 static const struct {
     uint16_t node;
     const char *row;
@@ -49,7 +50,7 @@ static const char *const succession[] = {
     "move,1\n", "move,1\n", "move,1\n", "plan,1,1 1\n", "move,1\n",
 };
 
-/* Both nodes are Normal behind 16 events, of which the plan is the twelfth. */
+/* Both nodes are Normal after 16 events, of which the plan is the twelfth. */
 static void elect_first(struct shared *shared) {
     static const bully_state first = STANDS(1, 0, ELECTION, 0, 0, START), second = STANDS(2, 0, ELECTION, 0, 0, MOVE);
     size_t at;
@@ -68,7 +69,7 @@ static void elect_first(struct shared *shared) {
     expect_rest(shared, 2);
 }
 
-/* Node 2 crashes behind 16 events, and node 1 is Normal alone behind 29, of which the plan is the 28th. */
+/* Node 2 crashes after 16 events, and node 1 is Normal alone after 29, of which the plan is the 28th. */
 static void succeed(struct shared *shared) {
     static const bully_state down = STANDS(2, 1, DOWN, 0, 0, NOTHING), asks = CALLS(1, 1, NORMAL, 2, 2, ARE_YOU_UP, 2);
     static const bully_state leads = STANDS(1, 1, NORMAL, 1, 1, NOTHING);
@@ -89,7 +90,8 @@ static void succeed(struct shared *shared) {
     expect_rest(shared, 2);
 }
 
-/* Node 2 comes back behind 29 events, and both are Normal behind 44, of which the plan is the fortieth: one partition moves. */
+/* Node 2 comes back after 29 events, and both are Normal after 44, of which the plan is the fortieth: one partition
+ * moves. */
 static void come_again(struct shared *shared) {
     static const bully_state first = STANDS(1, 2, NORMAL, 2, 2, NOTHING), second = STANDS(2, 1, NORMAL, 2, 2, NOTHING);
     bully_replica *replica = &shared->replicas[1];
@@ -141,7 +143,7 @@ static void try_elections_of_two(void) {
 /* ---- An election of five nodes ---- */
 
 /* Until all nodes rest: each appends its next row, from the lowest to the highest and again. */
-static void settle(struct shared *shared) {
+static void take_turns(struct shared *shared) {
     int goes_on = 1;
     while (goes_on) {
         uint16_t node;
@@ -172,7 +174,8 @@ static void expect_normal(bully_replica *replica, uint16_t leader, const char *t
     EXPECT(group.planner == leader && group.token > 0 && group.token < group.events && has_planned(replica, task));
 }
 
-/* All come up; then the highest crashes, each of the others hears nothing of it, and its partition goes to the lowest. */
+/* All come up; then the highest crashes, each of the others hears nothing of it, and its partition goes to the
+ * lowest. */
 static void try_five(void) {
     static const char *const recoveries[] = {"recover,1\n", "recover,2\n", "recover,3\n", "recover,4\n", "recover,5\n"};
     static const char *const timeouts[] = {"timeout,1\n", "timeout,2\n", "timeout,3\n", "timeout,4\n"};
@@ -182,14 +185,14 @@ static void try_five(void) {
     for (node = 1; node <= 5; node++) {
         append_event(&shared, node, BULLY_EVENT_RECOVER, recoveries[node - 1]);
     }
-    settle(&shared);
+    take_turns(&shared);
     expect_normal(&shared.replicas[0], 5, "1 2 3 4 5");
     EXPECT(has_up(&shared.replicas[0], 5, "1 2 3 4"));
     append_event(&shared, 5, BULLY_EVENT_CRASH, "crash,5\n");
     for (node = 1; node <= 4; node++) {
         append_event(&shared, node, BULLY_EVENT_TIMEOUT, timeouts[node - 1]);
     }
-    settle(&shared);
+    take_turns(&shared);
     expect_normal(&shared.replicas[0], 4, "1 2 3 4 1");
     EXPECT(has_up(&shared.replicas[0], 4, "1 2 3"));
     judge_shared(&shared);
@@ -279,7 +282,8 @@ static void try_weights(void) {
     close_shared(&shared);
 }
 
-/* The same behind the table 3 3 3 2 2 2 2, which node 3 plans for itself and node 2 (it owns one more than it would have to). */
+/* The same after the table 3 3 3 2 2 2 2, which node 3 plans for itself and node 2 (it owns one more than it would have
+ * to). */
 static void try_weights_anew(void) {
     static struct shared shared;
     open_shared(&shared, 3, "bully,2,3,7,1 2 1,clear\n");
@@ -297,8 +301,8 @@ static void try_weights_anew(void) {
     close_shared(&shared);
 }
 
-/* Node 2 leads alone, and owns all; then it crashes, comes back and leads node 1: of what it owned last one partition moves, also
- * if it has forgotten its task. */
+/* Node 2 leads alone, and owns all; then it crashes, comes back and leads node 1: of what it owned last one partition
+ * moves, also if it has forgotten its task. */
 static void try_last_table(const char *header, const char *task) {
     static struct shared shared;
     bully_replica *replica = &shared.replicas[1];

@@ -61,7 +61,7 @@ static void try_largest(void) {
     EXPECT(at == BULLY_PARTITIONS_MAX);
 }
 
-/* What is wrong at first, and is mended step by step; each fault hides those behind it. */
+/* What is wrong at first, and is mended step by step; each fault hides those after it. */
 struct wrong {
     bully_setup setup;
     uint16_t weights[2], members[1], old[3], owners[2], moves;

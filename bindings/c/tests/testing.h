@@ -24,7 +24,7 @@ int tell_counts(void);
 int is_text(const char *text, size_t length, const char *wanted);
 int is_shown(const char *what, const char *text, size_t length, const char *wanted);
 
-/* The examples; and the text of a file of one, with a zero byte behind it, to be freed. */
+/* The examples; and the text of a file of one, with a zero byte after it, to be freed. */
 #define EXAMPLES 12
 extern const char *const example_names[EXAMPLES];
 char *read_file(const char *folder, const char *name, const char *kind, size_t *length);
@@ -58,7 +58,7 @@ struct pair open_pair(uint32_t events_max, enum stage stage);
 void close_pair(struct pair *pair);
 /* A whole call: it is started, runs at the callee and returns with this answer. */
 void call_once(bully_agent *caller, bully_agent *callee, uint32_t answer);
-/* The same behind its start. */
+/* The same after its start. */
 void come_back(bully_agent *caller, bully_agent *callee, uint32_t answer);
 
 /* The owners that node 2 plans, and that the examples have. */
@@ -79,7 +79,7 @@ void try_elections(void);
 void try_replicas(void);
 void try_replica_arguments(void);
 void try_learning(const char *folder);
-void try_settling(void);
+void try_rebalancing(void);
 void try_members(void);
 void try_member_arguments(void);
 

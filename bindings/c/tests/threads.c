@@ -1,5 +1,5 @@
-/* Threads that each have handles of their own, and call at the same time; and a handle that goes from thread to thread. The last
- * line is 'N passed, M failed'. */
+/* Threads that each have handles of their own, and call at the same time; and a handle that goes from thread to thread.
+ * The last line is 'N passed, M failed'. */
 #define _POSIX_C_SOURCE 200112L
 #include "testing.h"
 
@@ -9,7 +9,8 @@
 #define THREADS 4
 #define ROUNDS 500
 
-/* What a thread does on its own: an election, and calls until all events are told. It counts nothing, since counts are shared. */
+/* What a thread does on its own: an election, and calls until all events are told. It counts nothing, since counts are
+ * shared. */
 struct work {
     bully_agent first, second;
     int held;

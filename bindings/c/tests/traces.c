@@ -12,7 +12,7 @@ static const struct {
     uint32_t kind, number;
     bully_status cause;
 } judged[] = {
-    /* the examples of docs/FORMATS.md */
+    /* by docs/FORMATS.md */
     {"bully,1,2,2\nrecover,3\n", BULLY_REFUSED, 2, BULLY_BAD_NODE},
     {"bully,1,2,2\nsaw,3,down,-\n", BULLY_DIFFERS, 2, BULLY_OK},
     {"bully,1,2,2\nsaw,2,down,-\n", BULLY_LAWFUL, 0, BULLY_OK},

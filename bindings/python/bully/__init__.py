@@ -1,19 +1,21 @@
-"""A group that elects a coordinator by the Bully algorithm, in Python: one node of it, or what its log tells.
+"""A group that elects a coordinator by the Bully algorithm, in Python: the binding of a proved library.
 
-This is the binding of `include/bully.h` by ctypes. It needs Python 3.9 or later and its standard library alone. There
-are two ways to build on it. An `Agent` is one node on its own, which sends calls to the others: `docs/NODE.md` says
-which calls it wants when, and what the program has to keep. A `Replica` is what a process knows of a group whose
-history is a log in a store outside; and a `Member` is such a process, over a log of `bully.logs`: `docs/MEMBERS.md`.
-The command `bully-member` runs one. `bully.member` has the proved rules of one alone.
+The package binds `include/bully.h` by ctypes. It needs Python 3.9 or later, and nothing but the standard library.
 
-`bin/library FOLDER` of the repository builds the library. This module finds it by
+- `Agent` is one node on its own, which exchanges calls with the others. `docs/NODE.md` says when it wants which call,
+  and what the program must keep.
+- `Replica` is what a process knows of a group whose history is a log in a store.
+- `Member` is a process that takes part in such a group, over a log of `bully.shared_log`: `docs/MEMBERS.md`. The
+  command `bully-member` runs one. `bully.core` has the proved rules of a member alone.
 
-    load('FOLDER')                  # the folder that it made, or the path of libbully.so itself
-    BULLY_LIBRARY=FOLDER python3 .. # the same, where `load` wasn't called
+`bin/library FOLDER` of the repository builds the library. The package finds it by
 
-or else in the folder of this package, where `pip install` puts it; in an archive in `lib`, and at the top of the
-repository in `out/library`. It reads `bully.h`, too, which stands in that folder, in `include` of an archive or of the
-repository, or with the library that BULLY_LIBRARY names.
+    load('FOLDER')                  # the folder that bin/library made, or the path of libbully.so itself
+    BULLY_LIBRARY=FOLDER python3 .. # the same, if `load` wasn't called
+
+Otherwise it takes the library from the folder of this package, where `pip install` puts it, from `lib` of an archive,
+or from `out/library` at the top of the repository. It also reads `bully.h`, from the folder of this package, from
+`include` of the archive or of the repository, or from beside the library that BULLY_LIBRARY names.
 
 One call of a node, which a program sends from process to process:
 
@@ -25,7 +27,7 @@ One call of a node, which a program sends from process to process:
         reply = callee.serve(caller.request())
         assert caller.replied(reply) is Answer.YES
 
-One row of a log, which a process appends behind all that it read, and then learns:
+One row of a log. A process appends it after all the rows that it has read, and then learns it:
 
     header, log = Setup(nodes=2, partitions=3).header(), []
     with Replica(header) as replica:
@@ -33,15 +35,16 @@ One row of a log, which a process appends behind all that it read, and then lear
         replica.learn(log[replica.rows:])   # the rows of other processes, too
         assert replica.next(1) == 'start,1'
 
-Each status of the library that isn't OK is an exception, a class of its own below `BullyError`, and nothing has changed
-then. `Replica.learn` alone takes what comes before a row that it refuses, and raises NotLearned, whose `cause` is such
-a class. What isn't even a number of the kind that the library takes, as 70000 partitions, is a ValueError.
+Each status of the library but OK is an exception, with a class of its own below `BullyError`. A call that raises one
+has changed nothing, except `Replica.learn`: it keeps the rows before the one that it refuses, and raises NotLearned,
+whose `cause` is the class of the refusal. An argument that the library's type can't hold, as 70000 partitions, is a
+ValueError.
 """
 from __future__ import annotations
 
 from typing import TYPE_CHECKING, Any
 
-# What is imported by its own name, or by a star, is the package's for a type checker, too.
+# A type checker takes what is imported by its own name, or by a star, for public.
 from . import faults, group, values
 from .agent import Agent as Agent
 from .faults import *
@@ -51,15 +54,15 @@ from .replica import Replica as Replica
 from .values import *
 
 if TYPE_CHECKING:
-    from .running import Member as Member
+    from .member import Member as Member
 
-__version__ = '0.5.0'  # that of the library, which `version` tells
+__version__ = '0.6.0'  # that of the library, which `version` returns
 
 
 def __getattr__(name: str) -> Any:
-    """Members need more of the standard library than the rest, and are loaded once they are asked for."""
+    """Loads `Member` when it is first used: it needs more of the standard library than the rest."""
     if name == 'Member':
-        from .running import Member
+        from .member import Member
 
         return Member
     raise AttributeError(f'module {__name__!r} has no attribute {name!r}')

@@ -12,18 +12,18 @@ from .values import Answer, Call, Line, State, Status, Want
 
 
 class Agent(Opened):
-    """One node on its own: what a process keeps of it. It has no socket, clock, thread or file: `docs/NODE.md` has the
-    loop of a process, and what the program has to keep.
+    """One node on its own: what a process keeps of it. It has no socket, clock, thread or file. `docs/NODE.md` has the
+    loop of a process, and what the program must keep.
 
-    Each call that changes it is refused, by an exception, and changes nothing; or it is an event of the group, two
-    where a call failed; `rows` has them for the log. It holds memory of the library until it is closed, as by
-    `with`."""
+    Each call that changes an agent either raises an exception and changes nothing, or is one event of the group; a
+    failed call is two. `rows` returns the events for the log. An agent holds memory of the library until it is closed,
+    as by `with`."""
 
     _kind = 'bully_agent'
-    _single = 'an agent is not copied: two of them would be two agents of one node'
+    _single = 'an agent can not be copied: the copy would be a second agent of the node'
 
     def __init__(self, setup: Setup, node: int, events: int = 0, task: Sequence[int] | None = None) -> None:
-        """The agent of a node that is Down, whose log has so many events, and that has kept this task, if any.
+        """The agent of a node that is Down. Its log has so many events, and it has kept this task, if any.
 
         Raises BadNodes, BadPartitions, BadLimit, BadWeights, BadNode, TableLength, TableOwner, OutOfMemory."""
         super().__init__()
@@ -39,23 +39,24 @@ class Agent(Opened):
     # What the node does by itself. Each is one event.
 
     def recover(self) -> None:
-        """The node recovers, and stands for election. Raises Closed, Full, IsUp."""
+        """The node recovers, and starts an election. Raises Closed, Full, IsUp."""
         self._call('recover')
 
     def crash(self) -> None:
-        """The node crashes, or has to stop. Raises Closed, Full, IsDown."""
+        """The node crashes, or must stop. Raises Closed, Full, IsDown."""
         self._call('crash')
 
     def check(self) -> None:
-        """The idle node, their coordinator, begins to check the others. Raises Closed, Full, IsDown, Busy."""
+        """The node, which is idle and the coordinator, starts to check the others. Raises Closed, Full, IsDown,
+        Busy."""
         self._call('check')
 
     def timeout(self) -> None:
-        """The idle node heard nothing for too long. Raises Closed, Full, IsDown, Busy."""
+        """The node, which is idle, has heard nothing for too long. Raises Closed, Full, IsDown, Busy."""
         self._call('timeout')
 
     def start(self) -> None:
-        """The node starts the call that it wants to start; `request` then has what is to be sent.
+        """The node starts the call that it wants to start. `request` then returns the line to send.
 
         Raises Closed, Full, IsDown, NoStep, SlotBusy."""
         self._call('start')
@@ -65,19 +66,19 @@ class Agent(Opened):
         self._call('advance')
 
     def plan(self, owners: Sequence[int]) -> None:
-        """The node has planned this table, as `prepare` makes one.
+        """The node has planned this table, as `prepare` returns one.
 
         Raises Closed, TableLength, TableOwner, OutOfMemory, Full, IsDown, NoStep, SlotBusy, BadTable."""
         self._call('plan', *numbers_of('an owner', owners))
 
     def drop_orphan(self) -> None:
-        """The node's call, an orphan, is given up. Raises Closed, Full, IsDown, NoCall, NotOrphan.
+        """The node gives up its call, which is an orphan. Raises Closed, Full, IsDown, NoCall, NotOrphan.
 
-        Premise: its request won't run any more."""
+        Premise: the request won't run any more."""
         self._call('drop_orphan')
 
     def prepare(self, old: Sequence[int] | None = None) -> tuple[int, ...]:
-        """The table that the node should plan, from this old one, mostly its `task`. No event.
+        """The table that the node should plan from this old one, usually its `task`. This is no event.
 
         Raises Closed, TableLength, TableOwner, OutOfMemory."""
         before, count = owners_of(old), self._setup.partitions
@@ -85,44 +86,44 @@ class Agent(Opened):
         self._call('prepare', *before, owners, count)
         return tuple(owners)
 
-    # What comes from other nodes, or goes to them. Lines have no line end.
+    # Requests and replies. Lines have no line end.
 
     def request(self) -> str | None:
-        """The request of the node's call, while that is under way; to be sent to its callee, once. No event.
+        """The request of the node's call while that is under way. Send it to the callee, once. This is no event.
 
         Raises Closed, OutOfMemory."""
         return self._room.text(self._function('request')) or None
 
     def serve(self, line: Line) -> str:
-        """The request of this line runs at the node. One event. The line of the reply, for its caller.
+        """Runs the request of this line at the node, as one event. Returns the line of the reply, for the caller.
 
         Raises Closed, the LineFaults, OutOfMemory, Full, BadNode, NoCall, CalleeDown. Premise: the request is the
         caller's call, and runs once, while that is under way."""
         return self._room.text(self._function('serve'), *line_of(line))
 
     def replied(self, line: Line) -> Answer:
-        """The node's call returns with the reply of this line. One event. What the node is told.
+        """The node's call returns with the reply of this line, as one event. Returns the node's answer.
 
-        Raises Closed, the LineFaults, Full; NoCall, where it is no reply to the call under way. Premise: the call ran
-        at its callee, and was answered so."""
+        Raises Closed, the LineFaults, Full; NoCall, if this is no reply to the call under way. Premise: the call ran at
+        its callee, which answered so."""
         return Answer(self._filled(ctypes.c_uint32(), 'replied', *line_of(line)).value)
 
     def failed(self, number: int) -> Answer:
-        """The node's call of this number failed, and returns. Two events. What the node is told.
+        """The node's call of this number failed, and returns, as two events. Returns the node's answer.
 
         Raises Closed, Full, NoCall. Premise: the callee is Down."""
         return Answer(self._filled(ctypes.c_uint32(), 'failed', number_of('number', number, UINT32_MAX)).value)
 
-    # What the node shows. No event.
+    # The node's state. These are no events.
 
     @property
     def setup(self) -> Setup:
-        """What the group is set up with."""
+        """The setup of the group."""
         return self._setup
 
     @property
     def state(self) -> State:
-        """How the node stands."""
+        """The node's state."""
         return state_of(self._show())
 
     @property
@@ -142,12 +143,12 @@ class Agent(Opened):
 
     @property
     def halter(self) -> int | None:
-        """The node that halted it last, if any."""
+        """The node that halted this one last, if any."""
         return self._show().halter or None
 
     @property
     def up(self) -> tuple[int, ...]:
-        """The lower nodes that answered its halts, rising."""
+        """The lower nodes that answered the node's halts, in rising order."""
         return list_of(self._setup.nodes, self._function('up'))
 
     @property
@@ -167,12 +168,12 @@ class Agent(Opened):
 
     @property
     def number(self) -> int:
-        """The number of the node's last call: a later one has a higher number."""
+        """The number of the node's last call. A later call has a higher number."""
         return int(self._show().number)
 
     @property
     def events(self) -> int:
-        """How many events the node told, with those before it was opened."""
+        """How many events the node has had, including those before it was opened."""
         return int(self._show().events)
 
     @property
@@ -181,13 +182,13 @@ class Agent(Opened):
         return int(self._show().generation)
 
     def rows(self) -> list[str]:
-        """The rows of the node's last step, for the log, of version 3, without their line ends.
+        """The rows of the node's last step for the log, in version 3, without line ends.
 
         Raises Closed, OutOfMemory."""
         return self._room.text(self._function('rows')).splitlines()
 
     def claim(self) -> str:
-        """The row that says all of the node's vector, without its line end. Raises Closed, OutOfMemory."""
+        """The row that claims all of the node's vector, without its line end. Raises Closed, OutOfMemory."""
         return self._room.row(self._function('claim'))
 
     def _show(self) -> ctypes.Structure:

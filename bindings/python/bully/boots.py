@@ -1,7 +1,7 @@
-"""By which clock presences in a file are counted: CLOCK_BOOTTIME of one boot of the machine, in one time namespace.
+"""The clock of leases in a file: CLOCK_BOOTTIME of one boot of the machine, in one time namespace.
 
-A time namespace shifts that clock, while the name of the boot stays. The machine's own namespace shifts nothing, and
-adds nothing to the name, as versions before this one wrote it.
+A time namespace shifts that clock, while the id of the boot stays the same. The machine's own namespace shifts nothing,
+and adds nothing to the name of the clock, as in earlier versions.
 """
 from __future__ import annotations
 
@@ -9,15 +9,15 @@ import os
 from pathlib import Path
 
 from .clocks import SECOND
-from .logs import ForeignLog
+from .shared_log import ForeignLog
 
-OWN_NAMESPACE = 'time:[4026531834]'  # the machine's own, on each kernel that has time namespaces
-BOOTTIME = ('boottime', '7')  # by a kernel, and by Linux 5.6
+OWN_NAMESPACE = 'time:[4026531834]'  # the machine's own, on every kernel that has time namespaces
+BOOTTIME = ('boottime', '7')  # as kernels write it, and as Linux 5.6 does
 
 
 def boot_name() -> str:
-    """Which boot of the machine this is, and behind it which time namespace, by its number and its offset. The
-    presences of an earlier boot are over. Raises ForeignLog."""
+    """The id of this boot of the machine; followed by the time namespace, with its number and its offset, unless that
+    is the machine's own. The leases of an earlier boot have ended. Raises ForeignLog."""
     boot = Path('/proc/sys/kernel/random/boot_id').read_text(encoding='ascii').strip()
     see_one_clock()
     namespace = namespace_of('time')
@@ -25,14 +25,15 @@ def boot_name() -> str:
 
 
 def see_one_clock() -> None:
-    """Raises ForeignLog, if what this process starts, as its guard, counts by another clock than it does itself."""
+    """Raises ForeignLog if the children of this process, as its watchdog, would have another clock than the process
+    itself."""
     if namespace_of('time') != namespace_of('time_for_children'):
-        why = 'a guard of it would count by another clock; start it with unshare --fork'
+        why = 'its watchdog would count by another clock; start it with unshare --fork'
         raise ForeignLog(f'/proc/self/ns: this process is in one time namespace and its children in another, so {why}')
 
 
 def namespace_of(name: str) -> str:
-    """A namespace of this process; nothing, if the kernel has none of the kind."""
+    """The namespace of this kind of this process; empty if the kernel has none of this kind."""
     try:
         return os.readlink(f'/proc/self/ns/{name}')
     except FileNotFoundError:
@@ -40,14 +41,15 @@ def namespace_of(name: str) -> str:
 
 
 def own_offset() -> int:
-    """By how many nanoseconds CLOCK_BOOTTIME is ahead of the machine's own, in the namespace of what this starts."""
+    """By how many nanoseconds CLOCK_BOOTTIME is ahead of the machine's own, in the namespace of this process's
+    children."""
     lines = Path('/proc/self/timens_offsets').read_text(encoding='ascii').splitlines()
     found = next(words for words in map(str.split, lines) if words[0] in BOOTTIME)
     return int(found[1]) * SECOND + int(found[2])
 
 
 def offset_of(name: str) -> int:
-    """The offset in a name; 0 without one."""
+    """The offset in a name; 0 if it has none."""
     last = name.split(' ')[-1]
     return int(last) if ' ' in name and last.lstrip('-').isdecimal() else 0
 
@@ -58,6 +60,6 @@ def machine_boot(name: str) -> str:
 
 
 def moments(now: int, own: str, other: str) -> set[int]:
-    """Which moments it may be by the clock of the other name, if it is this one by the own: by what the name tells; and
-    the same, since a version before this one didn't tell its namespace."""
+    """The possible moments by the clock `other`, if it is `now` by the clock `own`: by the offset in its name, and the
+    same moment, because earlier versions didn't write their namespace."""
     return {now, now - offset_of(own) + offset_of(other)}

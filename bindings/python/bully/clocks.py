@@ -8,7 +8,7 @@ SECOND = 1_000_000_000  # nanoseconds
 
 
 def seconds_of_boot() -> float:
-    """The clock of leases on one machine: seconds since it booted, with those of its sleep."""
+    """The clock of leases on one machine: seconds since it booted, including those during which it slept."""
     return time.clock_gettime(time.CLOCK_BOOTTIME)
 
 
@@ -18,12 +18,13 @@ def nanoseconds_of_boot() -> int:
 
 
 def wall_clock() -> int:
-    """Milliseconds since 1970, as far as the machine knows. Nothing depends on it."""
+    """Milliseconds since 1970, by the machine's wall clock. Nothing depends on it."""
     return time.time_ns() // 1_000_000
 
 
 def sleep_until_ready(seconds: float, *descriptors: int | None) -> list[int]:
-    """Sleeps so long, or until one of these descriptors, as far as there are any, has something to read. Which have."""
+    """Sleeps for so many seconds, or until one of these descriptors can be read; None is skipped. Returns those that
+    can."""
     poll = select.poll()
     for descriptor in descriptors:
         if descriptor is not None:

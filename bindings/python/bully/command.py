@@ -1,4 +1,4 @@
-"""The command `bully-member`: a member of a group for a worker in any language.
+"""Runs your worker, in any language, beside a member: the process that acts for one node of a group.
 
     bully-member init --config group.toml --log sqlite:group.db [--ttl 5] [--epoch 1] [--group-access] [--if-missing]
     bully-member run --node b --log sqlite:group.db [--config group.toml] [--ttl 5] [--listen 8081] -- WORKER ARGS..
@@ -12,21 +12,22 @@
     bully-member pause --log sqlite:group.db
     bully-member resume --log sqlite:group.db
     bully-member prune --keep 3 --log sqlite:group.db
-    bully-member repair --log sqlite:group.db [--cut PLACE]
+    bully-member repair --log sqlite:group.db [--cut OFFSET]
     bully-member completion bash
 
-`run` starts the worker while its node owns partitions, with BULLY_NODE, BULLY_TOKEN, BULLY_PARTITIONS,
-BULLY_COORDINATOR, BULLY_SETTINGS and BULLY_SETTINGS_FILE in its environment, and ends it before anything is appended by
-which the node owns them no more. The settings of the group, names too, stand in its log; a configuration that is given
-has to be of the same group, also if it was resized since. BULLY_LOG of the environment is the log, if no --log is told.
-`resize` gives the group other settings, in a new epoch, and `prune` takes old epochs away. `docs/MEMBERS.md` has all of
-it.
+`init` makes the log of a group, in a file or in etcd. The log keeps the group's settings, including the names of its
+nodes. `run` starts the worker when its node owns partitions, with BULLY_NODE, BULLY_TOKEN, BULLY_PARTITIONS,
+BULLY_COORDINATOR, BULLY_SETTINGS and BULLY_SETTINGS_FILE in the environment of the worker, and stops it before another
+node can own them. `run` finds the settings in the log; if you also give it a configuration, the group must have it,
+have had it, or be requested to have it. `resize` gives the group other settings: a new epoch starts, with a log of its
+own. `prune` removes old epochs. The default of --log is BULLY_LOG of the environment. `docs/MEMBERS.md` explains all
+commands.
 """
 from __future__ import annotations
 
 import signal
 
-if __name__ == '__main__':  # as `bully_member` does: they wait until they are heard
+if __name__ == '__main__':  # as in `bully_member`: signals are held back until the command handles them
     signal.pthread_sigmask(signal.SIG_BLOCK, signal.valid_signals())
 
 import argparse
@@ -44,32 +45,33 @@ from typing import TYPE_CHECKING, TypeVar
 from . import __version__
 from .clocks import seconds_of_boot
 from .completion import completion
-from .configs import settings_in
+from .config_file import settings_in
+from .core import Ending
+from .display import shown_name
 from .epochs import FIRST, LATEST, TTL, Opening
-from .failing import GIVE_UP, Failures
 from .faults import BullyError
-from .guard import ENDS
 from .library import NoLibrary
-from .logs import DamagedLog, ForeignLog, Log, LogError, LogExists, NoLog, OtherLog, Unanswered, found_in
-from .member import Ending
+from .member import Member, NotInGroup, OtherGroup, is_known
 from .messages import FORMATS, LAST_SECONDS, JsonLines, Messages
-from .ordering import drain, has_left, pause, resume, undrain
-from .repairing import damage_of, repair, takes_back
-from .resizing import ASK_AGAIN, NotEnded, Pruning, lead, resize
-from .running import Member, NotInGroup, OtherGroup, is_known
-from .service import Service
-from .settings import ConfigFault, Settings, shown_name
-from .stores import BadWords, EtcdStore, FileStore, add_words, store_of
+from .operations import ASK_AGAIN, NotEnded, drain, has_left, lead, pause, resize, resume, undrain
+from .processes import ENDS
+from .pruning import Pruning
+from .repair import damage_of, repair, takes_back
+from .settings import ConfigFault, Settings
+from .shared_log import DamagedLog, ForeignLog, Log, LogError, LogExists, NoLog, OtherLog, Unanswered, found_in
+from .store_options import BadWords, EtcdStore, FileStore, add_words, store_of
+from .systemd import Service
 from .view import GroupView, LogView
-from .worker import ChildrenUnlisted, GuardLost, WorkerEnded, WorkerStuck, Workers, listed_children
+from .work_failures import GIVE_UP, Failures
+from .worker import ChildrenUnlisted, WatchdogLost, WorkerEnded, WorkerStuck, Workers, listed_children
 
 if TYPE_CHECKING:
     from .page import Page
 
 OK, FAILED, BAD_WORDS, BAD_INPUT, NO_STORE, NO_NODE, NO_RETRY, EXISTS = range(8)
-UNWRITTEN = (errno.ENOSPC, errno.EDQUOT, errno.EFBIG, errno.EIO)  # of what is written
-NOBODY_READS = 128 + signal.SIGPIPE  # as a shell tells of a program that ended by that
-LOOK = 1.0  # seconds for which it is looked who isn't idle, if somebody isn't
+UNWRITTEN = (errno.ENOSPC, errno.EDQUOT, errno.EFBIG, errno.EIO)  # errors of a write
+NOBODY_READS = 128 + signal.SIGPIPE  # as a shell reports a program that ended by that signal
+SNAPSHOT = 1.0  # seconds for which `status` reads on, if a node isn't idle
 
 SHELLS = ('bash', 'zsh', 'fish')
 
@@ -78,77 +80,84 @@ _logger = logging.getLogger('bully')
 
 
 class CantListen(Exception):
-    """The address that the group is to be told at can't be had."""
+    """The address of --listen can't be used."""
 
 
 def parser() -> argparse.ArgumentParser:
-    """The words that the command takes."""
+    """The parser of the command's options."""
     as_it_is = argparse.RawDescriptionHelpFormatter
     words = argparse.ArgumentParser('bully-member', description=__doc__, formatter_class=as_it_is, allow_abbrev=False)
     words.add_argument('--version', action='version', version=f'bully-member {__version__}')
     commands = words.add_subparsers(dest='command', required=True, metavar='COMMAND')
-    of = {name: commands.add_parser(name, help=about, allow_abbrev=False) for name, (_, about) in COMMANDS.items()}
+    of: dict[str, argparse.ArgumentParser] = {}
+    for name, (_, about) in COMMANDS.items():  # the help of a command starts with what it does
+        of[name] = commands.add_parser(name, help=about, description=f'{about.capitalize()}.', allow_abbrev=False)
     of['completion'].add_argument('shell', choices=SHELLS, metavar='SHELL', help=', '.join(SHELLS))
     for name in of.keys() - {'completion'}:
         add_words(of[name])
     add_words_of_init(of['init'])
     add_words_of_run(of['run'])
     for name in ('resize', 'switchover'):
-        add_seconds(of[name], '--seconds', 'how long to wait until the new epoch has begun', 60.0)
+        add_seconds(of[name], '--seconds', 'how long to wait until the new epoch has started', 60.0)
     leads = of['switchover'].add_mutually_exclusive_group(required=True)
-    leads.add_argument('node', metavar='NODE', nargs='?', help='which node is to lead')
-    leads.add_argument('--node', metavar='NODE', dest='named', help=argparse.SUPPRESS)  # as it was before
+    leads.add_argument('node', metavar='NODE', nargs='?', help='the name of the new coordinator')
+    leads.add_argument('--node', metavar='NODE', dest='named', help=argparse.SUPPRESS)  # of an earlier version
     of['status'].add_argument('--json', action='store_true', help='write JSON, for programs')
-    add_count(of['history'], '--epoch', 'NUMBER', 'which one (default: the current one)')
-    times = 'write TIME,ROW, so no trace, with the time of UTC at which a row was appended'
+    add_count(of['history'], '--epoch', 'NUMBER', 'the epoch (default: the current one)')
+    times = 'write TIME,ROW instead of a trace, with the UTC time of the append'
     of['history'].add_argument('--times', action='store_true', help=times)
     wanted = of['resize'].add_mutually_exclusive_group(required=True)
-    wanted.add_argument('--config', metavar='FILE', help='the configuration that the group is to have')
-    wanted.add_argument('--cancel', action='store_true', help='nothing is wished for any more')
-    all_new = 'also if no member that is there is in it, so that all end'
+    wanted.add_argument('--config', metavar='FILE', help='the new configuration of the group')
+    wanted.add_argument('--cancel', action='store_true', help='take back the requested settings')
+    all_new = 'allow a configuration that keeps no current member; all of them stop'
     of['resize'].add_argument('--all-new', action='store_true', help=all_new)
-    keep = 'how many epochs stay, the current one too'
+    keep = 'how many epochs to keep, including the current one'
     of['prune'].add_argument('--keep', type=count, required=True, metavar='COUNT', help=keep)
-    cut = 'cut what is told to be damaged from this place on; all members have to have ended'
-    of['repair'].add_argument('--cut', type=int, metavar='PLACE', help=cut)
+    cut = 'cut the damaged rows from this offset on; all members must have stopped'
+    of['repair'].add_argument('--cut', type=int, metavar='OFFSET', help=cut)
     for name in ('drain', 'undrain'):
         of[name].add_argument('node', metavar='NODE', help='the name of the node')
-    add_seconds(of['drain'], '--seconds', 'how long to wait until it has left', 60.0)
-    of['drain'].add_argument('--all', action='store_true', help='also if nobody would work then')
+    add_seconds(of['drain'], '--seconds', 'how long to wait until the node has left', 60.0)
+    of['drain'].add_argument('--all', action='store_true', help='drain it even if no node would work then')
     return words
 
 
 def add_words_of_init(init: argparse.ArgumentParser) -> None:
-    """The command takes the words of a new log."""
+    """Adds the options of a new log."""
     init.add_argument('--config', required=True, metavar='FILE', help='the configuration of the group')
-    about = 'how long a node stays present without a renewal, in all members (default: each member has its own)'
+    about = 'how long a lease lasts without a renewal, for all members (default: each member has its own)'
     add_seconds(init, '--ttl', about)
-    add_count(init, '--epoch', 'NUMBER', 'with which it begins: behind those of a log before it', FIRST)
-    group = 'the group of its folder may use the file, too, and not its owner alone'
+    epoch = 'the number of the first epoch: higher than all epochs of an earlier log, if there was one'
+    add_count(init, '--epoch', 'NUMBER', epoch, FIRST)
+    group = 'let the group of the folder use the file, too'
     init.add_argument('--group-access', action='store_true', help=group)
-    there = 'do nothing, if the log of this group is there already'
+    there = 'do nothing if the log of this group is already there'
     init.add_argument('--if-missing', action='store_true', help=there)
 
 
 def add_words_of_run(run: argparse.ArgumentParser) -> None:
-    """The command takes the words of a member."""
-    run.add_argument('--node', required=True, metavar='NODE', help='the name of its node')
-    run.add_argument('--config', metavar='FILE', help='a configuration that the group has to have, or to have had')
-    about = f'how long its node stays present without a renewal (default: that of the log, or else {TTL:g})'
+    """Adds the options of a member."""
+    run.add_argument('--node', required=True, metavar='NODE', help='the name of the node')
+    config = 'a configuration: the group must have it, have had it, or be requested to have it'
+    run.add_argument('--config', metavar='FILE', help=config)
+    about = f'how long the lease lasts without a renewal (default: that of the log, or else {TTL:g})'
     add_seconds(run, '--ttl', about)
-    add_seconds(run, '--stop-seconds', 'from SIGTERM to SIGKILL of the worker', 10.0)
-    run.add_argument('--talk', action='store_true', help='the worker stays over changes, and is told of them by lines')
-    run.add_argument('--listen', metavar='HOST:PORT', help='tell the group over HTTP')
-    more = 'by which host it may be asked, too: a name, an address, or * for each'
+    add_seconds(run, '--stop-seconds', 'the time from SIGTERM to SIGKILL of the worker', 10.0)
+    talk = 'keep the worker running during changes, and report them to it as lines of JSON'
+    run.add_argument('--talk', action='store_true', help=talk)
+    run.add_argument('--listen', metavar='HOST:PORT', help='serve a page, probes and metrics over HTTP')
+    more = 'answer requests by this host, too: a name, an address, or * for any'
     run.add_argument('--allow-host', action='append', default=[], metavar='NAME', help=more)
-    run.add_argument('--quiet', action='store_true', help='say only what goes wrong')
-    run.add_argument('--log-format', choices=FORMATS, default='text', help='of what is said on standard error (default: text)')
-    add_count(run, '--keep', 'COUNT', 'how many epochs stay: whoever has partition 0 takes older ones away (default: all)')
-    give_up = 'behind so many failures of its worker in a row it lets others work, if any can; 0: never'
+    run.add_argument('--quiet', action='store_true', help='write only warnings and errors')
+    form = 'the format of messages on standard error (default: text)'
+    run.add_argument('--log-format', choices=FORMATS, default='text', help=form)
+    kept = 'how many epochs to keep: the owner of partition 0 removes older ones (default: all)'
+    add_count(run, '--keep', 'COUNT', kept)
+    give_up = 'give up the partitions after so many failures of the worker in a row, if another node works; 0: never'
     run.add_argument(
         '--give-up', type=count_or_none, default=GIVE_UP, metavar='COUNT', help=f'{give_up} (default: {GIVE_UP})'
     )
-    run.add_argument('worker', nargs='+', metavar='WORKER ARGS', help='the command of the worker, behind --')
+    run.add_argument('worker', nargs='+', metavar='WORKER ARGS', help='the command of the worker, after --')
 
 
 def add_seconds(command: argparse.ArgumentParser, word: str, about: str, default: float | None = None) -> None:
@@ -162,10 +171,10 @@ def add_count(command: argparse.ArgumentParser, word: str, kind: str, about: str
 
 
 def seconds(word: str) -> float:
-    """A number of seconds, from a hundredth up to a day."""
+    """A number of seconds, from a hundredth to a day."""
     number = float(word)
     if not 0.01 <= number <= 86_400:
-        raise argparse.ArgumentTypeError('it has to be from 0.01 to 86400')
+        raise argparse.ArgumentTypeError('it must be from 0.01 to 86400')
     return number
 
 
@@ -173,7 +182,7 @@ def count(word: str) -> int:
     """A number from 1 on."""
     number = int(word)
     if number < 1:
-        raise argparse.ArgumentTypeError('it has to be 1 or more')
+        raise argparse.ArgumentTypeError('it must be 1 or more')
     return number
 
 
@@ -186,7 +195,7 @@ def count_or_none(word: str) -> int:
 
 
 def init_command(options: argparse.Namespace) -> int:
-    """Makes the log; or sees that it is there, if that is enough."""
+    """Makes the log; or with --if-missing does nothing if there already is one, which must fit the options."""
     settings = settings_in(options.config)
     if options.epoch > LATEST:
         raise BadWords(f'--epoch is {options.epoch}, and may be {LATEST} at most')
@@ -196,15 +205,15 @@ def init_command(options: argparse.Namespace) -> int:
     opening = Opening.first(settings.setup.header(), settings.names, epoch=options.epoch, ttl=options.ttl)
     try:
         store.create(opening).close()
-    except LogExists:  # also if somebody else has just made it
+    except LogExists:  # maybe somebody else has just made it
         if not options.if_missing or not is_there(store, settings, options):
             raise
     return OK
 
 
 def is_there(store: FileStore | EtcdStore, settings: Settings, options: argparse.Namespace) -> bool:
-    """Whether the log is there, of the group with these settings, as for `run`. Raises OtherGroup, if it is another
-    one's, or begins before the epoch that is told; BadWords, if it has another ttl."""
+    """Whether the log is there. Raises OtherGroup if its group has never had these settings, nor a request for them,
+    or its epoch is earlier than --epoch; BadWords if it has another ttl."""
     try:
         log = store.open(reads=True)
     except NoLog:
@@ -213,9 +222,9 @@ def is_there(store: FileStore | EtcdStore, settings: Settings, options: argparse
         opening = log.opening()
         if not is_known(log, settings):
             has = f'{opening.header} of {", ".join(opening.names)}'
-            raise OtherGroup(f'the log is there already, and its group has never had {options.config}, but {has}')
+            raise OtherGroup(f'the log already exists; its group has {has}, and has never had {options.config}')
         if opening.epoch < options.epoch:
-            raise OtherGroup(f'the log is there already, in epoch {opening.epoch}, and not in {options.epoch} or later')
+            raise OtherGroup(f'the log already exists, in epoch {opening.epoch}, and not in {options.epoch} or later')
         see_ttl(opening.ttl, options.ttl)
     return True
 
@@ -232,12 +241,12 @@ def resize_command(options: argparse.Namespace) -> int:
     with contextlib.closing(store_of(options).open()) as log:
         if settings is None:
             return cancel(log)
-        # (another command that changes the group is present as a stranger to it, as is one that was killed, for its ttl)
+        # (another such command may hold a lease as an unknown process, also one that was killed, up to its ttl)
         of_group = log.opening().names
-        present = [name for name in found_in(log).lives if name in of_group]
-        if present and not set(present) & set(settings.names) and not options.all_new:
-            names = ', '.join(present)
-            why = f'none of those present ({names}) is in it, so all would end; --all-new takes it'
+        live = [name for name in found_in(log).sessions if name in of_group]
+        if live and not set(live) & set(settings.names) and not options.all_new:
+            names = ', '.join(live)
+            why = f'it has none of the nodes that are live ({names}), so all would end; --all-new allows it'
             raise ConfigFault(f'{options.config}: {why}')
         opening = resize(log, settings, options.seconds)
     print(f'epoch {opening.epoch}: {settings.setup.nodes} nodes, {settings.setup.partitions} partitions')
@@ -245,15 +254,15 @@ def resize_command(options: argparse.Namespace) -> int:
 
 
 def cancel(log: Log) -> int:
-    """Nothing is wished for any more."""
+    """Takes back the requested settings."""
     epoch = log.epochs()[-1]
     log.cancel(epoch)
-    print(f'epoch {epoch}: nothing else is wished for')
+    print(f'epoch {epoch}: no other settings are requested')
     return OK
 
 
 def switchover_command(options: argparse.Namespace) -> int:
-    """Has another node lead."""
+    """Makes another node the coordinator."""
     node = options.node or options.named
     with contextlib.closing(store_of(options).open()) as log:
         opening = lead(log, node, options.seconds)
@@ -264,8 +273,8 @@ def switchover_command(options: argparse.Namespace) -> int:
 def drain_command(options: argparse.Namespace) -> int:
     """Drains a node, and waits until it has left."""
     with contextlib.closing(store_of(options).open()) as log:
-        orders, name = drain(log, options.node, options.all), shown_name(options.node)
-        if orders.is_paused:
+        maintenance, name = drain(log, options.node, options.all), shown_name(options.node)
+        if maintenance.is_paused:
             print(f'{name} is drained, and leaves once the group is not paused any more')
         elif not has_left(log, options.node, options.seconds):
             print(f'bully-member: {name} is drained, and has not left yet', file=sys.stderr)
@@ -275,88 +284,88 @@ def drain_command(options: argparse.Namespace) -> int:
     return OK
 
 
-def order_command(options: argparse.Namespace) -> int:
-    """Has a drained node take part again, or the group pause or go on."""
+def maintenance_command(options: argparse.Namespace) -> int:
+    """Ends the drain of a node, or pauses or resumes the group."""
     with contextlib.closing(store_of(options).open()) as log:
         if options.command == 'undrain':
             undrain(log, options.node)
             print(f'{shown_name(options.node)} is not drained')
         else:
-            orders = pause(log) if options.command == 'pause' else resume(log)
-            print(f'the group is {"paused" if orders.is_paused else "not paused"}')
+            maintenance = pause(log) if options.command == 'pause' else resume(log)
+            print(f'the group is {"paused" if maintenance.is_paused else "not paused"}')
     return OK
 
 
 def prune_command(options: argparse.Namespace) -> int:
-    """Takes old epochs away."""
+    """Removes old epochs."""
     with contextlib.closing(store_of(options).open()) as log:
         log.prune(log.epochs()[-1] + 1 - options.keep)
         there = log.epochs()
-    print(f'epochs {there[0]} to {there[-1]} are there' if len(there) > 1 else f'epoch {there[0]} is there')
+    print(f'epochs {there[0]} to {there[-1]} are left' if len(there) > 1 else f'epoch {there[0]} is left')
     return OK
 
 
 def repair_command(options: argparse.Namespace) -> int:
-    """Tells what of a log is damaged, with the rows that are to be cut; and cuts it, if it is told to."""
+    """Prints what is damaged in a log, and the rows to cut. Cuts them if --cut is their offset."""
     with contextlib.closing(store_of(options).open()) as log:
         damage, epoch = damage_of(log), log.epochs()[-1]
         if damage is None and takes_back(log):
-            print(f'epoch {epoch}: what was wished for or ordered could not be read, and is taken back')
+            print(f'epoch {epoch}: the requested settings or the maintenance could not be read; both are taken back')
         elif damage is None:
             print(f'epoch {epoch}: nothing is damaged')
         else:
             print(damage.told, *map(repr, damage.rows), sep='\n')
-            if options.cut != damage.place or not repair(log, damage):
-                how = f'--cut {damage.place} cuts that, once all members have ended'
-                why = 'somebody is present' if options.cut == damage.place else how
+            if options.cut != damage.offset or not repair(log, damage):
+                how = f'--cut {damage.offset} cuts these rows, once all members have ended'
+                why = 'somebody holds a lease' if options.cut == damage.offset else how
                 print(f'bully-member: nothing is cut: {why}', file=sys.stderr)
                 return FAILED
     return OK
 
 
 def status_command(options: argparse.Namespace) -> int:
-    """Tells how the group stands, and by its status whether it is well."""
+    """Prints the state of the group. The exit status says whether the group is well."""
     store = store_of(options)
     warn_of_readers(store)
     with contextlib.closing(LogView(store.open(reads=True))) as view:
-        end, shown = seconds_of_boot() + LOOK, view.show()
+        end, shown = seconds_of_boot() + SNAPSHOT, view.show()
         while shown.behind and seconds_of_boot() < end:
-            time.sleep(LOOK / 10)
+            time.sleep(SNAPSHOT / 10)
             shown = view.show()
     print(json.dumps(shown.document(), ensure_ascii=False) if options.json else text_of(shown))
     return OK if shown.is_well else FAILED
 
 
 def text_of(group: GroupView) -> str:
-    """The group, for people."""
+    """The group as text for people."""
     about = f'epoch {group.epoch}, events {group.events}, token {group.token or "-"}'
-    rows = [('node', 'status', 'present', 'coordinator', 'partitions')]
+    rows = [('node', 'status', 'live', 'coordinator', 'partitions')]
     for node in group.nodes:
         name, coordinator = shown_name(node.name), shown_name(node.coordinator)
         partitions = ' '.join(map(str, node.partitions)) or '-'
-        rows.append((name, str(node.status), node.told_present, coordinator, partitions))
+        rows.append((name, str(node.status), node.told_live, coordinator, partitions))
     widths = [max(map(len, column)) for column in zip(*rows)]
     table = ['  '.join(word.ljust(width) for word, width in zip(row, widths)).rstrip() for row in rows]
     return '\n'.join([f'{about}, coordinator {shown_name(group.coordinator)}{group.told_more}', *table])
 
 
 def address_of(words: str) -> tuple[str, int]:
-    """Where to listen: on this machine alone, if there is a port alone."""
+    """The address to listen on: if the words are only a port, on the loopback."""
     host, colon, port = words.rpartition(':')
     if not port.isdecimal() or int(port) > 65_535:
-        raise BadWords(f'--listen is {words}, and has to be HOST:PORT')
+        raise BadWords(f'--listen is {words}, and must be HOST:PORT')
     return host.strip('[]') or '127.0.0.1', int(port)
 
 
 def page_of(options: argparse.Namespace) -> Page | None:
-    """The page of the member, if it is to have one."""
+    """The page of the member, if --listen asks for one."""
     if not options.listen:
         if options.allow_host:
-            raise BadWords('--allow-host goes with --listen')
+            raise BadWords('--allow-host needs --listen')
         return None
     address = address_of(options.listen)
     from .hosts import read_allowed
-    from .page import Page  # which takes much memory
+    from .page import Page  # it takes much memory
 
     try:
         allowed = [read_allowed(word) for word in options.allow_host]
@@ -369,7 +378,7 @@ def page_of(options: argparse.Namespace) -> Page | None:
 
 
 def ask_until_answered(ask: Callable[[], _Answer]) -> _Answer:
-    """What a log answers that may be busy: it is asked again until it does."""
+    """The answer of a log that may be busy: it is asked again until it answers."""
     while True:
         try:
             return ask()
@@ -379,7 +388,7 @@ def ask_until_answered(ask: Callable[[], _Answer]) -> _Answer:
 
 
 def ttl_of(store: FileStore | EtcdStore, word: float | None) -> float:
-    """The ttl of all members: that of the log, if it has one. Else each is told its own."""
+    """The ttl of all members: that of the log, if it has one. Otherwise each member has its own."""
     with contextlib.closing(store.open(reads=True)) as log:
         kept = log.opening().ttl
     see_ttl(kept, word)
@@ -387,20 +396,20 @@ def ttl_of(store: FileStore | EtcdStore, word: float | None) -> float:
 
 
 def see_ttl(kept: float | None, word: float | None) -> None:
-    """Raises BadWords, if the log has another ttl than the one that is told."""
+    """Raises BadWords if the log has another ttl than --ttl."""
     if kept and word and kept != word:
         raise BadWords(f'--ttl is {word:g}, and the log has {kept:g} for all members')
 
 
 def warn_of_readers(store: FileStore | EtcdStore) -> None:
-    """Says who else may read a file: what is there stays as it is."""
+    """Warns if other users may read the file: an existing file keeps its mode, which may allow that."""
     if store.told_readers:
         _logger.warning('%s', store.told_readers)
 
 
 def at_signals(call: Callable[[], object]) -> list[str]:
-    """What is done, if this process is told to end, also by a signal that has waited. By which it was is in the list
-    then. SIGHUP stays ignored, if it is, as by nohup."""
+    """Calls this when a signal tells the process to end, also one that was held back until now. Returns a list, to
+    which the name of such a signal is added. SIGHUP stays ignored if it is, as by nohup."""
     heard: list[str] = []
 
     def hear(number: int, _: object) -> None:
@@ -415,13 +424,13 @@ def at_signals(call: Callable[[], object]) -> list[str]:
 
 
 def let_signals_by() -> None:
-    """None waits any more."""
+    """Signals aren't held back any more."""
     signal.pthread_sigmask(signal.SIG_UNBLOCK, signal.valid_signals())
 
 
 def run_command(options: argparse.Namespace) -> int:
     """Takes part with a worker, until a signal tells it to leave."""
-    at_signals(lambda: sys.exit(OK))  # it doesn't take part yet
+    at_signals(lambda: sys.exit(OK))  # until it takes part
     listed_children()
     settings, store = settings_in(options.config) if options.config else None, store_of(options)
     if settings is not None and options.node not in settings.names:
@@ -430,7 +439,7 @@ def run_command(options: argparse.Namespace) -> int:
         messages = closing.enter_context(contextlib.closing(Messages(FORMATS[options.log_format]())))
         logging.basicConfig(level=logging.WARNING if options.quiet else logging.INFO, handlers=[messages])
         warn_of_readers(store)
-        page = page_of(options)  # which answers before the store does
+        page = page_of(options)  # it answers before the store does
         if page is not None:
             closing.callback(page.close)
         ttl = ask_until_answered(lambda: ttl_of(store, options.ttl))
@@ -440,7 +449,7 @@ def run_command(options: argparse.Namespace) -> int:
         workers = Workers(options.worker, options.node, options.stop_seconds, options.talk, failures)
         works, sure = (workers.start, workers.stop), workers.hear_until
         member = ask_until_answered(lambda: Member(log, options.node, *works, ttl, settings, sure, failures))
-        service = Service(member, workers)  # before anything begins that would take its environment
+        service = Service(member, workers)  # before any process starts that would inherit the environment
         workers.begin(member, store.path if isinstance(store, FileStore) else '')
         closing.callback(workers.close)
         if page is not None:
@@ -456,7 +465,7 @@ def run_command(options: argparse.Namespace) -> int:
 
 
 def take_part(member: Member, name: str) -> None:
-    """It takes part until it has left. Raises NotInGroup, and what `Member.run` raises."""
+    """Takes part until the member has left. Raises NotInGroup, and what `Member.run` raises."""
     heard = at_signals(member.leave)
     with member:
         member.run()
@@ -467,52 +476,52 @@ def take_part(member: Member, name: str) -> None:
 
 
 def completion_command(options: argparse.Namespace) -> int:
-    """Writes what a shell completes the words of this command by."""
+    """Writes the completion for a shell."""
     sys.stdout.write(completion(options.shell, parser()))
     return OK
 
 
 COMMANDS: dict[str, tuple[Callable[[argparse.Namespace], int], str]] = {
     'init': (init_command, 'make the log of a group'),
-    'run': (run_command, 'take part for a node, and run a worker'),
-    'status': (status_command, 'tell how the group stands'),
+    'run': (run_command, 'run a worker while its node owns partitions'),
+    'status': (status_command, 'show the state of the group'),
     'history': (history_command, 'write the log of an epoch as a trace'),
     'resize': (resize_command, 'give the group other settings, in a new epoch'),
-    'switchover': (switchover_command, 'have another node lead, in a new epoch'),
-    'drain': (drain_command, 'have a node take no part, up to undrain, also if its process begins again'),
-    'undrain': (order_command, 'have it take part again, also if it gave up since its worker fails'),
-    'pause': (order_command, 'have nobody settle the group: who works goes on, up to resume'),
-    'resume': (order_command, 'end a pause'),
-    'prune': (prune_command, 'take old epochs away'),
-    'repair': (repair_command, 'tell what of a log is damaged, and cut it'),
-    'completion': (completion_command, 'write what a shell completes these words by'),
+    'switchover': (switchover_command, 'make another node the coordinator, in a new epoch'),
+    'drain': (drain_command, 'take a node out of service until undrain, even if its process restarts'),
+    'undrain': (maintenance_command, 'take a node back into service, also one that gave up because its worker fails'),
+    'pause': (maintenance_command, 'stop rebalancing the group until resume; members that work continue'),
+    'resume': (maintenance_command, 'end a pause'),
+    'prune': (prune_command, 'remove old epochs'),
+    'repair': (repair_command, 'show what is damaged in a log, and cut it with --cut'),
+    'completion': (completion_command, 'write a script by which a shell completes these commands'),
 }
 
-# What ends a command, and its status.
+# The exceptions that end a command, and their exit statuses.
 STATUSES: tuple[tuple[type[Exception], int], ...] = (
     (BadWords, BAD_WORDS), (ConfigFault, BAD_INPUT), (OtherGroup, BAD_INPUT), (NotInGroup, NO_NODE),
     (BullyError, BAD_INPUT), (DamagedLog, BAD_INPUT), (OtherLog, BAD_INPUT), (ForeignLog, NO_RETRY),
     (LogExists, EXISTS), (LogError, NO_STORE), (NoLibrary, NO_RETRY), (CantListen, NO_RETRY), (OSError, NO_STORE),
-    (WorkerEnded, FAILED), (GuardLost, FAILED), (WorkerStuck, FAILED), (NotEnded, FAILED),
+    (WorkerEnded, FAILED), (WatchdogLost, FAILED), (WorkerStuck, FAILED), (NotEnded, FAILED),
     (ChildrenUnlisted, NO_RETRY),
 )  # fmt: skip
 
 
 def main(words: list[str] | None = None) -> int:
-    """Runs the command by these words. Its status: 0; 1, if the worker or its guard ended by itself, the worker or the
-    epoch didn't end, or the group isn't well; 2 of bad words; 3 of a bad configuration, or a log that is another
-    group's, or damaged; 4, if the log or a file can't be used now; 5, if the group has no such node; 6, if no further
-    try helps: the log has another form, the address to listen at can't be had, the library isn't there, or the kernel
-    lists no children; 7, if there is a log already; 141, if nobody reads what it writes."""
+    """Runs the command with these words. Returns its exit status: 0; 1 if the worker or its watchdog ended by itself,
+    the worker or the epoch didn't end, or the group isn't well; 2 for bad options; 3 for a bad configuration, or a log
+    that belongs to another group, or is damaged; 4 if the log or a file can't be used now; 5 if the group has no such
+    node; 6 if no further try helps: the log has another form, the address to listen on can't be used, the library isn't
+    there, or the kernel doesn't list children; 7 if there already is a log; 141 if nobody reads its output."""
     drop_what_is_closed()
     options = read_words(words)
-    if options.command != 'run':  # which hears them itself
+    if options.command != 'run':  # it handles signals itself
         let_signals_by()
     try:
         status = COMMANDS[options.command][0](options)
         sys.stdout.flush()
         return status
-    except BrokenPipeError:  # of standard output: a store tells it as its own
+    except BrokenPipeError:  # of standard output: a store raises its own error
         drop_output()
         return NOBODY_READS
     except Exception as fault:
@@ -528,7 +537,8 @@ def main(words: list[str] | None = None) -> int:
 
 
 def read_words(words: list[str] | None) -> argparse.Namespace:
-    """The words of the command. What it doesn't take isn't repeated but for options, since it may be a password."""
+    """The options of the command. An unknown word isn't repeated unless it is an option, because it may be a
+    password."""
     taker = parser()
     options, others = taker.parse_known_args(words)
     if others:
@@ -538,20 +548,21 @@ def read_words(words: list[str] | None) -> argparse.Namespace:
 
 
 def said_of(fault: Exception) -> str:
-    """What a fault says. One of a file names that first, or standard output, which has no name; a store tells its own."""
+    """The text of an exception. For an error of a file it starts with the file's name, or with `standard output`, which
+    has no name. (A store raises errors of its own.)"""
     if isinstance(fault, OSError) and (fault.filename is not None or fault.errno in UNWRITTEN):
         return f'{fault.filename or "standard output"}: {fault.strerror}'
     return str(fault)
 
 
 def drop_what_is_closed() -> None:
-    """What goes to a stream that was closed before this process began is dropped: Python has none then."""
+    """Drops output to a stream that was closed before this process started: Python has no such stream then."""
     sys.stdout = sys.stdout or open(os.devnull, 'w', encoding='utf-8')
     sys.stderr = sys.stderr or open(os.devnull, 'w', encoding='utf-8')
 
 
 def drop_output() -> None:
-    """What is left for standard output is dropped, if there is some that it doesn't take, so that no more is said of it."""
+    """Drops output that standard output doesn't take, so that its flush at the end raises no further error."""
     try:
         sys.stdout.flush()
     except OSError:
@@ -559,7 +570,7 @@ def drop_output() -> None:
 
 
 def say_last(text: str, status: int) -> None:
-    """Says it on standard error. If nobody reads there, the process ends with this status at once."""
+    """Writes this on standard error. If nobody reads there, the process ends at once with this status."""
     saying = threading.Thread(target=print, args=[text], kwargs={'file': sys.stderr}, daemon=True)
     saying.start()
     saying.join(LAST_SECONDS)

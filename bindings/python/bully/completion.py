@@ -1,35 +1,35 @@
-"""What bash, zsh and fish complete the words of `bully-member` by, made of the parser that takes these words."""
+"""Completion of the words of `bully-member` in bash, zsh and fish, made from the parser of these words."""
 from __future__ import annotations
 
 import argparse
 from collections.abc import Iterable, Iterator
 
 PROGRAM = 'bully-member'
-OF_WORKER = 'worker'  # the words of another command, behind `--`
+OF_WORKER = 'worker'  # the words of another command, after `--`
 
 
 def completion(shell: str, parser: argparse.ArgumentParser) -> str:
-    """The text for this shell."""
+    """The script for this shell."""
     return {'bash': for_bash, 'zsh': for_zsh, 'fish': for_fish}[shell](commands_of(parser))
 
 
-Commands = dict[str, tuple[str, argparse.ArgumentParser]]  # what each is about, and its parser
+Commands = dict[str, tuple[str, argparse.ArgumentParser]]  # the help and the parser of each
 
 
 def commands_of(parser: argparse.ArgumentParser) -> Commands:
-    """The commands that this parser takes."""
+    """The commands of this parser."""
     [kind] = [each for each in parser._actions if isinstance(each, argparse._SubParsersAction)]
     about = {each.dest: each.help or '' for each in kind._choices_actions}
     return {name: (about[name], command) for name, command in kind.choices.items()}
 
 
 def options_of(command: argparse.ArgumentParser) -> list[argparse.Action]:
-    """Its options that help tells of."""
+    """The options of a command that its help shows."""
     return [each for each in command._actions if each.option_strings and each.help != argparse.SUPPRESS]
 
 
 def places_of(command: argparse.ArgumentParser) -> list[argparse.Action]:
-    """Its words that are no options."""
+    """The words of a command that aren't options."""
     return [each for each in command._actions if not each.option_strings]
 
 
@@ -50,7 +50,7 @@ def choices_of(action: argparse.Action) -> list[str]:
 
 
 def told(action: argparse.Action) -> str:
-    """What help says of it, in one line without quotes."""
+    """The help of an option, on one line and without quotes."""
     text = (action.help or '') % {'default': action.default, 'prog': PROGRAM}
     return text.replace("'", '').replace('"', '')
 
@@ -62,7 +62,7 @@ def for_bash(commands: Commands) -> str:
     names = ' '.join(commands)
     cases = ''.join(bash_case(name, command) for name, (_, command) in commands.items())
     return f"""\
-# What bash completes the words of {PROGRAM} by: {PROGRAM} completion bash > FILE, and then source FILE.
+# Completion of {PROGRAM} in bash: {PROGRAM} completion bash > FILE, and then source FILE.
 _bully_member() {{
     local word=${{COMP_WORDS[COMP_CWORD]}} before=${{COMP_WORDS[COMP_CWORD - 1]}} words='--help' paths= values= more=
     case ${{COMP_WORDS[1]}} in
@@ -86,7 +86,7 @@ complete -F _bully_member {PROGRAM}
 
 
 def bash_case(name: str, command: argparse.ArgumentParser) -> str:
-    """What stands in the case of a command: its words, those before a path, and those before another value."""
+    """The case of a command: its words, those that take a path, and those that take another value."""
     options = options_of(command)
     words = [*map(word_of, options), *(choice for place in places_of(command) for choice in choices_of(place))]
     paths = [word_of(each) for each in options if is_file(each)]
@@ -105,10 +105,12 @@ def bash_case(name: str, command: argparse.ArgumentParser) -> str:
 
 def for_zsh(commands: Commands) -> str:
     named = ''.join(f"        '{name}:{about}'\n" for name, (about, _) in commands.items())
-    cases = ''.join(f'        {name}) _arguments {" ".join(zsh_words(each))} ;;\n' for name, (_, each) in commands.items())
+    cases = ''.join(
+        f'        {name}) _arguments {" ".join(zsh_words(each))} ;;\n' for name, (_, each) in commands.items()
+    )
     return f"""\
 #compdef {PROGRAM}
-# What zsh completes the words of {PROGRAM} by: a file _{PROGRAM} in a folder of fpath.
+# Completion of {PROGRAM} in zsh: put it into a file _{PROGRAM} in a folder of fpath.
 _bully_member() {{
     local -a commands
     commands=(
@@ -132,7 +134,7 @@ fi
 
 
 def zsh_words(command: argparse.ArgumentParser) -> Iterator[str]:
-    """The specifications of `_arguments`."""
+    """The specifications for `_arguments`."""
     for option in options_of(command):
         about = told(option).replace('[', '(').replace(']', ')').replace(':', '\\:')
         yield f"'{word_of(option)}[{about}]{zsh_value(option) if takes_value(option) else ''}'"
@@ -153,16 +155,17 @@ def zsh_value(action: argparse.Action) -> str:
 
 def for_fish(commands: Commands) -> str:
     first = f'complete -c {PROGRAM} -n __fish_use_subcommand'
-    lines = [f'complete -c {PROGRAM} -f', f"{first} -l help -d 'show help'", f"{first} -l version -d 'show the version'"]
+    about_all = f"{first} -l help -d 'show help'", f"{first} -l version -d 'show the version'"
+    lines = [f'complete -c {PROGRAM} -f', *about_all]
     for name, (about, command) in commands.items():
         lines.append(f"{first} -a {name} -d '{about}'")
         lines += fish_lines(f"complete -c {PROGRAM} -n '__fish_seen_subcommand_from {name}'", command)
-    head = f'# What fish completes the words of {PROGRAM} by: ~/.config/fish/completions/{PROGRAM}.fish.'
+    head = f'# Completion of {PROGRAM} in fish: put it into ~/.config/fish/completions/{PROGRAM}.fish.'
     return '\n'.join([head, *lines, ''])
 
 
 def fish_lines(begin: str, command: argparse.ArgumentParser) -> Iterable[str]:
-    """The lines of a command, each of which begins so."""
+    """The lines of a command, each of which starts with these words."""
     for option in options_of(command):
         value = ' -F -r' if is_file(option) else ' -x' if takes_value(option) else ''
         chosen = f" -a '{' '.join(choices_of(option))}'" if option.choices else ''

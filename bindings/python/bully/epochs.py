@@ -1,7 +1,7 @@
 """Epochs: a log has room for 1,000,000 rows, so a group's history is one log after the other.
 
-Each epoch has a log of its own, behind the header that it began with. `docs/MEMBERS.md` says when an epoch ends. Tokens
-rise over all of them.
+Each epoch has a log of its own, and starts with an opening. `docs/MEMBERS.md` says when an epoch ends. Tokens rise over
+all epochs.
 """
 from __future__ import annotations
 
@@ -14,15 +14,15 @@ from .group import setup_of
 from .settings import Settings
 from .values import EVENTS_MAX
 
-FIRST, LATEST = 1, 4_000_000_000  # of the epochs with which a log may begin
-SETTLEMENT = 11  # rows for each node: what settles a group has no more
-TTL = 5.0  # seconds, if neither the log nor a member has another one
-LEAST = 2 * SETTLEMENT  # rows for each node that an epoch has room for at least: two settlements
+FIRST, LATEST = 1, 4_000_000_000  # the lowest and the highest number of a log's first epoch
+REBALANCE = 11  # rows for each node that a rebalance has at most
+TTL = 5.0  # seconds, unless the log or a member has another one
+LEAST = 2 * REBALANCE  # rows for each node for which an epoch must have room: two rebalances
 
 
 class Token(int):
-    """The token of a table: one number, EPOCH * 10,000,000 + EVENTS, where so many events of the epoch stand up to the
-    table's plan and with it. A later table has a higher one, also in a later epoch."""
+    """The token of a table: one number, EPOCH * 10,000,000 + EVENTS. EVENTS counts the events of the epoch up to the
+    table's plan, including it. A later table has a higher token, also in a later epoch."""
 
     SPAN = 10_000_000  # more than an epoch has events
 
@@ -40,14 +40,15 @@ class Token(int):
 
 
 def room_of(nodes: int, limit: int) -> int:
-    """How many rows an epoch of so many nodes may have, if the limit is to be this one."""
+    """How many rows an epoch of so many nodes may have, if this limit is asked for."""
     return min(max(limit, LEAST * nodes), EVENTS_MAX)
 
 
 @dataclass(frozen=True)
 class Opening:
-    """What an epoch begins with: its header, and the names of its nodes; how many rows it may have; the last table of
-    the epoch before, by this one's numbers, 0 where the owner is none of its nodes; and the ttl, if the log has one."""
+    """The start of an epoch: its number; its header and the names of its nodes; how many rows it may have; the last
+    table of the epoch before, by the numbers of this epoch, with 0 for an owner that isn't in it; and the ttl, if the
+    log has one."""
 
     epoch: int
     header: str
@@ -60,29 +61,29 @@ class Opening:
     def first(
         header: str, names: Sequence[str] = (), limit: int = EVENTS_MAX, epoch: int = FIRST, ttl: float | None = None
     ) -> Opening:  # fmt: skip
-        """That of the first epoch, which has this number. Nodes without names are called by their numbers."""
+        """The opening of the first epoch, with this number. Nodes without names are called by their numbers."""
         nodes = setup_of(header).nodes
         called = tuple(names) or tuple(map(str, range(1, nodes + 1)))
         return Opening(epoch, header, called, room_of(nodes, limit), ttl=ttl)
 
     @staticmethod
     def parse(text: str) -> Opening:
-        """The one that `text` told. A ValueError, a KeyError, a TypeError or a BullyError tells that it is none."""
+        """The opening in this text. Raises ValueError, KeyError, TypeError or BullyError if it isn't one."""
         document = json.loads(text)
         names, table, limit = tuple(document['names']), tuple(document['table']), int(document['limit'])
         ttl = float(document['ttl']) if 'ttl' in document else None
         opening = Opening(int(document['epoch']), str(document['header']), names, limit, table, ttl)
         setup = setup_of(opening.header)
-        setup.header()  # which is refused, if there can be no such group
+        setup.header()  # raises an exception if there can be no such group
         if setup.nodes != len(names) or len(table) not in (0, setup.partitions):
-            raise ValueError(f'{opening.header} is told of {len(names)} nodes, with a table of {len(table)} partitions')
+            raise ValueError(f'{opening.header} has {len(names)} names, and a table of {len(table)} partitions')
         are_owners = set(table) <= set(range(setup.nodes + 1))
         if not all(isinstance(name, str) for name in names) or not are_owners or limit != room_of(setup.nodes, limit):
-            raise ValueError(f'names {names}, owners {table} or limit {limit} are none')
+            raise ValueError(f'a name of {names}, an owner of {table} or the limit {limit} is not valid')
         return opening
 
     def text(self) -> str:
-        """The same as JSON, for a store."""
+        """The opening as JSON, for a store."""
         document = dataclasses.asdict(self)
         return json.dumps({key: value for key, value in document.items() if value is not None}, ensure_ascii=False)
 
@@ -100,18 +101,20 @@ class Opening:
         """Whether the group has these settings in the epoch."""
         return (self.header, self.names) == (settings.setup.header(), settings.names)
 
-    def wish(self, settings: Settings) -> Opening:
-        """The opening of the next epoch with other settings, but for its table, which is known once this one ends."""
+    def requested(self, settings: Settings) -> Opening:
+        """The opening of the next epoch with other settings. Its table isn't known before this epoch ends."""
         limit = room_of(settings.setup.nodes, self.limit)
         return Opening(self.epoch + 1, settings.setup.header(), settings.names, limit, ttl=self.ttl)
 
-    def after(self, wish: Opening | None) -> Opening:
-        """The opening of the next epoch but for its table: what is wished for, or else as this one."""
-        return (wish or dataclasses.replace(self, epoch=self.epoch + 1)).bare
+    def after(self, requested: Opening | None) -> Opening:
+        """The opening of the next epoch without its table: with the requested settings, or else with those of this
+        epoch."""
+        return (requested or dataclasses.replace(self, epoch=self.epoch + 1)).bare
 
-    def next(self, wish: Opening | None, table: Sequence[int]) -> Opening:
-        """The opening of the next epoch: with what is wished for, or else as this one; and with this last table."""
-        after = self.after(wish)
+    def next(self, requested: Opening | None, table: Sequence[int]) -> Opening:
+        """The opening of the next epoch: with the requested settings, or else with those of this epoch; and with this
+        last table."""
+        after = self.after(requested)
         there = {name: number for number, name in enumerate(after.names, 1)}
         numbers = {number: there.get(name, 0) for number, name in enumerate(self.names, 1)}
         count = setup_of(after.header).partitions

@@ -1,4 +1,4 @@
-"""What the library refuses: an exception for each of its statuses."""
+"""The refusals of the library: an exception for each of its statuses."""
 from __future__ import annotations
 
 from typing import TYPE_CHECKING
@@ -6,16 +6,16 @@ from typing import TYPE_CHECKING
 from .header import own
 
 _STATUSES = own().statuses()
-FAULTS: dict[int, type[BullyError]] = {}  # by their statuses
+FAULTS: dict[int, type[BullyError]] = {}  # by status
 
 
 class BullyError(Exception):
-    """A call that the library refused, for the cause that its status names. Nothing has changed, but see NotLearned."""
+    """The library refused a call, for the reason that its status names. Nothing has changed, but see NotLearned."""
 
     status: int = 0
 
     def __init_subclass__(cls, status: str = '') -> None:
-        """A class that is of a status by itself, the one that `bully.h` has by this name."""
+        """A class may have a status of its own: the one that has this name in `bully.h`."""
         super().__init_subclass__()
         if status:
             cls.status = _STATUSES[status]
@@ -34,20 +34,20 @@ class BadArgument(BullyError):
 
 
 class LineFault(BullyError):
-    """A line that is no request, or no reply, by its first fault from the left."""
+    """A line that isn't a request, or isn't a reply, with its first fault from the left."""
 
 
 class TraceFault(BullyError):
-    """A text that has not the form of a trace, by its first fault. `row` is where that stands, counted from 1."""
+    """A text that doesn't have the form of a trace, with its first fault. `row` is where that is, counted from 1."""
 
     row: int = 0
 
 
 class NotLearned(BullyError):
-    """A row of a log isn't learned, nor are those behind it. `cause` is the exception that names why: one below
-    Refused, if the row's event is refused; RowDiffers; BadRow or TooManyRows; or OutOfMemory. `taken` is how many rows
-    were learned before it, and stay so; `row` is its number in the log, whose header is row 1; `status` is the
-    cause's."""
+    """A row of a log isn't learned, nor are the rows after it. `cause` is the exception that names the reason: one
+    below Refused if the row's event is refused; RowDiffers; BadRow or TooManyRows; or OutOfMemory. `taken` is how many
+    rows before it were learned, and stay so; `row` is its number in the log, whose header is row 1; `status` is that of
+    the cause."""
 
     taken: int = 0
     row: int = 0
@@ -55,11 +55,11 @@ class NotLearned(BullyError):
 
 
 class Full(Refused, status='FULL'):
-    """As many events as the setup bounds were told."""
+    """There are as many events as the setup allows."""
 
 
 class BadNode(Refused, status='BAD_NODE'):
-    """A node is none of the setup's."""
+    """The setup has no such node."""
 
 
 class IsDown(Refused, status='IS_DOWN'):
@@ -67,7 +67,7 @@ class IsDown(Refused, status='IS_DOWN'):
 
 
 class IsUp(Refused, status='IS_UP'):
-    """The node recovers and isn't Down."""
+    """The node recovers, but isn't Down."""
 
 
 class Busy(Refused, status='BUSY'):
@@ -91,11 +91,11 @@ class CalleeDown(Refused, status='CALLEE_DOWN'):
 
 
 class CalleeUp(Refused, status='CALLEE_UP'):
-    """A call of a trace is lost whose callee is up."""
+    """A call of a trace is lost though its callee is up."""
 
 
 class BadTable(Refused, status='BAD_TABLE'):
-    """A planned table isn't balanced over the node and its up set."""
+    """The planned table isn't balanced over the node and its up set."""
 
 
 class NotOrphan(Refused, status='NOT_ORPHAN'):
@@ -103,7 +103,7 @@ class NotOrphan(Refused, status='NOT_ORPHAN'):
 
 
 class Null(BadArgument, status='NULL'):
-    """A pointer is null that must not be. This module hands none on."""
+    """A pointer is null that must not be. This package passes none."""
 
 
 class Closed(BadArgument, status='CLOSED'):
@@ -111,7 +111,7 @@ class Closed(BadArgument, status='CLOSED'):
 
 
 class Open(BadArgument, status='OPEN'):
-    """The handle is open already. This module opens none twice."""
+    """The handle is already open. This package opens none twice."""
 
 
 class OutOfMemory(BullyError, status='OUT_OF_MEMORY'):
@@ -119,109 +119,109 @@ class OutOfMemory(BullyError, status='OUT_OF_MEMORY'):
 
 
 class Short(BullyError, status='SHORT'):
-    """The room is too small. This module makes more room by itself."""
+    """The room for the result is too small. This package makes more room by itself."""
 
 
 class BadNodes(BadArgument, status='BAD_NODES'):
-    """A setup has no nodes, or more than NODES_MAX."""
+    """A setup needs 1 node at least, and has NODES_MAX at most."""
 
 
 class BadPartitions(BadArgument, status='BAD_PARTITIONS'):
-    """A setup has no partitions, or more than PARTITIONS_MAX."""
+    """A setup needs 1 partition at least, and has PARTITIONS_MAX at most."""
 
 
 class BadLimit(BadArgument, status='BAD_LIMIT'):
-    """A setup bounds no events, or more than EVENTS_MAX."""
+    """A setup allows 1 event at least, and EVENTS_MAX at most."""
 
 
 class BadWeights(BadArgument, status='BAD_WEIGHTS'):
-    """There are as many weights as nodes, each from 1 to WEIGHT_MAX."""
+    """There must be as many weights as nodes, each from 1 to WEIGHT_MAX."""
 
 
 class TableLength(BadArgument, status='TABLE_LENGTH'):
-    """A table has another number of owners than there are partitions."""
+    """A table must have as many owners as there are partitions."""
 
 
 class TableOwner(BadArgument, status='TABLE_OWNER'):
-    """An owner is no node of the setup."""
+    """An owner isn't a node of the setup."""
 
 
 class NoMember(BadArgument, status='NO_MEMBER'):
-    """A table over no members."""
+    """A table needs a member at least."""
 
 
 class BadEvent(BadArgument, status='BAD_EVENT'):
-    """No number of a kind of event. This module hands none on."""
+    """This isn't the number of a kind of event. This package passes none."""
 
 
 class BadRowsMax(BadArgument, status='BAD_ROWS_MAX'):
-    """A member's log has room for fewer than 22 rows for each node, or for more than EVENTS_MAX."""
+    """A member's log needs room for 22 rows for each node at least, and for EVENTS_MAX rows at most."""
 
 
 class BadTtl(BadArgument, status='BAD_TTL'):
-    """A member's ttl is below a millisecond or above a day."""
+    """A member's ttl must be from a millisecond to a day."""
 
 
 class BadAnswer(BadArgument, status='BAD_ANSWER'):
-    """No number of an answer of a store. This module hands none on."""
+    """This isn't the number of an answer of a store. This package passes none."""
 
 
 class LineWord(LineFault, status='LINE_WORD'):
-    """The line doesn't begin with `ask`, or with `tell`, or isn't UTF-8."""
+    """The line doesn't start with `ask`, or with `tell`, or isn't UTF-8."""
 
 
 class LineCaller(LineFault, status='LINE_CALLER'):
-    """The line names no node of the setup as the caller."""
+    """The line doesn't name a node of the setup as the caller."""
 
 
 class LineNumber(LineFault, status='LINE_NUMBER'):
-    """The line has no number of a call below the bound on events."""
+    """The line doesn't have the number of a call below the bound on events."""
 
 
 class LineCallee(LineFault, status='LINE_CALLEE'):
-    """The line names no node of the setup as the callee."""
+    """The line doesn't name a node of the setup as the callee."""
 
 
 class LineKind(LineFault, status='LINE_KIND'):
-    """The line has no word of a call, or a table behind another call than Ready."""
+    """The line doesn't name a call, or has a table after a call other than Ready."""
 
 
 class LineTable(LineFault, status='LINE_TABLE'):
-    """The line of a Ready has no table of the setup."""
+    """The line of a Ready doesn't have a table of the setup."""
 
 
 class LineAnswer(LineFault, status='LINE_ANSWER'):
-    """The line has neither `yes` nor `no` as its answer."""
+    """The line's answer is neither `yes` nor `no`."""
 
 
 class BadHeader(TraceFault, status='BAD_HEADER'):
-    """The first row is no header of a trace, or there is none."""
+    """The first row isn't the header of a trace, or there is none."""
 
 
 class BadRow(TraceFault, status='BAD_ROW'):
-    """A row has no form of a row."""
+    """The row doesn't have the form of a row."""
 
 
 class TooManyRows(TraceFault, status='TOO_MANY_ROWS'):
-    """More than 1,000,000 rows stand behind the header."""
+    """There are more than 1,000,000 rows after the header."""
 
 
 class RowDiffers(BullyError, status='ROW_DIFFERS'):
-    """What the row says beside its event, or claims, isn't so."""
+    """A detail of the row, or its claim, is wrong."""
 
 
 class BadConfig(BullyError, status='BAD_CONFIG'):
-    """A configuration that isn't one. The text tells its first fault, as `docs/FORMATS.md` names it."""
+    """A configuration that isn't valid. The text is its first fault, as `docs/FORMATS.md` names it."""
 
 
 class RowEnd(BadArgument, status='ROW_END'):
-    """The last line has no line end. This module ends each row."""
+    """The last line doesn't have a line end. This package ends each row."""
 
 
 def fault_of(status: int, row: int = 0) -> BullyError:
-    """The exception of a status that isn't OK. One of a trace's form tells the row, if that is known."""
+    """The exception of a status other than OK. A TraceFault names the row, if that is known."""
     if status not in FAULTS:
-        unknown = BullyError(f'the library answered status {status}, which this module does not know')
+        unknown = BullyError(f'the library returned status {status}, which this package does not know')
         unknown.status = status
         return unknown
     fault = FAULTS[status]()
@@ -235,5 +235,5 @@ def expect_ok(status: int, row: int = 0) -> None:
         raise fault_of(status, row)
 
 
-if not TYPE_CHECKING:  # the package hands on each exception
+if not TYPE_CHECKING:  # the package exports each exception
     __all__ = [name for name, each in list(vars().items()) if isinstance(each, type) and issubclass(each, BullyError)]

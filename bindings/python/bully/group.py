@@ -1,4 +1,4 @@
-"""What a group is set up with, the verdict on its trace, and its tables."""
+"""The setup of a group, the verdict on its trace, and its tables."""
 from __future__ import annotations
 
 import ctypes
@@ -17,8 +17,8 @@ __all__ = ['Setup', 'check', 'plan_table', 'status_name', 'version']
 
 @dataclass(frozen=True)
 class Setup:
-    """What the group is set up with. `weights` are those of nodes 1, 2 and so on; where there are none each node weighs
-    1. With `keeps` a node keeps its task over a crash. The calls that take a setup judge it."""
+    """The setup of a group. `weights` are those of nodes 1, 2 and so on; without them each node has weight 1. With
+    `keeps` a node keeps its task over a crash. The calls that take a setup check it."""
 
     nodes: int
     partitions: int
@@ -27,15 +27,15 @@ class Setup:
     keeps: bool = False
 
     def header(self) -> str:
-        """The header of a log of this setup, without its line end: of version 1 if that can tell it, and else of
-        version 2, as `docs/FORMATS.md` says. It doesn't tell `events_max`: the bound of a log is always EVENTS_MAX.
+        """The header of a log with this setup, without its line end: of version 1 if that can express the setup, and
+        else of version 2, as `docs/FORMATS.md` says. `events_max` isn't in it: the bound of a log is always EVENTS_MAX.
 
         Raises BadNodes, BadPartitions, BadLimit, BadWeights, OutOfMemory."""
         return Room().row(loaded().bully_header, *setup_parts(self))
 
 
 def setup_parts(setup: Setup) -> tuple[Any, ...]:
-    """A setup, as the three arguments that it is to the library."""
+    """A setup, as the three arguments that the library takes."""
     weights = numbers_of('a weight', setup.weights)
     nodes = number_of('nodes', setup.nodes, UINT16_MAX)
     partitions = number_of('partitions', setup.partitions, UINT16_MAX)
@@ -45,21 +45,21 @@ def setup_parts(setup: Setup) -> tuple[Any, ...]:
 
 
 def setup_of(header: str) -> Setup:
-    """The setup that a header of any version tells. Raises ValueError."""
+    """The setup in a header of any version. Raises ValueError."""
     if HEADER.fullmatch(header) is None:
-        raise ValueError(f'{header} is no header')
+        raise ValueError(f'{header} is not a header')
     _, _, nodes, partitions, *more = header.split(',')
     weights = tuple(map(int, more[0].split())) if more else ()
     return Setup(int(nodes), int(partitions), weights=weights, keeps=more[1:] == ['keep'])
 
 
 def version() -> str:
-    """The version of the library, as `bully --version` tells it."""
+    """The version of the library, as `bully --version` prints it."""
     return str(loaded().bully_version(), 'ascii')
 
 
 def status_name(status: int) -> str:
-    """The name of a status of the library, as `OK`; `?` of a number that is none."""
+    """The name of a status of the library, as `OK`; `?` if no status has this number."""
     return str(loaded().bully_status_name(number_of('status', status, UINT32_MAX)), 'ascii')
 
 
@@ -68,7 +68,7 @@ def check(trace: str | bytes | bytearray | memoryview) -> Verdict:
 
     Raises BadHeader, BadRow or TooManyRows, with the row of the first fault; OutOfMemory."""
     if not isinstance(trace, (str, bytes, bytearray, memoryview)):
-        raise TypeError(f'a trace is str or bytes, and not {type(trace).__name__}')
+        raise TypeError(f'a trace must be str or bytes, and not {type(trace).__name__}')
     text = line_bytes(trace) if isinstance(trace, str) else bytes(trace)
     raw = STRUCTURES['bully_verdict']()
     status = loaded(for_long=True).bully_check(text, len(text), ctypes.byref(raw))
@@ -77,9 +77,9 @@ def check(trace: str | bytes | bytearray | memoryview) -> Verdict:
 
 
 def plan_table(setup: Setup, members: Iterable[int], old: Sequence[int] | None = None) -> TablePlan:
-    """Plans the table over these members, balanced by weight, with the fewest moves from the old one, if any.
+    """Plans a table over these members, balanced by weight, with the fewest moves from the old table if there is one.
 
-    Raises BadNodes, BadPartitions, BadLimit, BadWeights; BadNode of a member; TableLength or TableOwner of the old
+    Raises BadNodes, BadPartitions, BadLimit, BadWeights; BadNode for a member; TableLength or TableOwner for the old
     table; NoMember; OutOfMemory."""
     among, before = numbers_of('a member', members), owners_of(old)
     parts = setup_parts(setup)

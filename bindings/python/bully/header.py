@@ -1,6 +1,8 @@
-"""What `bully.h` declares, by its names and as ctypes takes it. That header is the one source of the statuses' numbers,
-of structures and of functions, so none of them is written down here a second time. In the repository `bin/building`
-reads the header by this file alone, without its package."""
+"""What `bully.h` declares, by its names and as ctypes takes it.
+
+The header is the only source of the numbers of statuses, of structures and of functions, so this package repeats none
+of them. In the repository `bin/building` reads the header by this file alone, without the package.
+"""
 from __future__ import annotations
 
 import ctypes
@@ -18,13 +20,13 @@ _NUMBERS: dict[str, Any] = {
     'size_t': ctypes.c_size_t, 'bully_status': ctypes.c_uint32,
 }  # fmt: skip
 _POINTERS: dict[str, Any] = {
-    'void': ctypes.c_void_p, 'char': ctypes.c_char_p, 'uint8_t': ctypes.c_char_p,  # bytes are handed over as they are
+    'void': ctypes.c_void_p, 'char': ctypes.c_char_p, 'uint8_t': ctypes.c_char_p,  # bytes are passed as they are
     **{name: ctypes.POINTER(kind) for name, kind in _NUMBERS.items() if name != 'uint8_t'},
 }  # fmt: skip
 
 
 class Declared(NamedTuple):
-    """What is declared: whether it is only read, its type, as `uint16_t *`, and its name."""
+    """A declaration: whether it is const, its type, as `uint16_t *`, and its name."""
 
     is_const: bool
     kind: str
@@ -32,7 +34,7 @@ class Declared(NamedTuple):
 
 
 class Function(NamedTuple):
-    """A function: its name, the type of what it gives, and what it takes."""
+    """A function: its name, the type of its result, and its parameters."""
 
     name: str
     gives: str
@@ -40,13 +42,14 @@ class Function(NamedTuple):
 
 
 def top_of_tree() -> Iterator[str]:
-    """The top of the repository, or of the archive, that this package stands in, if it does."""
+    """The top of the repository or of the archive that has this package, if one does."""
     if HERE.endswith(os.path.join(os.sep, 'bindings', 'python', 'bully')):
         yield os.path.join(HERE, *[os.pardir] * 3)
 
 
 def _places() -> Iterator[str]:
-    """Where the header may stand: beside this file, as in a wheel; in this tree; or beside the library."""
+    """The folders that may have the header: that of this file, as in a wheel; that of this tree; or that of the
+    library."""
     yield HERE
     yield from (os.path.join(top, 'include') for top in top_of_tree())
     library = os.environ.get('BULLY_LIBRARY')
@@ -60,30 +63,30 @@ def _text() -> str:
     files = [os.path.join(place, FILE) for place in _places()]
     file = next(filter(os.path.exists, files), None)
     if not file:
-        raise ImportError(f'{FILE} is in none of its places: {", ".join(files)}')
+        raise ImportError(f'{FILE} is in none of these places: {", ".join(files)}')
     with open(file, encoding='ascii') as header:
         return header.read()
 
 
 class Header:
-    """What a header of this text declares. ImportError says what isn't understood here."""
+    """The declarations of a header with this text. Raises ImportError for one that isn't understood here."""
 
     def __init__(self, text: str) -> None:
         uncommented = ''.join(piece.rpartition('*/')[2] for piece in text.split('/*'))
         self._text = '\n'.join(line for line in uncommented.splitlines() if not line.startswith('#'))
 
     def statuses(self) -> dict[str, int]:
-        """The numbers of the statuses by their names, as `OK`."""
+        """The numbers of the statuses by name, as `OK`."""
         [listed] = re.findall(r'typedef uint32_t bully_status;\s*enum \{(.*?)\}', self._text, re.DOTALL)
         return {name: int(number) for name, number in re.findall(r'BULLY_(\w+) = (\d+)', listed)}
 
     def structures(self) -> Iterator[tuple[str, list[Declared]]]:
-        """The structures, each with its fields in their order."""
+        """The structures, each with its fields in order."""
         for name, listed in re.findall(r'typedef struct (\w+) \{(.*?)\}', self._text, re.DOTALL):
             yield name, list(map(_declared, listed.split(';')[:-1]))
 
     def functions(self) -> Iterator[Function]:
-        """The functions, in their order."""
+        """The functions in order."""
         for told in self._text.split(';'):
             head, bracket, behind = told.partition('(')
             if bracket:
@@ -93,7 +96,7 @@ class Header:
 
 
 def _declared(told: str) -> Declared:
-    """What is declared, as `const uint16_t *nodes`."""
+    """A declaration, as `const uint16_t *nodes`."""
     found = re.fullmatch(r'(const )?(\w+ \*?)(\w+)', ' '.join(told.split()))
     if not found:
         raise ImportError(f'{FILE} declares what is not understood here: {" ".join(told.split())}')
@@ -101,7 +104,8 @@ def _declared(told: str) -> Declared:
 
 
 def type_of(kind: str, structures: Mapping[str, Any]) -> Any:
-    """The type of ctypes for one of the header, by the structures that are known; a pointer to others as it is."""
+    """The ctypes type of a type in the header, given the known structures; a pointer to any other structure is a void
+    pointer."""
     target, is_pointer, _ = kind.partition(' *')
     if not is_pointer:
         return _NUMBERS[target]

@@ -1,7 +1,7 @@
-"""The history of a group: the log of an epoch as a trace, also of a log of the form before this one.
+"""The history of a group: the log of an epoch as a trace, also from a log of the form before this one.
 
-In that form each row stood by itself, the header among them, and an epoch had an end behind its rows. No member of
-today may share such a log.
+In that form each row was kept on its own, the header among them, and an epoch had an end after its rows. No current
+member may share such a log.
 """
 from __future__ import annotations
 
@@ -10,10 +10,10 @@ import ssl
 import time
 from collections.abc import Callable, Mapping, Sequence
 
-from .files import identity
-from .gateway import KV_RANGE, Client, pairs_of, range_below, range_from, read_address
-from .logs import DamagedLog, Log, NoEpoch
+from .etcd_client import KV_RANGE, Client, pairs_of, range_below, range_from, read_address
+from .shared_log import DamagedLog, Log, NoEpoch
 from .sqlite import calls, connection, form_of
+from .sqlite_file import identity
 
 
 def trace(log: Log, epoch: int | None, has_times: bool = False) -> Sequence[str]:
@@ -32,29 +32,29 @@ def traced(log: Callable[[], Log], older: Sequence[str] | None, epoch: int | Non
 
 
 def timed(rows: Sequence[str], times: Mapping[int, int | None]) -> list[str]:
-    """The rows of a trace, each behind the time of its append, if that is kept, and a comma."""
+    """The rows of a trace, each after the time of its append, if that is kept, and a comma."""
     lines, told = [], ''
-    for place, row in enumerate(rows, -1):
-        told = time_text(times[place]) if place in times else told
+    for offset, row in enumerate(rows, -1):
+        told = time_text(times[offset]) if offset in times else told
         lines.append(f'{told},{row}')
     return lines
 
 
 def time_text(milliseconds: int | None) -> str:
-    """A time of UTC by ISO 8601; nothing, if there is none."""
+    """A time of UTC by ISO 8601; empty if there is none."""
     if milliseconds is None:
         return ''
     return time.strftime('%Y-%m-%dT%H:%M:%S', time.gmtime(milliseconds // 1000)) + f'.{milliseconds % 1000:03}Z'
 
 
 FORM = 2  # of a file
-OPENING = b'{"epoch": '  # with which an opening begins in etcd
-END = 'end,'  # with which the end of an epoch begins
+OPENING = b'{"epoch": '  # the start of an opening in etcd
+END = 'end,'  # the start of the end of an epoch
 PAGE = 1000  # rows that are read in one request
 
 
 def file_trace(path: str, epoch: int | None) -> Sequence[str] | None:
-    """The trace of an epoch, or of the current one, in a file of the older form; none, if it has another one.
+    """The trace of an epoch, or of the current one, in a file of the older form; None if the file has another form.
 
     Raises NoLog, ForeignLog, DamagedLog, NoEpoch, Unanswered."""
     identity(path)
@@ -72,9 +72,9 @@ def file_trace(path: str, epoch: int | None) -> Sequence[str] | None:
 def etcd_trace(
     address: str, epoch: int | None, tls: ssl.SSLContext | None, user: str, password: str
 ) -> Sequence[str] | None:
-    """The trace of an epoch, or of the current one, in an etcd, if the log there is of the older form; else none.
+    """The trace of an epoch, or of the current one, in an etcd, if its log has the older form; else None.
 
-    Raises LogError; ValueError of an address that is none."""
+    Raises LogError; ValueError if the address isn't valid."""
     read = read_address(address)
     client, root = Client(read, 1.0, tls, user, password), f'{read.prefix}/'.encode()
     with contextlib.closing(client):
@@ -88,7 +88,7 @@ def etcd_trace(
 
 
 def read_etcd(address: str, client: Client, prefix: bytes, epoch: int) -> Sequence[str]:
-    """The same, of a log of the older form."""
+    """The same, from a log of the older form."""
     rows: list[str] = []
     while True:
         client.begin()
@@ -100,9 +100,9 @@ def read_etcd(address: str, client: Client, prefix: bytes, epoch: int) -> Sequen
 
 
 def checked(where: str, epoch: int, rows: list[str], count: int) -> Sequence[str]:
-    """The rows of a trace, if they are there, and so many."""
+    """The rows of a trace, if they are there, and there are so many."""
     if not rows:
-        raise NoEpoch(f'{where}: epoch {epoch} is not there')
+        raise NoEpoch(f'{where}: there is no epoch {epoch}')
     if len(rows) != count:
         raise DamagedLog(f'{where}: rows are missing')
     return rows[:-1] if rows[-1].startswith(END) else rows

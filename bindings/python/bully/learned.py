@@ -1,4 +1,4 @@
-"""What was learned of a group's log, by a replica or by a member."""
+"""What a replica or a member has learned of a group's log."""
 from __future__ import annotations
 
 import ctypes
@@ -16,14 +16,14 @@ class Learned(Opened):
     _showing = ''  # the name of the function that shows a node
 
     def _begin(self, name: str, *arguments: Any) -> None:
-        """A log begins, as this function is told. A fault of its header is one of row 1."""
+        """Starts a log by this function. A fault of its header is one of row 1."""
         expect_ok(self._function(name)(*arguments), row=1)
         self._partitions = self.partitions
 
     def _learn(self, rows: Iterable[Line]) -> int:
-        """Learns the rows, and tells how many these were; or raises why one isn't learned."""
+        """Learns the rows, and returns how many they were; or raises why one isn't learned."""
         if isinstance(rows, (str, bytes)):
-            raise TypeError('the rows to learn are several lines, and not one')
+            raise TypeError('the rows to learn must be several lines, and not one')
         text, taken = rows_bytes(rows if isinstance(rows, Rows) else list(rows)), ctypes.c_size_t()
         status = self._function('learn')(text, len(text), ctypes.byref(taken))
         if status:
@@ -31,7 +31,7 @@ class Learned(Opened):
         return taken.value
 
     def _not_learned(self, status: int, taken: int) -> BullyError:
-        """The exception that tells that so many rows were learned, and the next one wasn't, for this status."""
+        """The exception for a row that wasn't learned, for this status, after so many that were."""
         why = fault_of(status)
         if isinstance(why, BadArgument):
             return why
@@ -41,37 +41,37 @@ class Learned(Opened):
         refused.__cause__ = fault_of(status, row)
         return refused
 
-    # How a node stands, behind the rows that were learned.
+    # The state of a node after the rows that were learned.
 
     def state(self, node: int) -> State:
-        """How the node stands, by one look. Raises Closed, BadNode."""
+        """The node's state, read at one moment. Raises Closed, BadNode."""
         return state_of(self._show(node))
 
     def _show(self, node: int) -> ctypes.Structure:
         return self._filled(STRUCTURES['bully_state'](), self._showing, node_of(node))
 
-    # How the group stands, behind the rows that were learned. Each raises Closed.
+    # The state of the group after the rows that were learned. Each raises Closed.
 
     @property
     def rows(self) -> int:
-        """How many rows were learned, claims too: the index of the next one in a list without the header."""
+        """How many rows were learned, including claims: the index of the next one in a list without the header."""
         return int(self._group().rows)
 
     @property
     def events(self) -> int:
-        """How many events these rows told."""
+        """How many events there are in these rows."""
         return int(self._group().events)
 
     @property
     def token(self) -> int | None:
-        """The token of the last plan, if there is one: how many events there are up to it and with it, which is at
-        least 1. So a later plan has a higher token. Each node that is Normal goes by the last plan: it has its planner
-        as coordinator, and its table as task."""
+        """The token of the last plan, if there is one: how many events there are up to it, including it, so at least 1.
+        A later plan has a higher token. Each node that is Normal works by the last plan: its coordinator is the plan's
+        node, and its task is the plan's table."""
         return self._group().token or None
 
     @property
     def planner(self) -> int | None:
-        """Whose the last plan is, if there is one."""
+        """The node of the last plan, if there is one."""
         return self._group().planner or None
 
     @property
@@ -81,17 +81,17 @@ class Learned(Opened):
 
     @property
     def nodes(self) -> int:
-        """How many nodes the header tells."""
+        """The number of nodes, by the header."""
         return int(self._group().nodes)
 
     @property
     def partitions(self) -> int:
-        """How many partitions the header tells."""
+        """The number of partitions, by the header."""
         return int(self._group().partitions)
 
     @property
     def keeps(self) -> bool:
-        """Whether a node keeps its task over a crash, as the header tells."""
+        """Whether a node keeps its task over a crash, by the header."""
         return bool(self._group().keeps)
 
     def _group(self) -> ctypes.Structure:

@@ -1,4 +1,4 @@
-"""The library itself: how it is found, its functions as ctypes takes them, and what goes in and out of these."""
+"""The library: how it is found, its functions as ctypes takes them, and conversions of their arguments and results."""
 from __future__ import annotations
 
 import ctypes
@@ -13,14 +13,14 @@ from .header import HERE, own, top_of_tree, type_of
 from .values import Call, CallKind, Line, Owned, Rows, State, Status, Want
 
 FILE = 'libbully.so'
-WHERE = f'the wheel of a release has it, and an archive in lib; in the sources run bin/library, which builds {FILE}'
+WHERE = f'the wheel of a release has it, and an archive, in lib; in the sources run bin/library, which builds {FILE}'
 HOW_TO_FIND = f'{WHERE}, and then pip install bindings/python; or set BULLY_LIBRARY to the folder that has it'
 ROOM_MIN = 256
 UINT16_MAX = 0xFFFF
 UINT32_MAX = 0xFFFF_FFFF
 UINT64_MAX = 0xFFFF_FFFF_FFFF_FFFF
 
-# The header's structures, by its names.
+# The structures of the header, by name.
 STRUCTURES: dict[str, type[ctypes.Structure]] = {
     name: type(name, (ctypes.Structure,), {'_fields_': [(field.name, type_of(field.kind, {})) for field in fields]})
     for name, fields in own().structures()
@@ -31,19 +31,19 @@ class NoLibrary(OSError):
     """The library isn't found, or is another one."""
 
 
-# The library twice. Calls of a handle keep Python's lock, so that no two threads are in one; a check of a long trace
-# gives it away.
+# The library, loaded twice. Calls of a handle hold Python's lock, so that no two threads use a handle at once; a check
+# of a long trace releases it.
 _loaded: list[ctypes.CDLL] = []
 
 
 def _prototypes() -> list[tuple[str, Any, list[Any]]]:
-    """The functions of the library, with the types of what they give and take."""
+    """The functions of the library, with the types of their results and parameters."""
     typed = functools.partial(type_of, structures=STRUCTURES)
     return [(name, typed(gives), [typed(one.kind) for one in takes]) for name, gives, takes in own().functions()]
 
 
 def _declared(library: ctypes.CDLL, prototypes: list[tuple[str, Any, list[Any]]]) -> ctypes.CDLL:
-    """The library, with the types of its functions told to ctypes."""
+    """The library, with the types of its functions set for ctypes."""
     for name, gives, takes in prototypes:
         function = getattr(library, name)
         function.restype, function.argtypes = gives, takes
@@ -51,7 +51,7 @@ def _declared(library: ctypes.CDLL, prototypes: list[tuple[str, Any, list[Any]]]
 
 
 def _own_places() -> Iterator[str]:
-    """Where the library stands that came with this package: beside it, in an archive, or in the repository."""
+    """The folders that may have the library that came with this package: in it, in an archive, or in the repository."""
     yield HERE
     for top in top_of_tree():
         yield os.path.join(top, 'lib')
@@ -71,10 +71,11 @@ def _place_of(path: str | os.PathLike[str] | None) -> str:
 
 
 def load(path: str | os.PathLike[str] | None = None) -> None:
-    """Loads the library from this path: its file, the folder that has it, or the one that has that as `lib`. Without a
-    path that is BULLY_LIBRARY of the environment, or else libbully.so in the folder of this package, in `lib` of an
-    archive or in `out/library` of the repository, or else what the system finds by that name. NoLibrary, which is an
-    OSError, tells that it isn't there."""
+    """Loads the library from this path: its file, the folder of that, or a folder that has it in `lib`. Without a path
+    it is BULLY_LIBRARY of the environment, or else libbully.so in the folder of this package, in `lib` of an archive or
+    in `out/library` of the repository, or else the one that the system finds by that name.
+
+    Raises NoLibrary, an OSError, if the library isn't there."""
     place, prototypes = _place_of(path), _prototypes()
     try:
         _loaded[:] = [_declared(ctypes.PyDLL(place), prototypes), _declared(ctypes.CDLL(place), prototypes)]
@@ -85,17 +86,17 @@ def load(path: str | os.PathLike[str] | None = None) -> None:
 
 
 def loaded(for_long: bool = False) -> ctypes.CDLL:
-    """The library, for calls that other threads wait for; or for long ones."""
+    """The library: for calls during which other threads wait; or for long ones."""
     if not _loaded:
         load()
     return _loaded[for_long]
 
 
 def number_of(what: str, value: int, most: int) -> int:
-    """The number, where a parameter of the library has room for it: ctypes alone would cut it off."""
+    """The number, if a parameter of the library has room for it: ctypes would cut it off."""
     number = operator.index(value)
     if not 0 <= number <= most:
-        raise ValueError(f'{what} is {number}, and has to be from 0 to {most}')
+        raise ValueError(f'{what} is {number}, and must be from 0 to {most}')
     return number
 
 
@@ -104,13 +105,14 @@ def node_of(value: int) -> int:
 
 
 def numbers_of(what: str, values: Iterable[int]) -> tuple[ctypes.Array[ctypes.c_uint16], int]:
-    """Numbers, as the two arguments that they are to the library."""
+    """Numbers, as the two arguments that the library takes."""
     numbers = [number_of(what, value, UINT16_MAX) for value in values]
     return (ctypes.c_uint16 * len(numbers))(*numbers), len(numbers)
 
 
 def owners_of(values: Iterable[int] | None) -> tuple[ctypes.Array[ctypes.c_uint16], int]:
-    """The same of the owners of a table, if any. To the library none are no table, but an empty one is too short."""
+    """The owners of a table, if there is one, as two arguments. For the library no owners are no table, but an empty
+    table is too short."""
     numbers, count = numbers_of('an owner', () if values is None else values)
     if values is not None and not count:
         raise TableLength()
@@ -122,11 +124,11 @@ def line_bytes(line: Line) -> bytes:
         return line.encode('utf-8', 'surrogatepass')
     if isinstance(line, bytes):
         return line
-    raise TypeError(f'a line is str or bytes, and not {type(line).__name__}')
+    raise TypeError(f'a line must be str or bytes, and not {type(line).__name__}')
 
 
 def line_of(line: Line) -> tuple[bytes, int]:
-    """The line, as the two arguments that it is to the library."""
+    """The line, as the two arguments that the library takes."""
     text = line_bytes(line)
     return text, len(text)
 
@@ -136,7 +138,7 @@ def row_bytes(line: Line) -> bytes:
     text = line_bytes(line)
     row = text[:-1] if text.endswith(b'\n') else text
     if not row or b'\n' in row or b'\r' in row:
-        raise ValueError(f'{line!r} is not one row')
+        raise ValueError(f'{line!r} is not exactly one row')
     return row + b'\n'
 
 
@@ -145,7 +147,7 @@ def rows_bytes(rows: Sequence[Line]) -> bytes:
     try:
         text = rows.text if isinstance(rows, Rows) else '\n'.join(rows) + '\n' if rows else ''  # type: ignore[arg-type]
     except TypeError:
-        text = '\r'  # of rows that aren't all str
+        text = '\r'  # if not all rows are str
     has_others = not isinstance(rows, Rows) and text.count('\n') != len(rows)
     if has_others or '\r' in text or '\n\n' in text or text[:1] == '\n':
         return b''.join(map(row_bytes, rows))
@@ -153,13 +155,13 @@ def rows_bytes(rows: Sequence[Line]) -> bytes:
 
 
 class Room:
-    """Room for the texts that the library writes, a power of two, which grows by what it says that it wants."""
+    """Room for the texts that the library writes: a power of two, which grows when the library asks for more."""
 
     def __init__(self) -> None:
         self._size = ROOM_MIN
 
     def text(self, function: Callable[..., int], *arguments: Any) -> str:
-        """What the function writes, called with these arguments and the room behind them."""
+        """The text that the function writes, called with these arguments and the room after them."""
         length = ctypes.c_size_t()
         while True:
             text = ctypes.create_string_buffer(self._size)
@@ -172,12 +174,12 @@ class Room:
             self._size = 1 << (length.value - 1).bit_length()
 
     def row(self, function: Callable[..., int], *arguments: Any) -> str:
-        """The same of a row, without its line end."""
+        """The same for a row, without its line end."""
         return self.text(function, *arguments).rstrip('\n')
 
 
 def list_of(room: int, function: Callable[..., int], *arguments: Any) -> tuple[int, ...]:
-    """The numbers that the function writes, called with these arguments and room for so many behind them."""
+    """The numbers that the function writes, called with these arguments and room for so many numbers after them."""
     numbers, count = (ctypes.c_uint16 * room)(), ctypes.c_size_t()
     expect_ok(function(*arguments, numbers, room, ctypes.byref(count)))
     return tuple(numbers[: count.value])
@@ -191,12 +193,12 @@ def owned_of(room: int, function: Callable[..., int], *arguments: Any) -> Owned 
 
 
 def call_of(raw: ctypes.Structure) -> Call | None:
-    """The call that the library tells of a node, if any."""
+    """The call in a state of the library, if there is one."""
     return Call(CallKind(raw.call), raw.callee, bool(raw.orphan)) if raw.callee else None
 
 
 def state_of(raw: ctypes.Structure) -> State:
-    """All that the library tells of a node."""
+    """The state of a node, from that of the library."""
     status, wants = Status(raw.status), Want(raw.wants)
     return State(raw.node, status, raw.coordinator or None, raw.halter or None, wants, call_of(raw), raw.generation)
 
@@ -213,8 +215,8 @@ Filled = TypeVar('Filled', bound=Union[ctypes.Structure, ctypes.c_uint32])
 class Opened:
     """A handle of the library, which holds memory of it until it is closed."""
 
-    _kind = ''  # how the library's functions of it begin
-    _single = ''  # why it isn't copied
+    _kind = ''  # the prefix of the library's functions for it
+    _single = ''  # why it can't be copied
 
     def __init__(self) -> None:
         self._library = loaded()
@@ -227,25 +229,25 @@ class Opened:
         return functools.partial(getattr(self._library, f'{self._kind}_{name}'), self._held)
 
     def _call(self, name: str, *arguments: Any) -> None:
-        """Calls the same, which has to answer OK."""
+        """Calls this function, whose status must be OK."""
         expect_ok(self._function(name)(*arguments))
 
     def _filled(self, filled: Filled, name: str, *arguments: Any) -> Filled:
-        """What the same writes, called with these arguments and with room for that."""
+        """The result that this function writes, called with these arguments and room for the result."""
         self._call(name, *arguments, ctypes.byref(filled))
         return filled
 
     def close(self) -> None:
-        """Gives back what the library keeps. Every later call raises Closed."""
+        """Frees the library's memory of this handle. Each later call raises Closed."""
         self._call('close')
 
     @property
     def is_closed(self) -> bool:
-        """Whether it was closed."""
+        """Whether it is closed."""
         return not self._handle.held
 
     def _words(self) -> str:
-        """What it is of, while it is open."""
+        """What an open handle is for, as `repr` shows it."""
         raise NotImplementedError
 
     def __enter__(self: Self) -> Self:
@@ -266,7 +268,7 @@ class Opened:
     __deepcopy__ = __copy__
 
     def __reduce__(self) -> str:
-        raise TypeError(f'{type(self).__name__} is not pickled: it is the memory of this process')
+        raise TypeError(f'{type(self).__name__} can not be pickled: it is memory of this process')
 
     def __repr__(self) -> str:
         return f'<{type(self).__name__} {"closed" if self.is_closed else self._words()}>'

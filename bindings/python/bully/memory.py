@@ -1,4 +1,4 @@
-"""The store of a shared log in the memory of one process: `MemoryLog`."""
+"""A log in the memory of one process: `MemoryLog`."""
 from __future__ import annotations
 
 import threading
@@ -6,31 +6,31 @@ from collections.abc import Callable, Sequence, Set as AbstractSet
 from typing import NamedTuple
 
 from .clocks import SECOND, nanoseconds_of_boot, sleep_until_ready, wall_clock
+from .core import Promise, Session, Until
+from .encoding import no_epoch, rows_text, see_end
 from .epochs import Opening
-from .logs import Found, Holder, Lives, Wanted, are_idle
-from .member import Life, Promise, Until
-from .orders import Orders
-from .stored import no_epoch, rows_text, see_end
+from .maintenance import Maintenance
+from .shared_log import Holder, Sessions, Snapshot, Wanted, are_idle
 
-WAKEABLE_WAIT = 0.02  # seconds that a wait in memory takes at most, if something else may wake it
+WAKEABLE_WAIT = 0.02  # the longest wait in memory, in seconds, if something else may wake it
 
 
 class Lease(NamedTuple):
-    """A presence: whose, and when it ends."""
+    """A lease: its holder, and when it ends."""
 
     holder: Holder
     until: int
 
 
 class MemoryLog:
-    """A log in memory. Threads may share it: what a look has told is kept for each of them."""
+    """A log in memory, which threads may share. What a snapshot has shown is kept for each thread."""
 
     def __init__(self, opening: Opening, clock: Callable[[], int] = nanoseconds_of_boot) -> None:
-        """A log that begins so. Presences last by the clock, in whole nanoseconds."""
+        """A log with this opening. Leases last by the clock, in whole nanoseconds."""
         self.clock = clock
         self.leases: dict[str, Lease] = {}
-        self.wish: Opening | None = None
-        self.orders = Orders()
+        self.requested: Opening | None = None
+        self.maintenance = Maintenance()
         self.failing: dict[str, bool] = {}
         self._openings = {opening.epoch: opening}
         self._rows: dict[int, list[str]] = {opening.epoch: []}
@@ -40,17 +40,17 @@ class MemoryLog:
 
     @property
     def epoch(self) -> int:
-        """The current one."""
+        """The current epoch."""
         return max(self._rows)
 
     @property
     def rows(self) -> list[str]:
-        """Those of the current epoch."""
+        """The rows of the current epoch."""
         return self._rows[self.epoch]
 
     @property
-    def presences(self) -> dict[str, Holder]:
-        """Who is present now."""
+    def holders(self) -> dict[str, Holder]:
+        """Who holds a lease now."""
         now = self.clock()
         return {name: lease.holder for name, lease in self.leases.items() if now < lease.until}
 
@@ -65,39 +65,39 @@ class MemoryLog:
                 raise no_epoch('the log', epoch or 0, self.epochs())
             return found
 
-    # Presences.
+    # Leases.
 
-    def take(self, name: str, life: Life, promise: Promise, ttl: int) -> bool:
+    def acquire(self, name: str, session: Session, promise: Promise, ttl: int) -> bool:
         with self._changed:
-            done = name not in self.presences and promise == self._end()
+            done = name not in self.holders and promise == self._end()
             if done:
-                self._hold(name, Holder(life, promise), self.clock() + ttl)
+                self._hold(name, Holder(session, promise), self.clock() + ttl)
             return done
 
-    def renew(self, name: str, life: Life, ttl: int) -> bool:
+    def renew(self, name: str, session: Session, ttl: int) -> bool:
         with self._changed:
-            done = self._holds(name, life)
+            done = self._holds(name, session)
             if done:
                 self._hold(name, self.leases[name].holder, self.clock() + ttl)
             return done
 
-    def release(self, name: str, life: Life) -> None:
+    def release(self, name: str, session: Session) -> None:
         with self._changed:
-            if self._holds(name, life):
+            if self._holds(name, session):
                 del self.leases[name]
                 self._changed.notify_all()
 
-    def promise(self, name: str, life: Life, promise: Promise) -> bool:
+    def promise(self, name: str, session: Session, promise: Promise) -> bool:
         with self._changed:
-            done = self._holds(name, life)
+            done = self._holds(name, session)
             if done:
                 lease = self.leases[name]
-                self._hold(name, Holder(life, max(promise, lease.holder.promise)), lease.until)
+                self._hold(name, Holder(session, max(promise, lease.holder.promise)), lease.until)
             return done
 
-    def _holds(self, name: str, life: Life) -> bool:
-        holder = self.presences.get(name)
-        return holder is not None and holder.life == life
+    def _holds(self, name: str, session: Session) -> bool:
+        holder = self.holders.get(name)
+        return holder is not None and holder.session == session
 
     def _hold(self, name: str, holder: Holder, until: int) -> None:
         self.leases[name] = Lease(holder, until)
@@ -105,21 +105,21 @@ class MemoryLog:
 
     # The log.
 
-    def append(self, epoch: int, place: int, rows: Sequence[str]) -> bool:
+    def append(self, epoch: int, offset: int, rows: Sequence[str]) -> bool:
         rows_text(rows)
         with self._changed:
-            done = self._may_append(Promise(epoch, place))
+            done = self._may_append(Promise(epoch, offset))
             if done:
-                self._times[epoch][place] = wall_clock()
+                self._times[epoch][offset] = wall_clock()
                 self.rows.extend(rows)
                 self._changed.notify_all()
             return done
 
-    def finish(self, epoch: int, place: int, opening: Opening) -> bool:
+    def roll_over(self, epoch: int, offset: int, opening: Opening) -> bool:
         with self._changed:
-            done = self._may_append(Promise(epoch, place)) and opening.bare == self.opening().after(self.wish)
+            done = self._may_append(Promise(epoch, offset)) and opening.bare == self.opening().after(self.requested)
             if done:
-                self._openings[opening.epoch], self._rows[opening.epoch], self.wish = opening, [], None
+                self._openings[opening.epoch], self._rows[opening.epoch], self.requested = opening, [], None
                 self._times[opening.epoch] = {}
                 self._changed.notify_all()
             return done
@@ -133,14 +133,14 @@ class MemoryLog:
         return here == self._end() and are_idle(Until.ALL_IDLE, self._promises(), here)
 
     def _promises(self) -> dict[str, Promise]:
-        return {name: holder.promise for name, holder in self.presences.items()}
+        return {name: holder.promise for name, holder in self.holders.items()}
 
-    def read(self, epoch: int, place: int) -> list[str]:
+    def read(self, epoch: int, offset: int) -> list[str]:
         with self._changed:
             if epoch not in self._rows:
                 raise no_epoch('the log', epoch, self.epochs())
-            see_end('the log', self._end(), Promise(epoch, place))
-            return self._rows[epoch][place:]
+            see_end('the log', self._end(), Promise(epoch, offset))
+            return self._rows[epoch][offset:]
 
     def times(self, epoch: int) -> dict[int, int | None]:
         with self._changed:
@@ -151,56 +151,59 @@ class MemoryLog:
             for epoch in range(min(self._rows), min(first, self.epoch)):
                 del self._rows[epoch], self._times[epoch]
 
-    # Looks and waits.
+    # Snapshots and waits.
 
-    def look(self, epoch: int, place: int) -> Found:
+    def snapshot(self, epoch: int, offset: int) -> Snapshot:
         with self._changed:
-            see_end('the log', self._end(), Promise(epoch, place))
-            rows = self.rows[place:] if epoch == self.epoch else []
-            found = Found(self.epoch, rows, self.presences, self.wish, self.orders, dict(self.failing))
+            see_end('the log', self._end(), Promise(epoch, offset))
+            rows = self.rows[offset:] if epoch == self.epoch else []
+            found = Snapshot(self.epoch, rows, self.holders, self.requested, self.maintenance, dict(self.failing))
             self._seen.wanted, self._seen.idle = found.wanted, (self._end(), found.idle(self._end()))
             return found
 
-    def wait(self, epoch: int, place: int, lives: Lives, until: Until, seconds: float, wake: int | None = None) -> None:
-        if wake is not None:  # it is looked at now and then
+    def wait(
+        self, epoch: int, offset: int, sessions: Sessions, until: Until, seconds: float, wake: int | None = None
+    ) -> None:  # fmt: skip
+        if wake is not None:  # which is polled
             seconds = 0.0 if sleep_until_ready(0.0, wake) else min(seconds, WAKEABLE_WAIT)
-        end, wanted = self.clock() + int(seconds * SECOND), getattr(self._seen, 'wanted', (None, Orders()))
+        end, wanted = self.clock() + int(seconds * SECOND), getattr(self._seen, 'wanted', (None, Maintenance()))
         known: tuple[Promise, frozenset[str]] = getattr(self._seen, 'idle', (Promise(), frozenset()))
-        before = known[1] if known[0] == Promise(epoch, place) else frozenset()
+        before = known[1] if known[0] == Promise(epoch, offset) else frozenset()
         with self._changed:
-            while not self.has_news(epoch, place, lives, wanted, until, before) and self.clock() < end:
+            while not self.has_news(epoch, offset, sessions, wanted, until, before) and self.clock() < end:
                 ends = [lease.until for lease in self.leases.values() if self.clock() < lease.until]
                 self._changed.wait(max(0, min([end, *ends]) - self.clock()) / SECOND)
 
     def has_news(
-        self, epoch: int, place: int, lives: Lives, wanted: Wanted, until: Until, before: AbstractSet[str]
+        self, epoch: int, offset: int, sessions: Sessions, wanted: Wanted, until: Until, before: AbstractSet[str]
     ) -> bool:
-        """Whether a wait is over behind a look that found this wish, these orders, and these idle up to that place."""
+        """Whether a wait is over, after a snapshot that showed these requested settings, this maintenance, and these
+        nodes idle up to that offset."""
         with self._changed:
-            if Promise(epoch, place) != self._end() or wanted != (self.wish, self.orders):
+            if Promise(epoch, offset) != self._end() or wanted != (self.requested, self.maintenance):
                 return True
-            there = {name: holder.life for name, holder in self.presences.items()}
-            return there != lives or are_idle(until, self._promises(), Promise(epoch, place), before)
+            there = {name: holder.session for name, holder in self.holders.items()}
+            return there != sessions or are_idle(until, self._promises(), Promise(epoch, offset), before)
 
-    def ask(self, wish: Opening, epoch: int) -> bool:
+    def ask(self, requested: Opening, epoch: int) -> bool:
         with self._changed:
-            done = epoch == self.epoch and wish.epoch == epoch + 1
+            done = epoch == self.epoch and requested.epoch == epoch + 1
             if done:
-                self.wish = wish.bare
+                self.requested = requested.bare
                 self._changed.notify_all()
             return done
 
     def cancel(self, epoch: int) -> None:
         with self._changed:
             if epoch == self.epoch:
-                self.wish = None
+                self.requested = None
                 self._changed.notify_all()
 
-    def order(self, orders: Orders, before: Orders | None) -> bool:
+    def set_maintenance(self, maintenance: Maintenance, before: Maintenance | None) -> bool:
         with self._changed:
-            done = before is None or before == self.orders
+            done = before is None or before == self.maintenance
             if done:
-                self.orders = orders
+                self.maintenance = maintenance
                 self._changed.notify_all()
             return done
 
@@ -210,9 +213,9 @@ class MemoryLog:
             if gave_up is not None:
                 self.failing[name] = gave_up
 
-    def give_up(self, name: str, heir: str, life: Life) -> bool:
+    def give_up(self, name: str, heir: str, session: Session) -> bool:
         with self._changed:
-            done = self._holds(heir, life) and heir not in self.failing
+            done = self._holds(heir, session) and heir not in self.failing
             if done:
                 self.failing[name] = True
             return done

@@ -1,4 +1,4 @@
-"""What a member says on standard error. A thread of its own writes that, so that no reader keeps it from work."""
+"""What a member writes on standard error. A thread of its own writes that, so that no reader holds up the member."""
 from __future__ import annotations
 
 import json
@@ -9,16 +9,16 @@ import select
 import threading
 from contextlib import suppress
 
-from .settings import shown_name
+from .display import shown_name
 
 
-WAITING_MAX = 1000  # messages that wait to be written; of more the newest are left out
-LAST_SECONDS = 1.0  # for which it is waited at the end, until all are written
+WAITING_MAX = 1000  # messages that wait to be written; if there are more, the newest are left out
+LAST_SECONDS = 1.0  # the longest wait at the end, until all are written
 STANDARD_ERROR = 2
 
 
 class Lines(logging.Formatter):
-    """Each message as a line for people: so also one with a name or a path of others."""
+    """Each message as a line for people: also if it has a name or a path that others chose."""
 
     def __init__(self) -> None:
         super().__init__('%(asctime)s bully-member: %(message)s')
@@ -28,16 +28,16 @@ class Lines(logging.Formatter):
 
 
 class JsonLines(logging.Formatter):
-    """Each message as a line of JSON: when it was said, how grave it is, and its text."""
+    """Each message as a line of JSON: its time, its level and its text."""
 
     def format(self, record: logging.LogRecord) -> str:
-        text = super().format(record)  # with what was raised, if anything was
+        text = super().format(record)  # with the exception, if there is one
         line = {'time': round(record.created, 3), 'level': record.levelname.lower(), 'message': text}
         return json.dumps(line, ensure_ascii=False)
 
 
 def write(text: bytes) -> None:
-    """Writes it on standard error, however long that takes, also if others made it not block. Raises OSError."""
+    """Writes this on standard error, however long it takes, also if somebody made that non-blocking. Raises OSError."""
     poll = select.poll()
     poll.register(STANDARD_ERROR, select.POLLOUT)
     while text:
@@ -47,7 +47,7 @@ def write(text: bytes) -> None:
 
 
 class Messages(logging.Handler):
-    """Writes messages, and never blocks who says them."""
+    """Writes messages, and never blocks the code that logs them."""
 
     def __init__(self, formatter: logging.Formatter) -> None:
         super().__init__()
@@ -67,7 +67,7 @@ class Messages(logging.Handler):
     def _tell_left_out(self) -> None:
         """Says how many messages were left out, if any were. Raises queue.Full."""
         if self._left_out:
-            told = f'{self._left_out} messages were left out, since nobody read them'
+            told = f'{self._left_out} messages were left out, because nobody read them'
             self._lines.put_nowait(self.format(logging.makeLogRecord({'levelname': 'WARNING', 'msg': told})))
             self._left_out = 0
 

@@ -1,4 +1,5 @@
-"""What a member tells over HTTP: a page for people, and its group for programs. Nothing can be changed by it."""
+"""What a member answers over HTTP: a page for people, its group as JSON, probes and metrics. Nothing can be changed
+there."""
 from __future__ import annotations
 
 import base64
@@ -22,25 +23,25 @@ from urllib.parse import parse_qs
 from .clocks import seconds_of_boot
 from .faults import BullyError
 from .hosts import BadRequest, Hosts, Target
-from .logs import LogError, Unanswered
-from .running import Member
+from .member import Member
+from .shared_log import LogError, Unanswered
 from .values import Status
 from .view import GroupView, LogView, NodeView
 from .worker import Workers
 
 _logger = logging.getLogger('bully')
 
-POLL_SECONDS = 25.0  # how long a request waits for news at most
-POLLS_MAX = 64  # requests that wait at one time
-LOOK_SECONDS = 0.1  # the log is looked at no more often, however many ask
-LOOK_MAX = 2.0  # seconds for which a request waits until another one has looked
-CONNECTIONS_MAX = 100  # at one time; of more the longest silent one is closed, or the new one, if all have asked
-ASK_SECONDS = 10.0  # that a connection may say nothing, or take nothing
-REST_SECONDS, REST_MAX = 1.0, 1_000_000  # for how long, and how many bytes, of a request are read which nobody wants
+POLL_SECONDS = 25.0  # the longest wait of a request for news
+POLLS_MAX = 64  # requests that wait at the same time
+SNAPSHOT_SECONDS = 0.1  # between two snapshots of the log, at least, however many requests there are
+SNAPSHOT_MAX = 2.0  # seconds for which a request waits until another one has read a snapshot
+CONNECTIONS_MAX = 100  # at the same time; one more closes the longest silent one, or itself if all have asked
+ASK_SECONDS = 10.0  # for which a connection may send nothing, or take nothing
+REST_SECONDS, REST_MAX = 1.0, 1_000_000  # for how long, and how many bytes, the unused rest of a request is read
 METHODS = 'GET, HEAD, OPTIONS'
 PARTITION = '/partitions/'  # and a number
-STATUSES = ('/livez', '/readyz', '/healthz', '/leader')  # what counts of these, and of a partition, is their status
-SHOWN = ('/', '/group', '/assignment')  # these tell how the log stands now
+STATUSES = ('/livez', '/readyz', '/healthz', '/leader')  # the answer of these, and of a partition, is the status
+SHOWN = ('/', '/group', '/assignment')  # these show the log as it is now
 PATHS = (*STATUSES, *SHOWN, '/metrics', '*')
 
 STYLE = """
@@ -82,12 +83,12 @@ SCRIPT_SUM = base64.b64encode(hashlib.sha256(SCRIPT.encode()).digest()).decode()
 SOURCES = f"default-src 'none'; style-src 'unsafe-inline'; script-src 'sha256-{SCRIPT_SUM}'; connect-src 'self'"
 POLICY = f"{SOURCES}; frame-ancestors 'none'"
 
-Answer = tuple[int, str, str]  # the status, the kind and the text
+Answer = tuple[int, str, str]  # the status, the content type and the text
 
 
 class Known(NamedTuple):
-    """What is known of a group, if anything is; how many seconds ago it was read; and whether the store answered when
-    it was asked last."""
+    """What is known of a group, if anything is; how many seconds ago it was read; and whether the store answered the
+    last read."""
 
     group: GroupView | None
     age: float
@@ -100,8 +101,8 @@ def told(status: int, text: str) -> Answer:
 
 
 def page_of(name: str, group: GroupView, told_worker: str) -> str:
-    """The page of the member of this name, with what is told of its worker."""
-    present = sum(node.is_present for node in group.nodes)
+    """The page of the member of this name, with a text about its worker."""
+    live = sum(node.is_live for node in group.nodes)
     title = f'{html.escape(name)}: token {group.token or "-"}, coordinator {html.escape(group.coordinator or "-")}'
     return (
         '<!doctype html><html lang="en"><meta charset="utf-8"><meta name="viewport" content="width=device-width">'
@@ -109,7 +110,7 @@ def page_of(name: str, group: GroupView, told_worker: str) -> str:
         f'<body data-events="{group.events}" data-epoch="{group.epoch}"><h1>Group, as {html.escape(name)} sees it</h1>'
         f'<p class="small">coordinator <b>{html.escape(group.coordinator or "none")}</b>, '
         f'token <b>{group.token or "none"}</b>, {group.events} events in epoch {group.epoch}, '
-        f'{present} of {len(group.nodes)} nodes present{html.escape(group.told_more + told_worker)}</p>'
+        f'{live} of {len(group.nodes)} nodes live{html.escape(group.told_more + told_worker)}</p>'
         f'<h2>Nodes</h2>{nodes_of(group)}<h2>Partitions</h2>{partitions_of(group)}'
         f'<h2>Last events</h2>{last_of(group)}</body><script>{SCRIPT}</script></html>'
     )
@@ -118,7 +119,7 @@ def page_of(name: str, group: GroupView, told_worker: str) -> str:
 def nodes_of(group: GroupView) -> str:
     """The table of the nodes."""
     rows = ''.join(map(row_of, group.nodes))
-    return f'<table><tr><th>node<th>status<th>present<th>coordinator<th>owns</tr>{rows}</table>'
+    return f'<table><tr><th>node<th>status<th>live<th>coordinator<th>owns</tr>{rows}</table>'
 
 
 def row_of(node: NodeView) -> str:
@@ -126,7 +127,7 @@ def row_of(node: NodeView) -> str:
     status = str(node.status)
     owns = ' '.join(map(str, node.partitions)) or '-'
     return (
-        f'<tr><td>{html.escape(node.name)}<td><span class="dot {status}"></span>{status}<td>{node.told_present}'
+        f'<tr><td>{html.escape(node.name)}<td><span class="dot {status}"></span>{status}<td>{node.told_live}'
         f'<td>{html.escape(node.coordinator or "-")}<td>{owns}</tr>'
     )
 
@@ -154,93 +155,93 @@ def labels(name: str) -> str:
 
 
 class Metrics:
-    """Lines for Prometheus."""
+    """The lines of metrics for Prometheus."""
 
     def __init__(self) -> None:
         self.lines: list[str] = []
 
     def tell(self, metric: str, about: str, values: list[tuple[str, float]], kind: str = 'gauge') -> None:
-        """A metric, with its values by their labels."""
+        """A metric, with its values by label."""
         self.lines.extend([f'# HELP {metric} {about}', f'# TYPE {metric} {kind}'])
         for node, value in values:
             self.lines.append(f'{metric}{node} {value:{"d" if isinstance(value, int) else ".3f"}}')
 
 
 def metrics_of(known: Known, name: str, sure_seconds: float, workers: Workers | None) -> str:
-    """The member, and the group as far as it is known, for Prometheus."""
+    """The metrics of the member, and of the group as far as it is known, for Prometheus."""
     metrics, mine = Metrics(), labels(name)
     tell = metrics.tell
-    tell('bully_store_up', 'Whether the store answered when it was asked last.', [('', known.is_answered)])
-    tell('bully_sure_seconds', 'For how long what this member owns is sure.', [(mine, sure_seconds)])
+    tell('bully_store_up', 'Whether the store answered the last read.', [('', known.is_answered)])
+    tell('bully_sure_seconds', 'For how many seconds the ownership of this member is sure.', [(mine, sure_seconds)])
     if workers is not None:
-        stopping, rest = [(mine, workers.stopping_seconds)], [(mine, workers.rest_seconds)]
-        tell('bully_stopping_seconds', 'For how long its worker has been told to stop, and has not.', stopping)
-        tell('bully_worker_rest_seconds', 'For how long its worker still rests, since it failed.', rest)
+        stopping, rest = [(mine, workers.stopping_seconds)], [(mine, workers.backoff_seconds)]
+        tell('bully_stopping_seconds', 'How many seconds ago its worker was told to stop, if it has not.', stopping)
+        tell('bully_worker_backoff_seconds', 'For how many seconds its worker still backs off after a failure.', rest)
     if known.group is not None:
-        tell('bully_group_age_seconds', 'How long ago what is told of the group was read.', [('', known.age)])
+        tell('bully_group_age_seconds', 'How many seconds ago the metrics of the group were read.', [('', known.age)])
         tell_group(tell, known.group)
     return '\n'.join(metrics.lines) + '\n'
 
 
 def tell_group(tell: Callable[..., None], group: GroupView) -> None:
-    """The group, for Prometheus."""
+    """The metrics of the group, for Prometheus."""
 
     def nodes(value: Callable[[NodeView], float]) -> list[tuple[str, float]]:
         return [(labels(node.name), value(node)) for node in group.nodes]
 
     names = dict.fromkeys([*(node.name for node in group.nodes), *group.behind])
     tell('bully_epoch', 'The current epoch.', [('', group.epoch)])
-    tell('bully_events_total', 'Events of the current epoch.', [('', group.events)], 'counter')
-    tell('bully_token', 'The token of the last plan; 0: there is none.', [('', group.token or 0)])
-    tell('bully_node_present', 'Whether the node holds a presence.', nodes(lambda node: node.is_present))
+    tell('bully_events_total', 'The number of events in the current epoch.', [('', group.events)], 'counter')
+    tell('bully_token', 'The token of the last plan; 0 if there is none.', [('', group.token or 0)])
+    tell('bully_node_live', 'Whether the node is live: a session holds its lease.', nodes(lambda node: node.is_live))
     tell('bully_drained', 'Whether the node is drained.', nodes(lambda node: node.is_drained))
     fails, gave_up = nodes(lambda node: node.is_failing), nodes(lambda node: node.gave_up)
-    tell('bully_worker_failing', 'Whether the worker of the node fails: it owns something, or gave up.', fails)
-    tell('bully_gave_up', 'Whether the node gave up what it owned, since its worker fails.', gave_up)
+    tell('bully_worker_failing', 'Whether the worker of the node fails, and the node owns something or gave up.', fails)
+    tell('bully_gave_up', 'Whether the node gave up what it owned because its worker fails.', gave_up)
     tell('bully_paused', 'Whether the group is paused.', [('', group.is_paused)])
     tell('bully_node_normal', 'Whether the node is Normal.', nodes(lambda node: node.status is Status.NORMAL))
     tell('bully_node_leads', 'Whether the node is the coordinator.', nodes(lambda node: node.name == group.coordinator))
-    tell('bully_node_partitions', 'Partitions that the node owns.', nodes(lambda node: len(node.partitions)))
+    tell('bully_node_partitions', 'How many partitions the node owns.', nodes(lambda node: len(node.partitions)))
     behind = [(labels(each), group.behind.get(each, 0.0)) for each in names]
-    tell('bully_idle_behind_seconds', 'For how long the others wait until the node is idle.', behind)
-    tell('bully_partitions_free', 'Partitions that nobody may work on now.', [('', group.owners.count(None))])
+    tell('bully_idle_behind_seconds', 'For how many seconds the others have waited for the node to be idle.', behind)
+    tell('bully_partitions_free', 'How many partitions nobody may work on now.', [('', group.owners.count(None))])
 
 
 def asked_number(asked: dict[str, list[str]], name: str) -> int | None:
-    """The number that a query has by this name, if it has one of less than 10 digits."""
+    """The number of this name in a query, if there is one of less than 10 digits."""
     word = asked.get(name, [''])[0]
     return int(word) if word.isascii() and word.isdecimal() and len(word) < 10 else None
 
 
 class Reader:
-    """Looks at the log for all that ask. Threads share it."""
+    """Reads snapshots of the log for all requests. Threads share it."""
 
     def __init__(self, view: LogView) -> None:
         self._view, self._lock = view, threading.Lock()
-        self._known: tuple[GroupView, float] | None = None  # the last one, and when it was read
-        self._failure: LogError | BullyError | None = None  # of the last look
-        self._next = float('-inf')  # when it looks again
+        self._known: tuple[GroupView, float] | None = None  # the last group, and when it was read
+        self._failure: LogError | BullyError | None = None  # of the last snapshot
+        self._next = float('-inf')  # when it may read a snapshot again
         self._is_closed = False
         self._look()  # so that something is known
 
     def show(self) -> GroupView:
-        """The group by the last look. Raises what that raised; Unanswered, if one takes too long."""
-        if not self._lock.acquire(timeout=LOOK_MAX):
-            raise Unanswered(f'a look at the log takes longer than {LOOK_MAX:g} s')
+        """The group by the last snapshot. Raises what that raised; Unanswered if the snapshot takes too long."""
+        if not self._lock.acquire(timeout=SNAPSHOT_MAX):
+            raise Unanswered(f'a read of the log takes longer than {SNAPSHOT_MAX:g} s')
         try:
             if self._is_closed:
-                raise Unanswered('the member ends')
+                raise Unanswered('the member is ending')
             if seconds_of_boot() >= self._next:
                 self._look()
-                self._next = seconds_of_boot() + LOOK_SECONDS
+                self._next = seconds_of_boot() + SNAPSHOT_SECONDS
             if self._failure is not None or self._known is None:
-                raise self._failure or Unanswered('nobody has looked yet')
+                raise self._failure or Unanswered('no snapshot has been read yet')
             return self._known[0]
         finally:
             self._lock.release()
 
     def _look(self) -> None:
-        """What fails is told by the member alone, once: it may name servers and files."""
+        """Reads a snapshot. The member logs a failure, once: it may name servers and files, so no answer has it."""
         begun = seconds_of_boot()
         try:
             self._known, self._failure = (self._view.show(), begun), None
@@ -250,7 +251,7 @@ class Reader:
             self._failure = failure
 
     def known(self) -> Known:
-        """The same; or what was known of the group before, if the log can't be read."""
+        """The same; or the group as it was known before, if the log can't be read."""
         try:
             self.show()
             is_answered = True
@@ -262,8 +263,8 @@ class Reader:
         return Known(group, seconds_of_boot() - read, is_answered)
 
     def close(self) -> None:
-        """Nobody looks any more, and the view is closed unless a look hangs."""
-        is_free = self._lock.acquire(timeout=LOOK_MAX)
+        """Reads no more snapshots, and closes the view unless a snapshot hangs."""
+        is_free = self._lock.acquire(timeout=SNAPSHOT_MAX)
         self._is_closed = True
         if is_free:
             self._view.close()
@@ -271,7 +272,8 @@ class Reader:
 
 
 class Server(ThreadingHTTPServer):
-    """A server whose requests end with it. It has a bound of connections, and whoever asks at once gets through."""
+    """A server whose requests end with it. It has a bound on connections, and a client that asks at once gets
+    through."""
 
     daemon_threads = True
     block_on_close = False
@@ -279,12 +281,12 @@ class Server(ThreadingHTTPServer):
 
     def __init__(self, address: tuple[str, int], handler: Callable[..., BaseHTTPRequestHandler]) -> None:
         self.address_family = socket.AF_INET6 if ':' in address[0] else socket.AF_INET
-        self._open: dict[Any, bool] = {}  # connections, the oldest first, and whether they have asked
+        self._open: dict[Any, bool] = {}  # connections, the oldest first, and whether each has asked
         self._lock = threading.Lock()
         super().__init__(address, handler)
 
     def server_bind(self) -> None:
-        """Without a look-up of its name, which may take long."""
+        """Without a lookup of its name, which may take long."""
         socketserver.TCPServer.server_bind(self)
         self.server_name, self.server_port = str(self.server_address[0]), int(self.server_address[1])
 
@@ -299,7 +301,7 @@ class Server(ThreadingHTTPServer):
             return
         if closed is not None:
             with suppress(OSError):
-                closed.shutdown(socket.SHUT_RDWR)  # its thread ends by that
+                closed.shutdown(socket.SHUT_RDWR)  # this ends its thread
         super().process_request(request, client_address)
 
     def asks(self, request: Any) -> None:
@@ -314,13 +316,13 @@ class Server(ThreadingHTTPServer):
         super().shutdown_request(request)
 
     def handle_error(self, request: object, client_address: object) -> None:
-        """Who asked may be gone before the answer. All else is told."""
+        """The client may be gone before the answer. All other errors are logged."""
         if not isinstance(sys.exc_info()[1], OSError):
             _logger.exception('a request from %s failed', client_address)
 
 
 class Answers:
-    """What a member answers that hasn't read its log yet."""
+    """The answers of a member that hasn't read its log yet."""
 
     def __init__(self, name: str) -> None:
         """For the node of this name."""
@@ -337,23 +339,23 @@ class Answers:
         return self._shown(target) if target.path in SHOWN else told(404, 'there is no such page')
 
     def close(self) -> None:
-        """Nobody is answered any more."""
+        """Answers nothing any more."""
 
     def _live(self) -> Answer:
-        """Whether the process goes on, whatever its store does."""
+        """Whether the process runs, whatever its store does."""
         return told(200, 'alive')
 
     def _health(self) -> Answer:
-        """What the member knows, whether or not the store answers."""
-        return told(503, 'not present')
+        """The state of the member, whether or not the store answers."""
+        return told(503, 'not live')
 
     def _leader(self) -> Answer:
         """Whether its node is surely the coordinator now."""
-        return told(503, 'does not lead')
+        return told(503, 'the node does not lead')
 
     def _partition(self, word: str) -> Answer:
         """Whether it may work on this partition now."""
-        return told(503, 'may not work on it')
+        return told(503, 'this member may not work on it')
 
     def _metrics(self) -> Answer:
         return self._measured(Known(None, 0.0, False), 0.0, None)
@@ -362,12 +364,12 @@ class Answers:
         return 200, 'text/plain; version=0.0.4', metrics_of(known, self._name, sure_seconds, workers)
 
     def _shown(self, target: Target) -> Answer:
-        """How the log stands."""
+        """The log as it is now."""
         raise Unanswered('the store has not answered yet')
 
 
 class MemberAnswers(Answers):
-    """What a member answers."""
+    """The answers of a member."""
 
     def __init__(self, view: LogView, member: Member, workers: Workers) -> None:
         super().__init__(member.name)
@@ -385,15 +387,15 @@ class MemberAnswers(Answers):
 
     def _health(self) -> Answer:
         if self._workers.is_stuck:
-            return told(503, 'its worker does not end')
+            return told(503, 'its worker does not stop')
         if self._member.is_drained or self._member.gave_up:
             return told(200, 'drained' if self._member.is_drained else 'gave up: its worker fails')
         if self._workers.is_failing:
             return told(503, 'its worker fails')
-        return told(200, 'present') if self._sure_seconds() > 0 else super()._health()
+        return told(200, 'live') if self._sure_seconds() > 0 else super()._health()
 
     def _leader(self) -> Answer:
-        return told(200, 'leads') if self._member.leads else super()._leader()
+        return told(200, 'the node leads') if self._member.leads else super()._leader()
 
     def _partition(self, word: str) -> Answer:
         partitions = self._member.opening.settings.setup.partitions
@@ -402,7 +404,7 @@ class MemberAnswers(Answers):
         owned = self._member.assignment()
         if owned is None or int(word) not in owned.partitions:
             return super()._partition(word)
-        return told(200, f'may work on it by token {owned.token}')
+        return told(200, f'this member may work on it by token {owned.token}')
 
     def _metrics(self) -> Answer:
         return self._measured(self._reader.known(), self._sure_seconds(), self._workers)
@@ -411,7 +413,7 @@ class MemberAnswers(Answers):
         asked = parse_qs(target.query)
         events, epoch = asked_number(asked, 'after'), asked_number(asked, 'epoch')
         if events is not None and not self._waited(events, epoch):
-            return told(503, 'too many requests wait at one time')
+            return told(503, 'too many requests wait at the same time')
         group = self._reader.show()
         if target.path == '/':
             return 200, 'text/html', page_of(self._name, group, self._workers.about)
@@ -419,14 +421,15 @@ class MemberAnswers(Answers):
         return 200, 'application/json', json.dumps(document) + '\n'
 
     def _waited(self, events: int, epoch: int | None) -> bool:
-        """Waits for more events than these of this epoch, or of the current one; or in another. Or too many wait."""
+        """Waits until there are more events than these of this epoch, or of the current one; or another epoch. Returns
+        False if too many requests wait."""
         if not self._polls.acquire(blocking=False):
             return False
         try:
             end, group = seconds_of_boot() + POLL_SECONDS, self._reader.show()
             epoch = group.epoch if epoch is None else epoch
             while not self._is_closed and seconds_of_boot() < end and group.epoch == epoch and group.events <= events:
-                time.sleep(LOOK_SECONDS)
+                time.sleep(SNAPSHOT_SECONDS)
                 group = self._reader.show()
             return True
         finally:
@@ -449,11 +452,11 @@ class MemberAnswers(Answers):
 
 
 class Page:
-    """The server of a member."""
+    """The HTTP server of a member."""
 
     def __init__(self, address: tuple[str, int], name: str, allowed: Iterable[str] = ()) -> None:
-        """It listens at this address, and answers for the node of this name, from now on. Hosts are allowed beside
-        those of `hosts`. An OSError tells that it can't."""
+        """Listens at this address, and answers for the node of this name, from now on. Further hosts are allowed beside
+        those of `hosts`. Raises OSError if it can't listen."""
         self._answers = Answers(name)
         self._server = Server(address, functools.partial(PageHandler, self))
         self._hosts = Hosts(address[0], str(self._server.server_address[0]), allowed)
@@ -464,7 +467,7 @@ class Page:
         return int(self._server.server_address[1])
 
     def show(self, view: LogView, member: Member, workers: Workers) -> None:
-        """It answers by these from now on, and closes the view at its end."""
+        """Answers by these from now on, and closes the view at the end."""
         self._answers = MemberAnswers(view, member, workers)
 
     def close(self) -> None:
@@ -474,7 +477,7 @@ class Page:
         self._answers.close()
 
     def answer(self, method: str, words: str, headers: Message) -> Answer:
-        """The answer to a request by this method for this target."""
+        """The answer to a request with this method for this target."""
         try:
             target = Target.read(words)
             host = target.asked_host(headers.get_all('Host', []))
@@ -482,14 +485,14 @@ class Page:
         except BadRequest as fault:
             return told(400, str(fault))
         if not self._hosts.takes(host):
-            return told(403, 'this host is not allowed: --allow-host of bully-member run allows it')
+            return told(403, 'this host is not allowed; bully-member run --allow-host allows it')
         is_status = target.path in STATUSES or target.path.startswith(PARTITION)
         if method == 'OPTIONS' and not is_status:
             return told(204 if target.path in PATHS else 404, '')
         return self._answered(target)
 
     def _answered(self, target: Target) -> Answer:
-        """What goes wrong isn't told to strangers."""
+        """Errors of the log aren't shown to unknown clients."""
         try:
             return self._answers.answer(target)
         except Unanswered:
@@ -499,13 +502,13 @@ class Page:
 
 
 def check_length(told_lengths: list[str]) -> None:
-    """Raises BadRequest of a body whose length is none."""
+    """Raises BadRequest for a body with a bad length."""
     if len(set(told_lengths)) > 1 or not all(each.isascii() and each.isdecimal() for each in told_lengths):
-        raise BadRequest('the length is no number')
+        raise BadRequest('the length is not a number')
 
 
 class PageHandler(BaseHTTPRequestHandler):
-    """One connection, which has one request."""
+    """A connection, which has one request."""
 
     protocol_version = 'HTTP/1.1'
     default_request_version = 'HTTP/1.0'
@@ -516,11 +519,11 @@ class PageHandler(BaseHTTPRequestHandler):
 
     def __init__(self, page: Page, *arguments: Any) -> None:
         self.page = page
-        self._has_rest = False  # whether something of the request isn't read
+        self._has_rest = False  # whether a part of the request wasn't read
         super().__init__(*arguments)
 
     def parse_request(self) -> bool:
-        """Before HTTP/1.0 answers have no status, so that isn't answered."""
+        """Refuses versions before HTTP/1.0, whose answers have no status."""
         is_request = super().parse_request()
         if is_request and self.request_version.startswith('HTTP/0'):
             self.send_error(400)
@@ -535,10 +538,10 @@ class PageHandler(BaseHTTPRequestHandler):
     do_HEAD = do_OPTIONS = do_GET
 
     def send_error(self, code: int, message: str | None = None, explain: str | None = None) -> None:
-        """A request that is none, or whose method isn't known."""
+        """Answers a bad request, or one whose method isn't known."""
         self._has_rest, self.request_version = True, self.default_request_version
         status = {501: 405, 505: 400}.get(code, code)
-        self.send(*told(status, f'only {METHODS} are answered' if status == 405 else 'this is no request'))
+        self.send(*told(status, f'only {METHODS} are answered' if status == 405 else 'this is not a valid request'))
 
     def send(self, status: int, kind: str, text: str) -> None:
         content = b'' if self.command == 'OPTIONS' else text.encode('utf-8', 'replace')
@@ -559,7 +562,7 @@ class PageHandler(BaseHTTPRequestHandler):
             self.wfile.write(content)
 
     def finish(self) -> None:
-        """What isn't read of the request is taken and left: else the answer may be lost with it."""
+        """Reads and drops the rest of the request: otherwise the answer may be lost with it."""
         super().finish()
         with suppress(OSError):
             if self._has_rest:
@@ -574,4 +577,4 @@ class PageHandler(BaseHTTPRequestHandler):
             left, count = end - seconds_of_boot(), count - len(part) if part else 0
 
     def log_message(self, format: str, *args: object) -> None:
-        """Nothing is said of requests."""
+        """Requests aren't logged."""

@@ -2,7 +2,6 @@
 from __future__ import annotations
 
 import json
-import re
 from collections.abc import Iterator
 from dataclasses import dataclass
 
@@ -12,28 +11,18 @@ from .library import Room, loaded
 
 
 class ConfigFault(Exception):
-    """A configuration's first fault."""
-
-
-def shown_name(name: str | None) -> str:
-    """A name for a terminal: what can't be printed, and marks of direction, are shown as `?`."""
-    return ''.join(each if each.isprintable() else '?' for each in name or '-')
-
-
-def shown_address(address: str) -> str:
-    """An address for people: without a user and a password, which it may not have."""
-    return shown_name(re.sub(r'^(\w+://)?.*@', r'\1..@', address, flags=re.DOTALL))
+    """The first fault of a configuration."""
 
 
 @dataclass(frozen=True)
 class Settings:
-    """A group, with the names of its nodes."""
+    """The setup of a group, and the names of its nodes."""
 
     setup: Setup
     names: tuple[str, ...]
 
     def number(self, name: str) -> int:
-        """The node of this name. Raises a KeyError."""
+        """The number of the node of this name. Raises KeyError."""
         return {each: number for number, each in enumerate(self.names, 1)}[name]
 
     def name(self, node: int) -> str:
@@ -49,7 +38,7 @@ class Settings:
 
 
 def read_settings(text: bytes) -> Settings:
-    """The settings that this document has. Raises ConfigFault, with the first fault as docs/FORMATS.md has them."""
+    """The settings of this document. Raises ConfigFault with the first fault, as docs/FORMATS.md names it."""
     try:
         told = Room().text(loaded().bully_configuration, text, len(text)).encode()
     except BadConfig as fault:
@@ -59,7 +48,7 @@ def read_settings(text: bytes) -> Settings:
 
 
 def names_in(lines: bytes) -> Iterator[str]:
-    """The names of these lines, each behind how many bytes it has and a colon."""
+    """The names of these lines. Each follows its length in bytes and a colon."""
     while lines:
         length, _, rest = lines.partition(b':')
         yield rest[: int(length)].decode()

@@ -1,8 +1,7 @@
-"""The store of a shared log in a file of SQLite, which the processes of one machine share: `SqliteLog`.
+"""A log in a file of SQLite, which the processes of one machine share: `SqliteLog`.
 
-Presences are over once the machine boots again, so what is written of them need not reach the disk; what is appended
-does. `changes` counts what happens to presences, so that who waits need not look at all of them each time that one is
-renewed.
+Leases end when the machine boots again, so what is written of them need not reach the disk; an append must. `changes`
+counts what happens to leases, so that a wait needn't read all of them each time one is renewed.
 """
 from __future__ import annotations
 
@@ -17,33 +16,34 @@ from urllib.parse import quote
 
 from .boots import boot_name, machine_boot, moments
 from .clocks import SECOND, nanoseconds_of_boot, sleep_until_ready, wall_clock
-from .epochs import Opening
-from .files import (
-    NEW, OWNER_ALONE, beside, identity, keep_name, make, remove, see_alone, see_disk, told_holder, told_owner,
+from .core import Promise, Session, Until
+from .encoding import (
+    BY_HISTORY, log_name, maintenance_of, no_epoch, opening_of, requested_of, rows_of, rows_text, see_end, session_of,
+    session_text,
 )  # fmt: skip
-from .logs import (
-    BadPresence, DamagedLog, DiskFull, ForeignLog, Found, Holder, Lives, LogBusy, LogExists, OtherLog, ReadOnlyLog,
+from .epochs import Opening
+from .maintenance import Maintenance
+from .repair import Kept
+from .shared_log import (
+    BadLease, DamagedLog, DiskFull, ForeignLog, Holder, LogBusy, LogExists, OtherLog, ReadOnlyLog, Sessions, Snapshot,
     Unanswered, are_idle,
 )  # fmt: skip
-from .member import Life, Promise, Until
-from .orders import Orders
-from .repairing import Kept
-from .stored import (
-    BY_HISTORY, life_of, life_text, log_name, no_epoch, opening_of, orders_of, rows_of, rows_text, see_end, wish_of,
+from .sqlite_file import (
+    NEW, OWNER_ALONE, beside, identity, keep_name, make, remove, see_alone, see_disk, told_holder, told_owner,
 )  # fmt: skip
 from .values import Rows
 
 APPLICATION = 0x62756C79  # of a file with a log: `buly`
 FORM = 3  # of its tables
-SHORTEST_SLEEP, LONGEST_SLEEP = 0.001, 0.05  # seconds between two looks at a file
-SIGHT = SECOND // 4  # nanoseconds from one look at which files are there to the next, at most
+SHORTEST_SLEEP, LONGEST_SLEEP = 0.001, 0.05  # seconds between two polls of a file
+SIGHT = SECOND // 4  # nanoseconds between two checks of which files are there, at most
 PRUNED_AT_ONCE = 100  # appends
 NEVER = 2**63 - 1
 
-# `changes` has the name of the log and its orders, too, and `boots` which boots of the machine have used it, one behind
-# the other: an earlier one is over, but for other time namespaces of the same one, which may come again. A record of
-# the log has the rows of one append, each with its line end, the place that these stand behind, and when that was done.
-# Of an epoch that was taken away the opening is left, without a count.
+# `changes` also has the name of the log and the maintenance. `boots` has the boots of the machine that have used the
+# log, in order: an earlier one is over, unless it is another time namespace of the same boot, which may come again. A
+# record of `log` has the rows of one append, each with its line end, the offset of the first one, and the time of the
+# append. An epoch that was pruned keeps its opening, without a count.
 TABLES = """
 create table epochs (epoch integer primary key, opening text not null, wish text, count integer);
 create table log (epoch integer, place integer, rows text not null, time integer, primary key (epoch, place));
@@ -54,12 +54,12 @@ create table presence (
 create table changes (name text not null, lives integer not null, promises integer not null, orders text not null);
 create table boots (number integer primary key, boot text not null unique);
 """
-# Of nodes whose work fails. It is made with the first note: a log that an older version made has none before that.
+# The notes of nodes whose work fails. The first note makes the table: a log of an older version has none before that.
 FAILING = 'create table if not exists failing (name text primary key, gave_up integer not null)'
-OTHER_CLOCK = 'another time namespace holds presences: its members have to share one, /proc/self/ns/time'
-OTHER_BOOT = 'another boot uses it behind this one: its members have to see one /proc/sys/kernel/random/boot_id'
+OTHER_CLOCK = 'another time namespace holds leases: all members must share one, /proc/self/ns/time'
+OTHER_BOOT = 'another boot has used it after this one: all members must see one /proc/sys/kernel/random/boot_id'
 
-# What SQLite says, by a part of its message, and what that means. The first that fits counts.
+# Errors of SQLite, by a part of the message, and what they mean. The first that matches counts.
 MEANINGS = (
     ('not a database', ForeignLog), ('malformed|no such|decode', DamagedLog), ('read-?only', ReadOnlyLog),
     ('locked|busy', LogBusy), ('is full', DiskFull), ('unable to open', ReadOnlyLog),
@@ -67,19 +67,19 @@ MEANINGS = (
 
 
 def connection(path: str, patience: float, mode: str = 'rw') -> sqlite3.Connection:
-    """A connection to this file, in which each statement is by itself if no transaction is begun."""
+    """A connection to this file. Each statement is a transaction of its own unless one is begun."""
     name = f'file:{quote(os.path.abspath(path))}?mode={mode}'
     return sqlite3.connect(name, timeout=patience, isolation_level=None, check_same_thread=False, uri=True)
 
 
 def open_epoch(file: sqlite3.Connection, opening: Opening) -> None:
-    """The epoch begins with this opening."""
+    """Starts the epoch of this opening."""
     file.execute('insert into epochs values (?, ?, null, 0)', (opening.epoch, opening.text()))
 
 
 @contextmanager
 def calls(path: str) -> Iterator[None]:
-    """Calls of SQLite on this file. Their errors are told as what they mean."""
+    """Calls of SQLite on this file. Its errors are raised as what they mean."""
     try:
         yield
     except sqlite3.Error as error:
@@ -99,69 +99,72 @@ def form_of(path: str, file: sqlite3.Connection) -> int:
     return int(file.execute('pragma user_version').fetchone()[0])
 
 
-def holder_of(where: str, name: str, life: str, epoch: int, place: int, until: int) -> Holder:
-    """Who holds the presence of that name, as a row of a table tells it. Raises BadPresence."""
+def holder_of(where: str, name: str, session: str, epoch: int, offset: int, until: int) -> Holder:
+    """The holder of the lease of that name, from a row of a table. Raises BadLease."""
     try:
         if not isinstance(until, int):
-            raise ValueError(f'{until!r} is no time')
-        return Holder(life_of(life), Promise(int(epoch), int(place)))
+            raise ValueError(f'{until!r} is not a time')
+        return Holder(session_of(session), Promise(int(epoch), int(offset)))
     except (ValueError, TypeError) as fault:
-        raise BadPresence(f'{where}: the presence of {name} is none: {fault}') from fault
+        raise BadLease(f'{where}: the lease of {name} can not be read: {fault}') from fault
 
 
 class Standing(NamedTuple):
-    """How a log stands: its end, what is wished for and ordered, its name, its last boot, and counts of changes."""
+    """The state of a log but for its rows and leases: its end, the requested settings, the maintenance, its name, its
+    last boot, and counts of changes."""
 
     end: Promise
-    wish: str | None
-    orders: str
+    requested: str | None
+    maintenance: str
     name: str
     boot: str | None
-    lives: int
+    sessions: int
     promises: int
 
     @property
     def wanted(self) -> tuple[str | None, str]:
-        return self.wish, self.orders
+        return self.requested, self.maintenance
 
 
 class SqliteLog:
-    """A log in a file of SQLite: no file of a network. One thread at a time uses it, and no child by fork."""
+    """A log in a file of SQLite, which may not be on a network. Only one thread at a time may use it, and no child by
+    fork."""
 
     def __init__(self, path: os.PathLike[str] | str, patience: float = 1.0, reads: bool = False) -> None:
-        """The log of this file, which `create` made. Each call waits so many seconds for others; a reader for nobody.
+        """Opens the log of this file, which `create` made. Each call waits for others for so many seconds; a reader
+        waits for nobody.
 
         Raises NoLog, ForeignLog, DamagedLog, ReadOnlyLog, Unanswered."""
         self.path = os.fspath(path)
         self._identity = identity(self.path)
-        self._real = os.path.realpath(self.path)  # beside which the others are, also if the path is a symbolic link
-        self._beside: list[tuple[int, int]] | None = None  # once it is used
+        self._real = os.path.realpath(self.path)  # the other files are beside it, also if the path is a symbolic link
+        self._beside: list[tuple[int, int]] | None = None  # these files, once the log is used
         see_alone(self.path)
         self._boot = boot_name()
-        self._sight = 0  # when it is to be looked again which files are there
+        self._sight = 0  # when it must check again which files are there
         self._name = ''  # of the log, once it is known
-        self._present: dict[str, Life] = {}  # who was present when that was looked at last
+        self._live: dict[str, Session] = {}  # who was live when leases were last read
         self._seen_wanted: tuple[str | None, str] = None, ''
         self._seen_idle: tuple[Promise, frozenset[str]] = (Promise(), frozenset())
         self._has_notes = False  # whether there is a table of nodes whose work fails
-        self._lives = -1  # the count of changes then
-        self._earliest = 0  # before then none of these presences ends
+        self._sessions = -1  # the count of changes then
+        self._earliest = 0  # none of these leases ends before
         self._version = self._promises = -1  # of what a wait saw last
-        self._sleep = SHORTEST_SLEEP  # of a wait, up to its next look
+        self._sleep = SHORTEST_SLEEP  # between two polls of a wait
         with calls(self.path):
             self._file = connection(self.path, patience)
         try:
-            self._open('deferred' if reads else 'immediate')  # so that a file that can't be written is found at once
+            self._open('deferred' if reads else 'immediate')  # so that it notices at once a file that can't be written
         except BaseException:
             self._file.close()
             raise
 
     @staticmethod
     def create(path: os.PathLike[str] | str, opening: Opening, mode: int = OWNER_ALONE) -> SqliteLog:
-        """Makes the file, of this mode, with a log that begins so. The log. If that is killed there is all of it, or
-        none. Raises LogExists, ForeignLog, ReadOnlyLog, DiskFull, Unanswered."""
+        """Makes the file, with this mode, with a log that has this opening, and opens it. If the process is killed
+        there is all of it, or nothing. Raises LogExists, ForeignLog, ReadOnlyLog, DiskFull, Unanswered."""
         name = os.fspath(path)
-        room = f'{name}.{log_name()}{NEW}'  # processes of two containers may have one number
+        room = f'{name}.{log_name()}{NEW}'  # processes of two containers may have the same number
         try:
             see_disk(os.path.dirname(name) or '.')
             make(room, mode)
@@ -186,10 +189,10 @@ class SqliteLog:
             if form != FORM:
                 version, more = ('an older', BY_HISTORY) if form < FORM else ('another', '')
                 by = f'{form}, by {version} version'
-                raise ForeignLog(f'{self.path}: a log of form {by}, and not of form {FORM}{more}')
+                raise ForeignLog(f'{self.path}: a log of form {by}, not of form {FORM}{more}')
             mode = self._file.execute('pragma journal_mode = wal').fetchone()[0]
             if mode != 'wal':
-                raise ForeignLog(f'{self.path}: SQLite keeps a journal of mode {mode} here, and cannot keep a -wal')
+                raise ForeignLog(f'{self.path}: SQLite keeps a journal of mode {mode} here, and can not keep a -wal')
             self._file.execute('pragma synchronous = normal')
         with self._transaction(kind) as standing:
             self._name = standing.name
@@ -210,32 +213,32 @@ class SqliteLog:
                 raise no_epoch(self.path, number, self.epochs())
         return opening_of(self.path, number, found[0])
 
-    def finish(self, epoch: int, place: int, opening: Opening) -> bool:
+    def roll_over(self, epoch: int, offset: int, opening: Opening) -> bool:
         with self._syncing() as standing:
-            if not self._may_append(standing, Promise(epoch, place)):
+            if not self._may_append(standing, Promise(epoch, offset)):
                 return False
-            if opening.bare != self.opening(epoch).after(wish_of(self.path, epoch, standing.wish)):
+            if opening.bare != self.opening(epoch).after(requested_of(self.path, epoch, standing.requested)):
                 return False
             open_epoch(self._file, opening)
             self._file.execute('update epochs set wish = null where epoch = ?', (epoch,))
         return True
 
-    def ask(self, wish: Opening, epoch: int) -> bool:
+    def ask(self, requested: Opening, epoch: int) -> bool:
         with self._syncing() as standing:
-            if epoch != standing.end.epoch or wish.epoch != epoch + 1:
+            if epoch != standing.end.epoch or requested.epoch != epoch + 1:
                 return False
-            self._file.execute('update epochs set wish = ? where epoch = ?', (wish.bare.text(), epoch))
+            self._file.execute('update epochs set wish = ? where epoch = ?', (requested.bare.text(), epoch))
         return True
 
     def cancel(self, epoch: int) -> None:
         with self._syncing():
             self._file.execute('update epochs set wish = null where epoch = ?', (epoch,))
 
-    def order(self, orders: Orders, before: Orders | None) -> bool:
+    def set_maintenance(self, maintenance: Maintenance, before: Maintenance | None) -> bool:
         with self._syncing() as standing:
-            if before is not None and before != orders_of(self.path, standing.orders):
+            if before is not None and before != maintenance_of(self.path, standing.maintenance):
                 return False
-            self._file.execute('update changes set orders = ?', (orders.text(),))
+            self._file.execute('update changes set orders = ?', (maintenance.text(),))
         return True
 
     def note(self, name: str, gave_up: bool | None) -> None:
@@ -245,17 +248,18 @@ class SqliteLog:
             if gave_up is not None:
                 self._file.execute('insert into failing values (?, ?)', (name, gave_up))
 
-    def give_up(self, name: str, heir: str, life: Life) -> bool:
+    def give_up(self, name: str, heir: str, session: Session) -> bool:
         with self._transaction():
             self._file.execute(FAILING)
             noted = self._one('select count(*) from failing where name = ?', heir)
-            if noted or self._promised(heir, life, nanoseconds_of_boot()) is None:
+            if noted or self._promised(heir, session, nanoseconds_of_boot()) is None:
                 return False
             self._file.execute('insert or replace into failing values (?, ?)', (name, True))
         return True
 
     def prune(self, first: int) -> None:
-        """The epochs are gone at once. Their rows are so a part at a time, so that nobody waits for long."""
+        """The epochs are gone at once. Their rows are removed afterwards, a part at a time, so that nobody waits for
+        long."""
         with self._transaction() as standing:
             first = min(first, standing.end.epoch)
             self._file.execute('update epochs set count = null where epoch < ?', (first,))
@@ -264,9 +268,9 @@ class SqliteLog:
             while self._file.execute(asked, (first, PRUNED_AT_ONCE)).rowcount:
                 time.sleep(SHORTEST_SLEEP)  # others have their turn
 
-    # Presences.
+    # Leases.
 
-    def take(self, name: str, life: Life, promise: Promise, ttl: int) -> bool:
+    def acquire(self, name: str, session: Session, promise: Promise, ttl: int) -> bool:
         with self._transaction() as standing:
             now = nanoseconds_of_boot()
             asked = 'select count(*) from presence where name = ? and boot = ? and until > ?'
@@ -274,84 +278,85 @@ class SqliteLog:
                 return False
             if standing.boot != self._boot:
                 self._enter_boot(standing, now)
-            held = name, life_text(life), promise.epoch, promise.place, self._boot, now, now + ttl
+            held = name, session_text(session), promise.epoch, promise.offset, self._boot, now, now + ttl
             self._file.execute('insert or replace into presence values (?, ?, ?, ?, ?, ?, ?)', held)
             self._file.execute('update changes set lives = lives + 1')
         return True
 
     def _enter_boot(self, standing: Standing, now: int) -> None:
-        """This boot uses the log from now on. Raises LogBusy, ForeignLog, if another one may still hold presences."""
+        """This boot uses the log from now on. Raises LogBusy or ForeignLog if another boot may still hold leases."""
         self._see_others(standing, now)
-        # A version that doesn't know of time namespaces finds its boot there, and another one behind it.
+        # A version that doesn't know time namespaces finds its boot there, and another one after it.
         self._file.execute('insert or ignore into boots (boot) values (?)', (machine_boot(self._boot),))
         self._file.execute('delete from boots where boot = ?', (self._boot,))
         self._file.execute('insert into boots (boot) values (?)', (self._boot,))
 
     def _see_others(self, standing: Standing, now: int) -> None:
-        """Raises LogBusy, if another boot may hold presences; ForeignLog, if another time namespace of this one does."""
+        """Raises LogBusy if another boot may hold leases; ForeignLog if another time namespace of this boot does."""
         if standing.boot != self._boot and self._are_elsewhere(now):
             if self._is_same_boot(standing):
                 raise ForeignLog(f'{self.path}: {OTHER_CLOCK}')
-            raise LogBusy(f'{self.path}: another boot may still hold presences')
+            raise LogBusy(f'{self.path}: another boot may still hold leases')
 
     def _is_same_boot(self, standing: Standing) -> bool:
-        """Whether the log was used last in this boot of the machine, though maybe in another time namespace."""
+        """Whether the log was last used in this boot of the machine, maybe in another time namespace."""
         return machine_boot(standing.boot or '') == machine_boot(self._boot)
 
     def _are_elsewhere(self, now: int) -> bool:
-        """Whether another boot may hold presences, by this clock: those of earlier boots are mostly of other times."""
+        """Whether another boot may hold leases, by this clock: leases of earlier boots mostly have other times."""
         others = self._file.execute('select distinct boot from presence where boot != ?', (self._boot,)).fetchall()
         asked = 'select count(*) from presence where boot = ? and since <= ? and until > ?'
         there = [(boot, moment) for boot, in others for moment in moments(now, self._boot, str(boot))]
         return any(self._one(asked, boot, moment, moment) for boot, moment in there)
 
-    def renew(self, name: str, life: Life, ttl: int) -> bool:
+    def renew(self, name: str, session: Session, ttl: int) -> bool:
         with self._transaction():
             now = nanoseconds_of_boot()
-            if self._promised(name, life, now) is None:
+            if self._promised(name, session, now) is None:
                 return False
             self._file.execute('update presence set since = ?, until = ? where name = ?', (now, now + ttl, name))
         return True
 
-    def release(self, name: str, life: Life) -> None:
+    def release(self, name: str, session: Session) -> None:
         with self._transaction():
-            if self._file.execute('delete from presence where name = ? and life = ?', (name, life_text(life))).rowcount:
+            asked = 'delete from presence where name = ? and life = ?'
+            if self._file.execute(asked, (name, session_text(session))).rowcount:
                 self._file.execute('update changes set lives = lives + 1')
 
-    def promise(self, name: str, life: Life, promise: Promise) -> bool:
+    def promise(self, name: str, session: Session, promise: Promise) -> bool:
         with self._transaction():
-            promised = self._promised(name, life, nanoseconds_of_boot())
+            promised = self._promised(name, session, nanoseconds_of_boot())
             if promised is None:
                 return False
             later = max(promise, promised)
             asked = 'update presence set epoch = ?, place = ? where name = ?'
-            self._file.execute(asked, (later.epoch, later.place, name))
+            self._file.execute(asked, (later.epoch, later.offset, name))
             self._file.execute('update changes set promises = promises + 1')
         return True
 
-    def _promised(self, name: str, life: Life, now: int) -> Promise | None:
-        """What the life has promised that holds the presence of this name, if that is this one."""
+    def _promised(self, name: str, session: Session, now: int) -> Promise | None:
+        """The promise of the session, if it holds the lease of this name."""
         asked = 'select epoch, place from presence where name = ? and life = ? and boot = ? and until > ?'
-        found = self._file.execute(asked, (name, life_text(life), self._boot, now)).fetchone()
+        found = self._file.execute(asked, (name, session_text(session), self._boot, now)).fetchone()
         return Promise(*found) if found else None
 
     def _see_files(self) -> None:
-        """Raises OtherLog, if another file is in the place of one of its own: then there may be two histories."""
+        """Raises OtherLog if another file is in the place of one of its own: there may be two histories then."""
         if identity(self.path) != self._identity:
-            raise OtherLog(f'{self.path}: another file is in its place')
+            raise OtherLog(f'{self.path}: there is another file in its place')
         if self._beside not in (None, beside(self._real)):
-            raise OtherLog(f'{self.path}: its -wal or its -shm was taken away, and others go on in another one')
+            raise OtherLog(f'{self.path}: its -wal or its -shm was removed, and others use another one')
         self._sight = nanoseconds_of_boot() + SIGHT
 
     # The log.
 
-    def append(self, epoch: int, place: int, rows: Sequence[str]) -> bool:
+    def append(self, epoch: int, offset: int, rows: Sequence[str]) -> bool:
         text = rows_text(rows)
         with self._syncing() as standing:
-            if not self._may_append(standing, Promise(epoch, place)):
+            if not self._may_append(standing, Promise(epoch, offset)):
                 return False
-            self._file.execute('insert into log values (?, ?, ?, ?)', (epoch, place, text, wall_clock()))
-            self._file.execute('update epochs set count = ? where epoch = ?', (place + len(rows), epoch))
+            self._file.execute('insert into log values (?, ?, ?, ?)', (epoch, offset, text, wall_clock()))
+            self._file.execute('update epochs set count = ? where epoch = ?', (offset + len(rows), epoch))
         return True
 
     def _may_append(self, standing: Standing, here: Promise) -> bool:
@@ -360,33 +365,33 @@ class SqliteLog:
 
     def _are_idle(self, until: Until, here: Promise) -> bool:
         asked = 'select name, epoch, place from presence where boot = ? and until > ?'
-        promises = {name: place for name, *place in self._file.execute(asked, (self._boot, nanoseconds_of_boot()))}
+        promises = {name: offset for name, *offset in self._file.execute(asked, (self._boot, nanoseconds_of_boot()))}
         known, idle = self._seen_idle
-        return are_idle(until, promises, [here.epoch, here.place], idle if known == here else frozenset())
+        return are_idle(until, promises, [here.epoch, here.offset], idle if known == here else frozenset())
 
-    def read(self, epoch: int, place: int) -> Rows:
+    def read(self, epoch: int, offset: int) -> Rows:
         with self._transaction('deferred') as standing:
             found = self._file.execute('select count from epochs where epoch = ?', (epoch,)).fetchone()
             if found is None or found[0] is None:
                 raise no_epoch(self.path, epoch, self.epochs())
-            see_end(self.path, standing.end, Promise(epoch, place))
-            return self._rows(epoch, place, found[0])
+            see_end(self.path, standing.end, Promise(epoch, offset))
+            return self._rows(epoch, offset, found[0])
 
     def times(self, epoch: int) -> dict[int, int | None]:
         with calls(self.path):
             return dict(self._file.execute('select place, time from log where epoch = ?', (epoch,)).fetchall())
 
-    def _rows(self, epoch: int, place: int, count: int) -> Rows:
-        """The rows of an epoch that has so many, behind that place."""
-        if place >= count:
+    def _rows(self, epoch: int, offset: int, count: int) -> Rows:
+        """The rows of an epoch after that offset; the epoch has `count` rows."""
+        if offset >= count:
             return Rows('')
-        first = self._one('select coalesce(max(place), 0) from log where epoch = ? and place <= ?', epoch, place)
+        first = self._one('select coalesce(max(place), 0) from log where epoch = ? and place <= ?', epoch, offset)
         asked = 'select rows from log where epoch = ? and place >= ? order by place'
         texts = [str(text) for text, in self._file.execute(asked, (epoch, first))]
         rows = rows_of(self.path, epoch, first, ''.join(texts))
         if len(rows) != count - first:
-            raise DamagedLog(f'{self.path}: rows are missing behind place {place}')
-        return rows.behind(place - first)
+            raise DamagedLog(f'{self.path}: rows are missing after offset {offset}')
+        return rows.behind(offset - first)
 
     def kept(self) -> Kept:
         with self._transaction('deferred') as standing:
@@ -396,8 +401,8 @@ class SqliteLog:
     def cut(self, end: Promise, append: int, text: str, opening: Opening) -> bool:
         with self._syncing() as standing:
             now = nanoseconds_of_boot()
-            present = self._one('select count(*) from presence where boot = ? and until > ?', self._boot, now)
-            if standing.end != end or present or self._are_elsewhere(now):
+            live = self._one('select count(*) from presence where boot = ? and until > ?', self._boot, now)
+            if standing.end != end or live or self._are_elsewhere(now):
                 return False
             self._file.execute('delete from log where epoch = ? and place >= ?', (end.epoch, append + bool(text)))
             self._file.execute('update log set rows = ? where epoch = ? and place = ?', (text, end.epoch, append))
@@ -406,63 +411,67 @@ class SqliteLog:
             open_epoch(self._file, opening)
         return True
 
-    # Looks and waits.
+    # Snapshots and waits.
 
-    def look(self, epoch: int, place: int) -> Found:
+    def snapshot(self, epoch: int, offset: int) -> Snapshot:
         with self._transaction('deferred') as standing:
             end = standing.end
-            see_end(self.path, end, Promise(epoch, place))
-            rows = self._rows(epoch, place, end.place) if epoch == end.epoch else Rows('')
-            wish, orders = wish_of(self.path, end.epoch, standing.wish), orders_of(self.path, standing.orders)
-            found = Found(end.epoch, rows, self._look_around(standing), wish, orders, self._failing())
+            see_end(self.path, end, Promise(epoch, offset))
+            rows = self._rows(epoch, offset, end.offset) if epoch == end.epoch else Rows('')
+            requested = requested_of(self.path, end.epoch, standing.requested)
+            maintenance = maintenance_of(self.path, standing.maintenance)
+            found = Snapshot(end.epoch, rows, self._look_around(standing), requested, maintenance, self._failing())
         self._seen_wanted, self._seen_idle = standing.wanted, (end, found.idle(end))
         return found
 
     def _look_around(self, standing: Standing) -> dict[str, Holder]:
-        """Who is present. It is noted."""
+        """Who holds a lease, which it keeps for waits."""
         now = nanoseconds_of_boot()
         self._see_others(standing, now)
         asked = 'select name, life, epoch, place, until from presence where boot = ? and until > ?'
         found = self._file.execute(asked, (self._boot, now)).fetchall()
-        presences = {name: holder_of(self.path, name, *told) for name, *told in found}
-        self._present = {name: holder.life for name, holder in presences.items()}
-        self._lives, self._earliest = standing.lives, min((until for *_, until in found), default=NEVER)
-        return presences
+        holders = {name: holder_of(self.path, name, *told) for name, *told in found}
+        self._live = {name: holder.session for name, holder in holders.items()}
+        self._sessions, self._earliest = standing.sessions, min((until for *_, until in found), default=NEVER)
+        return holders
 
     def _failing(self) -> dict[str, bool]:
-        """Of which nodes it is noted that their work fails, and whether they have given up."""
+        """The notes of nodes whose work fails, and whether they have given up."""
         self._has_notes = self._has_notes or self._one("select count(*) from sqlite_master where name = 'failing'") > 0
         found = self._file.execute('select name, gave_up from failing').fetchall() if self._has_notes else []
         return {name: bool(gave_up) for name, gave_up in found}
 
-    def wait(self, epoch: int, place: int, lives: Lives, until: Until, seconds: float, wake: int | None = None) -> None:
-        """Without news the next wait goes on at the pace of this one: what comes is often soon followed by more."""
+    def wait(
+        self, epoch: int, offset: int, sessions: Sessions, until: Until, seconds: float, wake: int | None = None
+    ) -> None:  # fmt: skip
+        """After a wait without news the next one polls at the pace that this one had reached; after news it starts fast
+        again, because more often follows soon."""
         end = nanoseconds_of_boot() + int(seconds * SECOND)
         self._version = self._promises = -1
-        while not self._is_news(Promise(epoch, place), lives, until):
+        while not self._is_news(Promise(epoch, offset), sessions, until):
             now = nanoseconds_of_boot()
             if now >= end:
                 return
-            presence = max(SHORTEST_SLEEP, (self._earliest - now) / SECOND)
-            if sleep_until_ready(min(self._sleep, (end - now) / SECOND, presence), wake):
+            lease = max(SHORTEST_SLEEP, (self._earliest - now) / SECOND)
+            if sleep_until_ready(min(self._sleep, (end - now) / SECOND, lease), wake):
                 break
             self._sleep = min(2 * self._sleep, LONGEST_SLEEP)
         self._sleep = SHORTEST_SLEEP
 
-    def _is_news(self, here: Promise, lives: Lives, until: Until) -> bool:
-        """Whether what `wait` waits for has come. Nothing but a commit and a presence's end can bring it."""
+    def _is_news(self, here: Promise, sessions: Sessions, until: Until) -> bool:
+        """Whether there is what `wait` waits for. Only a commit and the end of a lease can bring it."""
         if nanoseconds_of_boot() >= self._sight:
             self._see_files()
         with calls(self.path):
             version = self._one('pragma data_version')
-            is_end = nanoseconds_of_boot() >= self._earliest  # of a presence, unless it was renewed
+            is_end = nanoseconds_of_boot() >= self._earliest  # a lease has ended, unless it was renewed
             if version == self._version and not is_end:
                 return False
             self._version, standing = version, self._standing()
-            if standing.lives != self._lives or is_end:
+            if standing.sessions != self._sessions or is_end:
                 self._look_around(standing)
             end = standing.end
-            if end != here or standing.wanted != self._seen_wanted or self._present != lives:
+            if end != here or standing.wanted != self._seen_wanted or self._live != sessions:
                 return True
             is_same, self._promises = standing.promises == self._promises, standing.promises
             return until is not Until.NEWS and not is_same and self._are_idle(until, here)
@@ -470,10 +479,11 @@ class SqliteLog:
     def close(self) -> None:
         self._file.close()
 
-    # What is asked of SQLite.
+    # Calls of SQLite.
 
     def _standing(self) -> Standing:
-        """It is one statement: what others do between two, out of a transaction, would be taken for another boot's."""
+        """The state, by one statement: outside of a transaction, what others did between two would look like that of
+        another boot."""
         boot = '(select boot from boots order by number desc limit 1)'
         used = '(select count(*) from boots where boot = ?)'
         asked = f'select epoch, count, wish, orders, name, {boot}, lives, promises, {used} from epochs, changes'
@@ -482,7 +492,7 @@ class SqliteLog:
             raise DamagedLog(f'{self.path}: the log has no opening, or no end')
         standing, is_used = Standing(Promise(*found[:2]), *found[2:-1]), bool(found[-1])
         if standing.name != self._name and self._name:
-            raise OtherLog(f'{self.path}: another log is in its place')
+            raise OtherLog(f'{self.path}: there is another log in its place')
         if standing.boot != self._boot and is_used and not self._is_same_boot(standing):
             raise ForeignLog(f'{self.path}: {OTHER_BOOT}')
         return standing
@@ -492,7 +502,7 @@ class SqliteLog:
 
     @contextmanager
     def _syncing(self) -> Iterator[Standing]:
-        """A transaction that is on the disk behind it."""
+        """A transaction that is on the disk at its end."""
         with calls(self.path):
             self._file.execute('pragma synchronous = full')
             try:
@@ -503,7 +513,7 @@ class SqliteLog:
 
     @contextmanager
     def _transaction(self, kind: str = 'immediate') -> Iterator[Standing]:
-        """One transaction, and how the log stands in it. A return out of it keeps it, and what is raised undoes it."""
+        """One transaction, with the state of the log in it. A return commits it, and an exception rolls it back."""
         self._see_files()
         with calls(self.path):
             self._file.execute(f'begin {kind}')

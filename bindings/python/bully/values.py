@@ -1,4 +1,4 @@
-"""What the library is told, and what it tells."""
+"""Values that the library takes and returns."""
 from __future__ import annotations
 
 import enum
@@ -22,7 +22,7 @@ Line = Union[str, bytes]
 
 
 class Rows(Sequence[str]):
-    """Rows of a log that came as one text, and are cut only if they are looked at: a long log is learned sooner."""
+    """Rows of a log that came as one text. They are split only when one is read, so a long log is learned faster."""
 
     def __init__(self, text: str) -> None:
         """The rows of this text, each with its line end."""
@@ -47,7 +47,7 @@ class Rows(Sequence[str]):
         return self._cut[index]
 
     def behind(self, count: int) -> Rows:
-        """The rows behind the first ones, so many."""
+        """The rows after the first `count`."""
         behind = Rows(self.text.split('\n', count)[-1] if count else self.text)
         behind._count = max(len(self) - count, 0)
         return behind
@@ -57,7 +57,7 @@ class Rows(Sequence[str]):
 
 
 class Named(enum.IntEnum):
-    """Numbers of the library, shown by their names as traces spell them: `normal`, `are-you-up`."""
+    """Numbers of the library, shown by their names as in traces: `normal`, `are-you-up`."""
 
     def __str__(self) -> str:
         return self.name.lower().replace('_', '-')
@@ -85,22 +85,22 @@ class CallKind(Named):
 
 
 class Answer(Named):
-    """What a call that returned brought."""
+    """The result of a call that has returned."""
 
     DONE, YES, NO, FAILED, DISCARDED = range(5)
 
 
 class VerdictKind(Named):
-    """What a verdict on a trace says."""
+    """The kind of a verdict on a trace."""
 
     LAWFUL, REFUSED, DIFFERS = range(3)
 
 
 @dataclass(frozen=True)
 class Verdict:
-    """The verdict on a trace. Of a lawful one `number` is how many events were counted, and else the row that is
-    refused or differs, from 1; `cause` is the exception that names why it is refused. Its text is that of `bully
-    check`."""
+    """The verdict on a trace. For a lawful trace `number` is the count of events; otherwise it is the row, from 1, that
+    is refused or differs, and `cause` is the exception that names why it is refused. As text it is what `bully check`
+    prints."""
 
     kind: VerdictKind
     number: int
@@ -124,7 +124,7 @@ class TablePlan(NamedTuple):
 
 
 class Call(NamedTuple):
-    """The call that a node has under way. What an orphan brings is discarded."""
+    """The call that a node has under way. The result of an orphan is discarded."""
 
     kind: CallKind
     callee: int
@@ -132,9 +132,9 @@ class Call(NamedTuple):
 
 
 class State(NamedTuple):
-    """How a node stands: its number and status; its coordinator, if it has one; the node that halted it last, if any;
-    what it wants to do next; the call that it has under way, if any; and how often it was stopped or crashed, of an
-    agent since it was opened, and of a replica in its log."""
+    """The state of a node: its number and status; its coordinator, if it has one; the node that halted it last, if any;
+    what it wants to do next; the call that it has under way, if any; and how often it was stopped or crashed: since it
+    was opened for an agent, and in its log for a replica."""
 
     node: int
     status: Status
@@ -152,8 +152,8 @@ class Event(Named):
 
 
 class Owned(NamedTuple):
-    """What a node's process may work on: the token of the last plan, and the node's partitions by it, rising, the first
-    of a group being 0. There is one at least."""
+    """What a node's process may work on: the token of the last plan, and the node's partitions by that plan, at least
+    one, in rising order; the first partition of a group is 0."""
 
     token: int
     partitions: tuple[int, ...]

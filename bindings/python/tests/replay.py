@@ -16,7 +16,7 @@ from bully import Agent, Call, Setup, Status, Want
 
 # What a node by itself does in a row that says no more.
 ALONE = {'recover': Agent.recover, 'check': Agent.check, 'timeout': Agent.timeout, 'move': Agent.advance}
-# What a node wants before a row; and behind it, why the same call is refused, and why a check is.
+# What a node wants before a row; and after it, why the same call is refused, and why a check is.
 WANTS = {
     'recover': Want.NOTHING, 'check': Want.NOTHING, 'timeout': Want.NOTHING, 'start': Want.START, 'move': Want.MOVE,
     'plan': Want.PLAN,
@@ -77,7 +77,7 @@ class Node:
 
 
 class Replay:
-    """The agents of a group, and their log, in which a claim stands behind each event."""
+    """The agents of a group, and their log, in which a claim comes after each event."""
 
     def __init__(self, header: str, prepares: bool = True) -> None:
         """Agents that are all Down. If the nodes of the trace prepared their tables, they are compared, too."""

@@ -25,7 +25,7 @@ def shown(replica: Replica) -> list[object]:
 
 
 class Member:
-    """A process of one node, with its replica of a log, to which it appends a row behind all rows that it read, or not
+    """A process of one node, with its replica of a log, to which it appends a row after all rows that it read, or not
     at all."""
 
     def __init__(self, header: str, log: list[str], node: int) -> None:
@@ -37,19 +37,19 @@ class Member:
         return self.replica
 
     def append(self, *rows: str) -> bool:
-        """Whether these rows stand in the log now: they don't if another row stands behind what was read."""
+        """Whether these rows are in the log now: they aren't if another row comes after what was read."""
         if self.replica.rows != len(self.log):
             return False
         self.log += rows
         return True
 
     def turn(self) -> bool:
-        """Whether the node has something to do by itself, which stands in the log then."""
+        """Whether the node has something to do by itself, which is in the log then."""
         row = self.read().next(self.node)
         return row is not None and self.append(row)
 
 
-def go_to_rest(*members: Member) -> None:
+def take_turns(*members: Member) -> None:
     """The members have turns, each one row, in their order, until all of them rest."""
     while any([member.turn() for member in members]):
         pass

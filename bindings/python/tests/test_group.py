@@ -145,7 +145,7 @@ class Tables(unittest.TestCase):
             lambda: plan_table(Setup(10**30, 7), [1]),
         ]
         for place, call in enumerate(wanted):
-            with self.subTest(place=place), self.assertRaisesRegex(ValueError, r'has to be from 0 to \d+$'):
+            with self.subTest(place=place), self.assertRaisesRegex(ValueError, r'must be from 0 to \d+$'):
                 call()
 
     def test_wrong_kinds(self) -> None:

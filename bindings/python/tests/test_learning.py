@@ -103,7 +103,7 @@ class Learning(unittest.TestCase):
             ]  # fmt: skip
             for row in wrong_rows:
                 for rows in ([row], ['recover,1', row], [row, 'recover,1']):
-                    with self.subTest(rows=rows), self.assertRaisesRegex(ValueError, 'is not one row$'):
+                    with self.subTest(rows=rows), self.assertRaisesRegex(ValueError, 'is not exactly one row$'):
                         replica.learn(rows)
             for wrong in ('recover,1', b'recover,1', None, 7, ['recover,1', None], ['recover,1', 7], [['recover,1']]):
                 with self.subTest(wrong=wrong), self.assertRaises(TypeError):

@@ -156,4 +156,4 @@ class Loading(unittest.TestCase):
         with tempfile.TemporaryDirectory() as room:
             shutil.copytree(PYTHON / 'bully', Path(room) / 'bully', ignore=shutil.ignore_patterns('__pycache__'))
             self.assertEqual(self.run_with(os.environ['BULLY_LIBRARY'], name, Path(room)).stdout, 'OK\n')
-            self.assertIn('ImportError: bully.h is in none of its places', self.run_with(None, name, Path(room)).stderr)
+            self.assertIn('ImportError: bully.h is in none of these places', self.run_with(None, name, Path(room)).stderr)

@@ -12,7 +12,7 @@ from typing import Any
 import bully
 from bully import Call, CallKind, NotLearned, Replica, Setup, State, Status, Want, check
 from places import ROOT
-from .replicas import ELECTION_OF_THREE, ELECTION_OF_TWO, Member, go_to_rest, shown
+from .replicas import ELECTION_OF_THREE, ELECTION_OF_TWO, Member, shown, take_turns
 from .traces import BAD_HEADERS, LARGEST, TWO, log_of, text_of
 
 
@@ -25,7 +25,7 @@ class Elections(unittest.TestCase):
         members = [Member(header, log, node + 1) for node in range(nodes)]
         for member in members:
             self.assertTrue(member.append(member.read().recover(member.node)))
-        go_to_rest(*members)
+        take_turns(*members)
         return members
 
     def expect(
@@ -60,7 +60,7 @@ class Elections(unittest.TestCase):
         first, second, _ = self.group('bully,1,3,7', 3)
         second.append(second.read().crash(3))
         second.append(second.read().timeout(2))
-        go_to_rest(first, second)
+        take_turns(first, second)
         rows = ELECTION_OF_THREE + log_of(
             'crash,3', 'timeout,2', 'fail,2', 'fail,2', 'move,2', 'call,2', 'move,2', 'call,2', 'move,2',
             'plan,2,1 1 1 2 2 1 2', 'call,2', 'move,2',
@@ -68,7 +68,7 @@ class Elections(unittest.TestCase):
         self.expect(first, rows, 50, 2, (1, 1, 1, 2, 2, 1, 2), [1, 2])
         third = Member('bully,1,3,7', first.log, 3)
         third.append(third.read().recover(3))
-        go_to_rest(first, second, third)
+        take_turns(first, second, third)
         rows += log_of(
             'recover,3', 'move,3', 'call,3', 'call,3', 'move,3', 'call,3', 'call,3', 'move,3', 'plan,3,1 1 1 2 2 3 3',
             'call,3', 'call,3', 'move,3',
@@ -80,7 +80,7 @@ class Elections(unittest.TestCase):
         first, _ = self.group('bully,1,2,3', 2)
         first.append(first.read().crash(2))
         first.append(first.read().timeout(1))
-        go_to_rest(first)
+        take_turns(first)
         dies = log_of(
             'crash,2', 'timeout,1', 'fail,1', 'fail,1', 'move,1', 'move,1', 'move,1', 'plan,1,1 1 1', 'move,1'
         )
@@ -92,18 +92,18 @@ class Elections(unittest.TestCase):
         log: list[str] = []
         first, second = (Member('bully,1,2,3', log, node) for node in (1, 2))
         second.append(second.read().recover(2))
-        go_to_rest(second)
+        take_turns(second)
         alone = log_of('recover,2', 'move,2', 'fail,2', 'move,2', 'move,2', 'plan,2,2 2 2', 'move,2')
         self.expect(second, alone, 8, 2, (2, 2, 2), [2])
         first.append(first.read().recover(1))
-        go_to_rest(first, second)
+        take_turns(first, second)
         second.append(second.read().check(2))
-        go_to_rest(first, second)
+        take_turns(first, second)
         elects = ('move,2', 'call,2', 'move,2', 'call,2', 'move,2', 'plan,2,2 2 1', 'call,2', 'move,2')
         joined = alone + log_of('recover,1', 'call,1', 'check,2', 'call,2', *elects)
         self.expect(first, joined, 27, 2, (2, 2, 1), [1, 2])
         second.append(second.read().crash(2), 'recover,2')
-        go_to_rest(first, second)
+        take_turns(first, second)
         self.expect(second, joined + log_of('crash,2', 'recover,2', *elects), 43, 2, (2, 2, 1), [1, 2])
 
     def test_behind_others(self) -> None:
@@ -114,7 +114,7 @@ class Elections(unittest.TestCase):
         self.assertTrue(second.append(second.read().recover(2)))
         self.assertFalse(first.append(stale))
         self.assertTrue(first.append(first.read().recover(1)))
-        go_to_rest(first, second)
+        take_turns(first, second)
         self.assertEqual(str(check(text_of('bully,1,2,3', log))), f'lawful {len(log)}')
 
 
@@ -202,8 +202,8 @@ class Replicas(unittest.TestCase):
             (row + '\n' for row in ELECTION_OF_TWO),
             [b'recover,1\n', 'recover,2\n', b'start,1', *ELECTION_OF_TWO[3:]],
         ]
-        for place, rows in enumerate(ways):
-            with self.subTest(place=place), Replica(b'bully,1,2,3') as replica:
+        for number, rows in enumerate(ways):
+            with self.subTest(number=number), Replica(b'bully,1,2,3') as replica:
                 self.assertEqual((replica.learn(rows), replica.learn([]), replica.token), (19, 0, 15))
 
     def test_ways_to_tell_headers(self) -> None:
@@ -258,9 +258,9 @@ class ReplicaFaults(unittest.TestCase):
     """Each exception of a replica's other calls, which change nothing then."""
 
     def expect(self, replica: Replica, fault: type, *calls: Callable[[], object]) -> None:
-        for place, call in enumerate(calls):
+        for number, call in enumerate(calls):
             before = None if replica.is_closed else shown(replica)
-            with self.subTest(fault=fault.__name__, place=place), self.assertRaises(fault):
+            with self.subTest(fault=fault.__name__, number=number), self.assertRaises(fault):
                 call()
             self.assertEqual(None if replica.is_closed else shown(replica), before)
 
@@ -344,4 +344,4 @@ class ReplicaFaults(unittest.TestCase):
             replica.learn(['recover,1', 'recover,1'])
         refused = pickle.loads(pickle.dumps(caught.exception))
         self.assertEqual((refused.taken, refused.row, refused.cause, refused.status), (1, 3, bully.IsUp, 4))
-        self.assertEqual(str(refused), "row 3: The node recovers and isn't Down")
+        self.assertEqual(str(refused), "row 3: The node recovers, but isn't Down")

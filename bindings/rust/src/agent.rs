@@ -10,12 +10,12 @@ use std::fmt;
 
 /// One node on its own: what a process of that node keeps.
 ///
-/// Each call that takes `&mut self` is an event of the group, two where a call failed, which [`Agent::rows`] then has for the log; or
-/// it is refused and changes nothing. The calls that take `&self` change nothing. `docs/NODE.md` has the loop of a process, and
-/// what the program has to keep: the premises below are part of that.
+/// Each call that takes `&mut self` is an event of the group, or two if a call failed, which [`Agent::rows`] then has
+/// for the log; or it is refused and changes nothing. The calls that take `&self` change nothing. `docs/NODE.md` has
+/// the loop of a process, and what the program has to keep: the premises below are part of that.
 ///
-/// An agent may go from thread to thread. Threads can't share one without a lock: also a call that only shows something may
-/// write the handle for its own use.
+/// An agent may move from thread to thread. Threads can't share one without a lock: even a call that only shows
+/// something may write the handle for its own use.
 ///
 /// ```compile_fail,E0277
 /// fn shared<T: Sync>() {}
@@ -27,12 +27,13 @@ pub struct Agent {
 }
 
 impl Agent {
-    /// The agent of a node that is Down, and of which nothing was logged yet. [`Agent::builder`] has more to say of one.
+    /// The agent of a node that is Down, and of which nothing was logged yet. [`Agent::builder`] opens one with a log
+    /// or a task.
     pub fn open(setup: &Setup, node: u16) -> Result<Agent, OpenError> {
         Agent::builder(setup, node).open()
     }
 
-    /// What opens the agent of this node, once it is told what its log has.
+    /// What opens the agent of this node, once it is given what the node's log has.
     pub fn builder(setup: &Setup, node: u16) -> AgentBuilder<'_> {
         AgentBuilder {
             setup,
@@ -62,8 +63,8 @@ impl Agent {
         self.handle.timeout().map_err(Refused::told)
     }
 
-    /// The node starts the call that it wants to start; [`Agent::request`] then has what is to be sent. Refused as `Full`,
-    /// `IsDown`, `NoStep`, `SlotBusy`.
+    /// The node starts the call that it wants to start; [`Agent::request`] then has what is to be sent. Refused as
+    /// `Full`, `IsDown`, `NoStep`, `SlotBusy`.
     pub fn start(&mut self) -> Result<(), Refused> {
         self.handle.start().map_err(Refused::told)
     }
@@ -73,8 +74,8 @@ impl Agent {
         self.handle.advance().map_err(Refused::told)
     }
 
-    /// The node has planned this table, as [`Agent::prepare`] makes one. Refused as `Full`, `IsDown`, `NoStep`, `SlotBusy`,
-    /// `BadTable`, behind a fault of the table.
+    /// The node has planned this table, as [`Agent::prepare`] makes one. Refused as `Full`, `IsDown`, `NoStep`,
+    /// `SlotBusy`, `BadTable`, after a fault of the table.
     pub fn plan(&mut self, owners: &[u16]) -> Result<(), PlanError> {
         self.handle.plan(owners).map_err(PlanError::told)
     }
@@ -84,31 +85,31 @@ impl Agent {
         self.handle.drop_orphan().map_err(Refused::told)
     }
 
-    /// The table that the node should plan, with the fewest moves from this old one, if any: mostly its own task. An empty old
-    /// table is none.
+    /// The table that the node should plan, with the fewest moves from this old one, if any: mostly its own task. An
+    /// empty old table is none.
     pub fn prepare(&self, old: Option<&[u16]>) -> Result<Vec<u16>, PrepareError> {
         self.handle
             .prepare(old.unwrap_or_default(), self.partitions)
             .map_err(PrepareError::told)
     }
 
-    /// The line of the request of the node's call, while that is under way: to be sent to its callee, once. Lines have no line
-    /// end.
+    /// The line of the request of the node's call, while the call is under way: to be sent to its callee, once. Lines
+    /// have no line end.
     pub fn request(&self) -> Result<Option<String>, OutOfMemory> {
         let line = self.handle.request().map_err(OutOfMemory::told)?;
         Ok((!line.is_empty()).then_some(line))
     }
 
-    /// The request of this line runs at the node. It gives the line of the reply to its caller. Refused as `Full`, `BadNode`,
-    /// `NoCall`, `CalleeDown`, behind a fault of the line.
+    /// The request of this line runs at the node. Returns the line of the reply to its caller. Refused as `Full`,
+    /// `BadNode`, `NoCall`, `CalleeDown`, after a fault of the line.
     ///
-    /// Premise: the request is the caller's call, and runs once, while that is under way.
+    /// Premise: the request is the caller's call, and runs once, while the call is under way.
     pub fn serve(&mut self, line: &str) -> Result<String, ServeError> {
         self.handle.serve(line).map_err(ServeError::told)
     }
 
-    /// The node's call returns with the reply of this line. It gives what the node is told. Refused as `Full`; `NoCall`, where it
-    /// is no reply to the call under way; behind a fault of the line.
+    /// The node's call returns with the reply of this line. Returns what the call brought. Refused as `Full`; `NoCall`,
+    /// if the line is no reply to the call under way; after a fault of the line.
     ///
     /// Premise: the call ran at its callee, and was answered so.
     pub fn replied(&mut self, line: &str) -> Result<Answer, ReplyError> {
@@ -118,7 +119,8 @@ impl Agent {
             .map_err(ReplyError::told)
     }
 
-    /// The node's call of this number failed, and returns: two events. It gives what the node is told. Refused as `Full`, `NoCall`.
+    /// The node's call of this number failed, and returns: two events. Returns what the call brought. Refused as
+    /// `Full`, `NoCall`.
     ///
     /// Premise: the callee is Down.
     pub fn failed(&mut self, number: u32) -> Result<Answer, Refused> {
@@ -128,7 +130,7 @@ impl Agent {
             .map_err(Refused::told)
     }
 
-    /// How the node stands.
+    /// The state of the node.
     pub fn state(&self) -> State {
         State::of(
             &self
@@ -138,7 +140,7 @@ impl Agent {
         )
     }
 
-    /// The nodes of its up set, rising.
+    /// The nodes of its up set, in rising order.
     pub fn up(&self) -> Vec<u16> {
         self.handle.up().unwrap_or_else(|status| unexpected(status))
     }
@@ -150,8 +152,8 @@ impl Agent {
         (!owners.is_empty()).then_some(owners)
     }
 
-    /// The rows of its last event or events, for the log, each with its line end, as `docs/FORMATS.md` has them of version 3. Nothing,
-    /// where there was none since it was opened.
+    /// The rows of its last event or events, for the log, each with its line end, in version 3 of `docs/FORMATS.md`.
+    /// Nothing, if there was none since it was opened.
     pub fn rows(&self) -> Result<String, OutOfMemory> {
         self.handle.rows().map_err(OutOfMemory::told)
     }
@@ -183,12 +185,12 @@ pub struct AgentBuilder<'a> {
 }
 
 impl<'a> AgentBuilder<'a> {
-    /// The node's log has so many events: 0, where this isn't told.
+    /// The node's log has this many events: 0 by default.
     pub fn events(self, events: u32) -> AgentBuilder<'a> {
         AgentBuilder { events, ..self }
     }
 
-    /// The node has kept this task: none, where this isn't told. An empty one is none.
+    /// The node has kept this task: none by default. An empty one is none.
     pub fn task(self, owners: &'a [u16]) -> AgentBuilder<'a> {
         AgentBuilder {
             task: owners,

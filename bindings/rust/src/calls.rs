@@ -1,17 +1,18 @@
 //! The calls of the C interface, made safe. No other module has unsafe code.
 //!
-//! What `bully.h` wants of a program and no test can see is kept here:
+//! The rules of `bully.h` that a program has to keep and that no test can see are kept here:
 //!
-//! - A handle is zeroed at first, and private to an [`AgentHandle`], a [`ReplicaHandle`] or a [`MemberHandle`], which can't be
-//!   copied. So only the library writes it.
-//! - What changes something takes its handle as `&mut`. What shows something takes it as `&`, but no such type is `Sync`, and the
-//!   library calls nothing back: so a handle has one call at a time. It may go to another thread, as `Send` says.
-//! - Pointers and lengths are those of slices and of values that live through the call. What is written is a value of the call's
-//!   own, so it overlaps nothing.
+//! - A handle is zeroed at first, and private to an [`AgentHandle`], a [`ReplicaHandle`] or a [`MemberHandle`], which
+//!   can't be copied. So only the library writes it.
+//! - A call that changes something takes its handle as `&mut`. A call that shows something takes it as `&`, but no such
+//!   type is `Sync`, and the library calls nothing back: so a handle has one call at a time. It may move to another
+//!   thread, as `Send` says.
+//! - Pointers and lengths are those of slices and of values that live through the call. What is written is a value of
+//!   the call's own, so it overlaps nothing.
 //! - The library takes memory from the C library, whichever allocator the program has, and gives it back itself.
 
 use crate::raw::{
-    self, bully_agent, bully_group, bully_member, bully_member_state, bully_presence,
+    self, bully_agent, bully_group, bully_member, bully_member_state, bully_lease,
     bully_replica, bully_setup, bully_state, bully_status, bully_step, bully_verdict,
 };
 use crate::setup::Setup;
@@ -43,7 +44,7 @@ macro_rules! handle {
 }
 
 handle! {
-    /// A handle of an agent that is open. The status of a call that isn't OK is its error.
+    /// A handle of an agent that is open. The status of a call is its error, unless it is OK.
     AgentHandle: bully_agent, bully_agent_close
 }
 
@@ -61,9 +62,9 @@ macro_rules! texts {
     ($($text:ident($($argument:ident: $kind:ty),*): $call:ident;)*) => {
         $(pub(crate) fn $text(&self, $($argument: $kind),*) -> Result<String, bully_status> {
             let bytes = filled(|room: &mut [u8], length| {
-                let (place, size) = (room.as_mut_ptr().cast(), room.len());
+                let (offset, size) = (room.as_mut_ptr().cast(), room.len());
                 // SAFETY: the handle is open, and no other call of it is under way. The room is as long as is said.
-                unsafe { raw::$call(self.0.get(), $($argument,)* place, size, length) }
+                unsafe { raw::$call(self.0.get(), $($argument,)* offset, size, length) }
             })?;
             Ok(text_of(bytes))
         })*
@@ -74,9 +75,9 @@ macro_rules! numbers {
     ($($numbers:ident($($argument:ident: $kind:ty),*): $call:ident;)*) => {
         $(pub(crate) fn $numbers(&self, $($argument: $kind),*) -> Result<Vec<u16>, bully_status> {
             filled(|room: &mut [u16], count| {
-                let (place, size) = (room.as_mut_ptr(), room.len());
+                let (offset, size) = (room.as_mut_ptr(), room.len());
                 // SAFETY: the handle is open, and no other call of it is under way. The room is as long as is said.
-                unsafe { raw::$call(self.0.get(), $($argument,)* place, size, count) }
+                unsafe { raw::$call(self.0.get(), $($argument,)* offset, size, count) }
             })
         })*
     };
@@ -161,8 +162,8 @@ impl AgentHandle {
 
     pub(crate) fn prepare(&self, old: &[u16], partitions: u16) -> Result<Vec<u16>, bully_status> {
         let mut owners = vec![0; usize::from(partitions)];
-        // SAFETY: the handle is open, and no other call of it is under way. The old table is read alone, and the owners are a
-        // vector of this call's own.
+        // SAFETY: the handle is open, and no other call of it is under way. The old table is read alone, and the owners
+        // are a vector of this call's own.
         ok(unsafe {
             raw::bully_agent_prepare(
                 self.0.get(),
@@ -178,8 +179,8 @@ impl AgentHandle {
     pub(crate) fn serve(&mut self, line: &str) -> Result<String, bully_status> {
         let mut reply = vec![0_u8; raw::BULLY_REPLY_MAX as usize];
         let mut length = 0;
-        // SAFETY: the handle is open, and `&mut` lets no other call of it be under way. The line is read alone, and the reply is a
-        // vector of this call's own.
+        // SAFETY: the handle is open, and `&mut` lets no other call of it be under way. The line is read alone, and the
+        // reply is a vector of this call's own.
         ok(unsafe {
             raw::bully_agent_serve(
                 self.0.get(),
@@ -221,12 +222,13 @@ impl ReplicaHandle {
         Ok(ReplicaHandle(UnsafeCell::new(opened)))
     }
 
-    /// Learns rows, each with its line end, and tells how many. So it does beside the status of the first that isn't learned.
+    /// Learns rows, each with its line end, and returns how many, also beside the status of the first that isn't
+    /// learned.
     pub(crate) fn learn(&mut self, rows: &str) -> Result<usize, (bully_status, usize)> {
-        let (place, mut taken) = (rows.as_ptr().cast(), 0);
+        let (offset, mut taken) = (rows.as_ptr().cast(), 0);
         // SAFETY: the handle is open, and `&mut` lets no other call of it be under way. The rows are read alone.
         let status =
-            unsafe { raw::bully_replica_learn(self.0.get(), place, rows.len(), &mut taken) };
+            unsafe { raw::bully_replica_learn(self.0.get(), offset, rows.len(), &mut taken) };
         match ok(status) {
             Ok(()) => Ok(taken),
             Err(status) => Err((status, taken)),
@@ -249,16 +251,16 @@ impl ReplicaHandle {
         group(): bully_replica_group, bully_group;
     }
 
-    /// The rows that settle the group, each with its line end.
-    pub(crate) fn settle(&self, present: &[u16], old: &[u16]) -> Result<String, bully_status> {
+    /// The rows that rebalance the group, each with its line end.
+    pub(crate) fn rebalance(&self, live: &[u16], old: &[u16]) -> Result<String, bully_status> {
         let bytes = filled(|room: &mut [u8], length| {
-            // SAFETY: the handle is open, and no other call of it is under way. The slices are read alone, and the room is as long as
-            // is said.
+            // SAFETY: the handle is open, and no other call of it is under way. The slices are read alone, and the room
+            // is as long as is said.
             unsafe {
-                raw::bully_replica_settle(
+                raw::bully_replica_rebalance(
                     self.0.get(),
-                    present.as_ptr(),
-                    present.len(),
+                    live.as_ptr(),
+                    live.len(),
                     old.as_ptr(),
                     old.len(),
                     room.as_mut_ptr().cast(),
@@ -270,21 +272,21 @@ impl ReplicaHandle {
         Ok(text_of(bytes))
     }
 
-    pub(crate) fn is_at_rest(&self, present: &[u16], place: u32) -> Result<bool, bully_status> {
-        let (nodes, count, mut rests) = (present.as_ptr(), present.len(), 0);
+    pub(crate) fn is_stable(&self, live: &[u16], offset: u32) -> Result<bool, bully_status> {
+        let (nodes, count, mut is_stable) = (live.as_ptr(), live.len(), 0);
         // SAFETY: the handle is open, and no other call of it is under way. The slice is read alone.
         ok(unsafe {
-            raw::bully_replica_is_at_rest(self.0.get(), nodes, count, place, &mut rests)
+            raw::bully_replica_is_stable(self.0.get(), nodes, count, offset, &mut is_stable)
         })?;
-        Ok(rests != 0)
+        Ok(is_stable != 0)
     }
 
-    pub(crate) fn owned(&self, node: u16, place: u32) -> Result<Option<Owned>, bully_status> {
+    pub(crate) fn owned(&self, node: u16, offset: u32) -> Result<Option<Owned>, bully_status> {
         owned_of(|token, room, count| {
             let (partitions, size) = (room.as_mut_ptr(), room.len());
             // SAFETY: the handle is open, and no other call of it is under way. The room is as long as is said.
             unsafe {
-                raw::bully_replica_owned(self.0.get(), node, place, token, partitions, size, count)
+                raw::bully_replica_owned(self.0.get(), node, offset, token, partitions, size, count)
             }
         })
     }
@@ -343,36 +345,37 @@ impl MemberHandle {
         Ok(step)
     }
 
-    /// Learns rows, each with its line end, and tells how many. So it does beside the status of the first that isn't learned.
+    /// Learns rows, each with its line end, and returns how many, also beside the status of the first that isn't
+    /// learned.
     pub(crate) fn learn(&mut self, rows: &str) -> Result<usize, (bully_status, usize)> {
-        let (place, mut taken) = (rows.as_ptr().cast(), 0);
+        let (offset, mut taken) = (rows.as_ptr().cast(), 0);
         // SAFETY: the handle is open, and `&mut` lets no other call of it be under way. The rows are read alone.
         let status =
-            unsafe { raw::bully_member_learn(self.0.get(), place, rows.len(), &mut taken) };
+            unsafe { raw::bully_member_learn(self.0.get(), offset, rows.len(), &mut taken) };
         match ok(status) {
             Ok(()) => Ok(taken),
             Err(status) => Err((status, taken)),
         }
     }
 
-    pub(crate) fn looked(
+    pub(crate) fn snapshot_read(
         &mut self,
         now: u64,
         epoch: u32,
-        presences: &[bully_presence],
-        has_strangers: bool,
-        is_wished: bool,
+        leases: &[bully_lease],
+        has_unknown: bool,
+        has_request: bool,
     ) -> Result<(), bully_status> {
         // SAFETY: the handle is open, and `&mut` lets no other call of it be under way. The slice is read alone.
         ok(unsafe {
-            raw::bully_member_looked(
+            raw::bully_member_snapshot_read(
                 self.0.get(),
                 now,
                 epoch,
-                presences.as_ptr(),
-                presences.len(),
-                u32::from(has_strangers),
-                u32::from(is_wished),
+                leases.as_ptr(),
+                leases.len(),
+                u32::from(has_unknown),
+                u32::from(has_request),
             )
         })
     }
@@ -414,17 +417,17 @@ impl MemberHandle {
 
     pub(crate) fn owned_of(
         &self,
-        presence: &bully_presence,
+        lease: &bully_lease,
     ) -> Result<Option<Owned>, bully_status> {
         owned_of(|token, room, count| {
             let (at, partitions, size) = (self.0.get(), room.as_mut_ptr(), room.len());
             // SAFETY: the handle is open, and no other call of it is under way. The room is as long as is said.
-            unsafe { raw::bully_member_owned_of(at, presence, token, partitions, size, count) }
+            unsafe { raw::bully_member_owned_of(at, lease, token, partitions, size, count) }
         })
     }
 
     texts! {
-        settlement(): bully_member_settlement;
+        rebalance(): bully_member_rebalance;
     }
 
     numbers! {
@@ -432,14 +435,14 @@ impl MemberHandle {
     }
 
     structs! {
-        rests(now: u64): bully_member_rests, u32;
+        is_stable(now: u64): bully_member_is_stable, u32;
         show(now: u64): bully_member_show, bully_member_state;
         node(node: u16): bully_member_node, bully_state;
         group(): bully_member_group, bully_group;
     }
 }
 
-/// Judges a trace. Beside the status of one that has a fault of form stands its row.
+/// Judges a trace. If it has a fault of form, its row comes beside the status.
 pub(crate) fn check(trace: &[u8]) -> Result<bully_verdict, (bully_status, u32)> {
     let mut verdict = bully_verdict::default();
     // SAFETY: the trace is read alone, and the verdict is a value of this call's own.
@@ -469,7 +472,7 @@ pub(crate) fn header(setup: &Setup) -> Result<String, bully_status> {
     Ok(text_of(bytes))
 }
 
-/// What is told of a configuration: its group, or if it isn't one its first fault.
+/// What the library writes of a configuration: its group, or if it isn't one its first fault.
 pub(crate) fn configuration(text: &[u8]) -> Result<Result<Vec<u8>, String>, bully_status> {
     let mut is_group = true;
     let told = filled(|room: &mut [u8], length| {
@@ -525,19 +528,20 @@ pub(crate) fn table(
     Ok((owners, moves))
 }
 
-/// A call answered a status that its comment in `bully.h` doesn't have.
+/// A call returned a status that its comment in `bully.h` doesn't have.
 pub(crate) fn unexpected(status: bully_status) -> ! {
     // SAFETY: the name is a text with a zero byte at its end, which is never freed.
     let name = unsafe { CStr::from_ptr(raw::bully_status_name(status)) };
     panic!("the bully library answered {status}, {name:?}, which isn't of this call")
 }
 
-/// The library showed a number that stands for nothing in `bully.h`.
+/// The library showed a number that has no meaning in `bully.h`.
 pub(crate) fn unexpected_number(number: u32) -> ! {
     panic!("the bully library showed {number}, which stands for nothing")
 }
 
-// Fills a room, a larger one where the first is too small. The call is told the room, and where to write how much it has.
+// Fills a room, or a larger one if the first is too small. The call is given the room, and where to write how much it
+// has.
 fn filled<T: Clone + Default>(
     mut call: impl FnMut(&mut [T], &mut usize) -> bully_status,
 ) -> Result<Vec<T>, bully_status> {
@@ -553,7 +557,8 @@ fn filled<T: Clone + Default>(
     Ok(room)
 }
 
-// What a node owns, if anything. The call is told where to write the token, the room, and where to write how many partitions it has.
+// What a node owns, if anything. The call is given where to write the token, the room, and where to write how many
+// partitions it has.
 fn owned_of(
     mut call: impl FnMut(&mut u32, &mut [u16], &mut usize) -> bully_status,
 ) -> Result<Option<Owned>, bully_status> {

@@ -17,7 +17,7 @@ macro_rules! coded {
                 }
             }
 
-            // What this number stands for.
+            // What this number means.
             pub(crate) fn of(number: u32) -> Option<Self> {
                 match number {
                     $($crate::raw::$number => Some(Self::$variant),)*
@@ -48,7 +48,7 @@ macro_rules! faults {
     };
 }
 
-/// An enum of errors, each variant with the faults that it holds. A call's own statuses are told apart by them.
+/// An enum of errors, each variant with the faults that it holds. They tell a call's statuses apart.
 macro_rules! errors {
     ($(#[$about:meta])* $name:ident { $($(#[$doc:meta])* $variant:ident: $fault:ident;)* }) => {
         $(#[$about])*
@@ -58,7 +58,7 @@ macro_rules! errors {
         }
 
         impl $name {
-            // What this status of a call tells.
+            // What this status of a call means.
             pub(crate) fn told(status: $crate::raw::bully_status) -> Self {
                 None$(.or_else(|| $fault::of(status).map(Self::$variant)))*
                     .unwrap_or_else(|| $crate::calls::unexpected(status))

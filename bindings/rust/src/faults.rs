@@ -35,7 +35,7 @@ faults! {
 }
 
 faults! {
-    /// Whom a call speaks of that isn't there.
+    /// What is wrong with the nodes that a call names.
     NodeFault {
         BadNode = BULLY_BAD_NODE, "the node is none of the setup's";
         NoMember = BULLY_NO_MEMBER, "a table over no members";
@@ -59,7 +59,7 @@ faults! {
 }
 
 faults! {
-    /// The first fault of a line, from its left, as `docs/NODE.md` lists them.
+    /// The first fault of a line, from its left, as `docs/FORMATS.md` lists them.
     LineFault {
         Word = BULLY_LINE_WORD, "the line doesn't begin with `ask`, or with `tell`";
         Caller = BULLY_LINE_CALLER, "the line's caller is no node of the setup";
@@ -78,13 +78,13 @@ coded! {
         BadHeader = BULLY_BAD_HEADER, "BadHeader";
         /// The row has none of the forms.
         BadRow = BULLY_BAD_ROW, "BadRow";
-        /// A row comes after 1,000,000 rows behind the header.
+        /// A row comes after the 1,000,000 rows that may follow the header.
         TooManyRows = BULLY_TOO_MANY_ROWS, "TooManyRows";
     }
 }
 
 impl NodeFault {
-    // What this status of a call tells.
+    // What this status of a call means.
     pub(crate) fn told(status: bully_status) -> NodeFault {
         NodeFault::of(status).unwrap_or_else(|| calls::unexpected(status))
     }
@@ -100,7 +100,7 @@ impl OutOfMemory {
         (status == crate::raw::BULLY_OUT_OF_MEMORY).then_some(OutOfMemory)
     }
 
-    // What this status of a call tells.
+    // What this status of a call means.
     pub(crate) fn told(status: bully_status) -> OutOfMemory {
         OutOfMemory::of(status).unwrap_or_else(|| calls::unexpected(status))
     }
@@ -121,7 +121,7 @@ impl Refused {
     }
 }
 
-/// Why no verdict on a trace was given: the fault of its first faulty row, or a want of memory.
+/// Why there is no verdict on a trace: the fault of its first faulty row, or an allocation that failed.
 #[derive(Clone, Copy, Debug, PartialEq, Eq, Hash)]
 pub enum TraceFault {
     /// The row, counted from 1, breaks the form.
@@ -136,7 +136,7 @@ pub enum TraceFault {
 }
 
 impl TraceFault {
-    // What this status tells, with the row that came beside it.
+    // What this status means, with the row that came beside it.
     pub(crate) fn told(status: bully_status, row: u32) -> TraceFault {
         match FormFault::of(status) {
             Some(fault) => TraceFault::Form { row, fault },
@@ -170,15 +170,16 @@ pub enum LearnFault {
     Form(FormFault),
     /// An allocation failed.
     OutOfMemory,
-    /// One of the texts is no row by itself: it is blank, or has a line feed or a carriage return. Then none was learned.
+    /// One of the texts is no row by itself: it is blank, or has a line feed or a carriage return. Then none was
+    /// learned.
     NotOneRow {
-        /// Where that text stands among those that were handed over, from 0.
+        /// The place of that text among those that were handed over, from 0.
         place: usize,
     },
 }
 
 impl LearnFault {
-    // What this status tells of the row.
+    // What this status says of the row.
     pub(crate) fn told(status: bully_status) -> LearnFault {
         let form = FormFault::of(status).map(LearnFault::Form);
         let memory = OutOfMemory::of(status).map(|OutOfMemory| LearnFault::OutOfMemory);
@@ -237,7 +238,7 @@ errors! {
 errors! {
     /// Why no replica was opened.
     LogError {
-        /// The text is no header, or rows stand behind it: `BadHeader`.
+        /// The text is no header, or rows come after it: `BadHeader`.
         Header: FormFault;
         /// An allocation failed.
         Memory: OutOfMemory;
@@ -329,10 +330,10 @@ errors! {
 }
 
 errors! {
-    /// Why nothing settles a group. Nothing changed.
-    SettleError {
-        /// A node that is present is none of the group's.
-        Present: NodeFault;
+    /// Why a group isn't rebalanced. Nothing changed.
+    RebalanceError {
+        /// A live node is none of the group's.
+        Live: NodeFault;
         /// The old table is none of the group.
         Old: TableFault;
         /// An allocation failed.
@@ -343,7 +344,7 @@ errors! {
 }
 
 errors! {
-    /// Why it isn't told what a node owns.
+    /// Why there is no answer about what a node owns.
     OwnedError {
         /// The node is none of the group's.
         Node: NodeFault;
@@ -355,7 +356,7 @@ errors! {
 errors! {
     /// Why a member doesn't begin, or doesn't go on in another epoch. Nothing changed.
     OpeningError {
-        /// The text is no header, or rows stand behind it: `BadHeader`.
+        /// The text is no header, or rows come after it: `BadHeader`.
         Header: FormFault;
         /// The node is none of the group's.
         Node: NodeFault;
@@ -369,9 +370,9 @@ errors! {
 }
 
 errors! {
-    /// Why a member wasn't told what a look found. Nothing changed.
+    /// Why a member didn't take in what a snapshot found. Nothing changed.
     SeenError {
-        /// A presence is of none of the group's nodes.
+        /// A lease is of none of the group's nodes.
         Node: NodeFault;
         /// An allocation failed.
         Memory: OutOfMemory;

@@ -20,10 +20,10 @@ pub use configuration::{Configuration, ConfigurationError};
 pub use faults::{
     FormFault, HeaderError, LearnError, LearnFault, LineFault, LogError, MembersError, NodeFault,
     OpenError, OpeningError, OutOfMemory, OwnedError, PlanError, PrepareError, Refused, ReplyError,
-    RowError, SeenError, ServeError, SettleError, SetupFault, TableFault, TermsFault, TraceFault,
+    RowError, SeenError, ServeError, RebalanceError, SetupFault, TableFault, TermsFault, TraceFault,
 };
 pub use member::{
-    Ending, Life, LifeState, Member, MemberState, Opening, Presence, Promise, Request, Seen, Step,
+    Ending, Session, SessionState, Member, MemberState, Opening, Lease, Promise, Request, Seen, Step,
     StoreAnswer, Until, Work, TTL_MAX, TTL_MIN,
 };
 pub use replica::{Replica, ReplicaEvent};
@@ -32,7 +32,7 @@ pub use shown::{Answer, Call, CallKind, Group, Owned, State, Status, Want};
 pub use table::{plan_table, PlannedTable};
 pub use trace::{check, Verdict};
 
-/// The version of the library, as `bully --version` tells it.
+/// The version of the library, as `bully --version` prints it.
 pub fn version() -> &'static str {
     calls::version()
 }

@@ -3,9 +3,9 @@
 use crate::calls::{self, unexpected, unexpected_number, MemberHandle, RawOpening};
 use crate::coded::coded;
 use crate::faults::{
-    LearnError, LearnFault, NodeFault, OpeningError, OutOfMemory, SeenError, SettleError,
+    LearnError, LearnFault, NodeFault, OpeningError, OutOfMemory, SeenError, RebalanceError,
 };
-use crate::raw::{self, bully_member_state, bully_presence, bully_step};
+use crate::raw::{self, bully_member_state, bully_lease, bully_step};
 use crate::replica::text_of;
 use crate::shown::{known, Group, Owned, State};
 use std::fmt;
@@ -16,32 +16,33 @@ pub const TTL_MIN: u64 = raw::BULLY_TTL_MIN;
 /// The longest ttl, a day, in nanoseconds.
 pub const TTL_MAX: u64 = raw::BULLY_TTL_MAX;
 
-/// Which life of which process: no two lives that ever take a presence are alike.
+/// A session of a process. No two sessions that ever acquire a lease are equal.
 #[derive(Clone, Copy, Debug, PartialEq, Eq, Hash)]
-pub struct Life {
+pub struct Session {
     /// A number that no other process of the group ever has.
     pub process: u64,
-    /// How many lives this process asked for up to this one.
+    /// How many sessions this process has asked for, up to and including this one.
     pub number: u64,
 }
 
-/// Up to where a life is idle: it works by no plan before this place of this epoch. A place is how many rows stand behind the header.
+/// Up to which offset a session is idle: it works by no plan before this offset of this epoch. An offset is a number of
+/// rows after the header.
 #[derive(Clone, Copy, Debug, PartialEq, Eq, Hash)]
 pub struct Promise {
     /// Which epoch.
     pub epoch: u32,
-    /// Which place of its log.
-    pub place: u32,
+    /// Which offset of its log.
+    pub offset: u32,
 }
 
-/// Who is present for a node.
+/// Who holds the lease of a node.
 #[derive(Clone, Copy, Debug, PartialEq, Eq, Hash)]
-pub struct Presence {
+pub struct Lease {
     /// The node.
     pub node: u16,
-    /// Whose presence it is.
-    pub life: Life,
-    /// What that has promised.
+    /// The session that holds it.
+    pub session: Session,
+    /// What the session has promised.
     pub promise: Promise,
 }
 
@@ -56,7 +57,8 @@ pub struct Opening {
     pub node: u16,
     /// How many rows the log may have: from 22 for each node to 1,000,000.
     pub rows_max: u32,
-    /// The last table of the epoch before, if there was one, and it isn't empty: there 0 is an owner that this group hasn't.
+    /// The last table of the epoch before, if there was one; an empty table is none. In it 0 is an owner that this
+    /// group doesn't have.
     pub old: Option<Vec<u16>>,
 }
 
@@ -72,17 +74,18 @@ impl Opening {
     }
 }
 
-/// What a look finds beside the rows, at the same moment. In another epoch than the member's nothing but its number counts.
+/// What a snapshot finds beside the rows, at the same moment. In another epoch than the member's nothing counts but the
+/// epoch's number.
 #[derive(Clone, Debug, PartialEq, Eq, Hash)]
 pub struct Seen {
     /// The current epoch.
     pub epoch: u32,
-    /// Who is present for a node of it, by rising nodes.
-    pub presences: Vec<Presence>,
-    /// Whether somebody is present whose name no node of it has.
-    pub has_strangers: bool,
-    /// Whether something else is wished for.
-    pub is_wished: bool,
+    /// Who holds the lease of a node of it, in rising order of the nodes.
+    pub leases: Vec<Lease>,
+    /// Whether an unknown process holds a lease, whose name no node of it has.
+    pub has_unknown: bool,
+    /// Whether other settings are requested.
+    pub has_request: bool,
 }
 
 /// What became of a request.
@@ -92,7 +95,7 @@ pub enum StoreAnswer {
     Done,
     /// It wasn't done, and won't be.
     Refused,
-    /// It may be done later, or never, or was done already.
+    /// It may have been done already, or may be done later, or never.
     Unanswered,
 }
 
@@ -103,115 +106,117 @@ coded! {
         Left = BULLY_ENDING_LEFT, "left";
         /// The group has no node of its name any more.
         NotThere = BULLY_ENDING_NOT_THERE, "not there";
-        /// The log has a row that isn't learned, or that tells no event.
+        /// The log has a row that isn't learned, or that has no event.
         Broken = BULLY_ENDING_BROKEN, "broken";
     }
 }
 
 coded! {
-    /// What ends a wait before its time: other rows, lives or wishes than were seen; or one of these.
+    /// What ends a wait early: rows, sessions or requests to resize other than those that were seen; or one of these.
     Until {
-        /// No more.
+        /// Nothing else.
         News = BULLY_UNTIL_NEWS, "news";
-        /// Somebody that is present is idle up to the end of the log, and wasn't when the member looked last.
+        /// A holder of a lease is idle up to the end of the log, and wasn't when the member last read a snapshot.
         AnyIdle = BULLY_UNTIL_ANY_IDLE, "any idle";
-        /// All that are present are.
+        /// All holders of leases are idle up to the end of the log.
         AllIdle = BULLY_UNTIL_ALL_IDLE, "all idle";
     }
 }
 
-/// What is asked of a store. A place is of the member's epoch. Each is done at one moment, or not at all.
+/// A request to a store. Its offset is one of the member's epoch. Each request is done at one moment, or not at all.
 #[derive(Clone, Copy, Debug, PartialEq, Eq, Hash)]
 pub enum Request {
-    /// The presence of the member's node for this life, idle up to this place: if nobody has it, and the log ends there.
-    Take(Life, u32),
-    /// The presence once more, if this life has it, without a gap.
-    Renew(Life),
-    /// The end of the presence, if this life has it.
-    Release(Life),
-    /// The rows behind all that was learned, for [`Member::learn`], and what [`Member::looked`] is told.
-    Look,
-    /// The life's promise to be idle up to this place, if it has the presence; a higher one stays.
-    Promise(Life, u32),
-    /// To append the rows of [`Member::settlement`]: if the log ends at this place, somebody is present, and all that are, strangers
-    /// too, have promised this place of this epoch.
+    /// Acquires the lease of the member's node for this session, which is idle up to this offset: if nobody has the
+    /// lease, and the log ends there.
+    Acquire(Session, u32),
+    /// Renews the lease, if this session has had it without a gap.
+    Renew(Session),
+    /// Releases the lease, if this session has it.
+    Release(Session),
+    /// Reads the rows after all that was learned, for [`Member::learn`], and what [`Member::snapshot_read`] is given.
+    Snapshot,
+    /// Records the session's promise to be idle up to this offset, if it has the lease; a higher promise stays.
+    Promise(Session, u32),
+    /// Appends the rows of [`Member::rebalance`]: if the log ends at this offset, somebody holds a lease, and all
+    /// holders of leases, unknown processes too, have promised this offset of this epoch.
     Append(u32),
-    /// To end the epoch, and to begin the next one, on the same conditions.
-    Finish(u32),
-    /// What the current epoch began with, for [`Member::followed`].
+    /// Rolls the epoch over: ends it and begins the next one, on the same conditions.
+    RollOver(u32),
+    /// Reads what the current epoch began with, for [`Member::followed`].
     Follow,
 }
 
 /// What a member does next. Times are nanoseconds.
 #[derive(Clone, Copy, Debug, PartialEq, Eq, Hash)]
 pub enum Step {
-    /// To ask the store, and to tell what became of that.
+    /// Send this request to the store, and tell the member what became of it.
     Ask(Request),
-    /// To begin to work by this token, on what [`Member::owned`] gives. Nothing is written first.
+    /// Begin to work by this token, on what [`Member::owned`] gives. Nothing is written first.
     Begin(u32),
-    /// To see to it that all work ends, and to tell when it has, by [`Member::stopped`].
+    /// Stop all work, and call [`Member::stopped`] when it has ended.
     Stop,
-    /// To wait, for so long at most, and then to call [`Member::woke`].
+    /// Wait for this long at most, and then call [`Member::woke`].
     Wait(u64, Until),
-    /// To do nothing for so long, or until it is told something.
-    Rest(u64),
-    /// Nothing more.
+    /// Do nothing for this long, or until the member is told something.
+    BackOff(u64),
+    /// Do nothing more: the member has ended.
     End(Ending),
 }
 
-/// Whether a process has the presence of its node.
+/// Whether a process has the lease of its node.
 #[derive(Clone, Copy, Debug, PartialEq, Eq, Hash)]
-pub enum LifeState {
-    /// It hasn't.
+pub enum SessionState {
+    /// It doesn't have it.
     Absent,
-    /// This life may have it: whether it was taken wasn't answered.
-    Unknown(Life),
-    /// This life has it, by a renewal that was asked for at that time.
-    Present(Life, u64),
+    /// This session may have it: the request to acquire it wasn't answered.
+    Unknown(Session),
+    /// This session has it. Its last renewal, or the acquire, was asked for at this time.
+    Live(Session, u64),
 }
 
-/// How far the work of a process is. A token is that of what it began.
+/// The state of a process's work. The token is the one by which it began.
 #[derive(Clone, Copy, Debug, PartialEq, Eq, Hash)]
 pub enum Work {
     /// It works on nothing.
     Idle,
     /// It works.
     Working(u32),
-    /// Its work ended outside.
+    /// Its work ended outside the member.
     Lost(u32),
-    /// It was told to stop, and hasn't told yet that it has.
+    /// It was told to stop its work, and hasn't reported yet that the work has ended.
     Stopping(u32),
 }
 
-/// How a member stands.
+/// The state of a member.
 #[derive(Clone, Copy, Debug, PartialEq, Eq, Hash)]
 pub struct MemberState {
-    /// Whether its process has the presence of its node.
-    pub life: LifeState,
-    /// For how many nanoseconds its presence is sure yet: so long it may work on what it was told to begin.
+    /// Whether its process has the lease of its node.
+    pub session: SessionState,
+    /// For how many nanoseconds its lease is still sure. For that long it may work on what it was told to begin.
     pub sure_left: u64,
-    /// Up to which place of this epoch its life has promised to be idle, whether or not the store heard of that.
+    /// Up to which offset of this epoch its session has promised to be idle, whether or not the store knows of that.
     pub promised: u32,
-    /// How far its work is.
+    /// The state of its work.
     pub work: Work,
     /// Why it ends, if it does.
     pub ending: Option<Ending>,
     /// Which epoch it is in.
     pub epoch: u32,
     /// The end of the log, as far as it was learned.
-    pub place: u32,
+    pub offset: u32,
     /// Its node.
     pub node: u16,
-    /// Whether its last look found that something else is wished for.
-    pub is_wished: bool,
+    /// Whether its last snapshot found that other settings are requested.
+    pub has_request: bool,
 }
 
-/// A process that acts for one node of a group over a shared log, by the rules in `docs/ALGORITHM.md`: what it knows, and what it does next.
+/// A process that acts for one node of a group over a shared log, by the rules in `docs/REBALANCING.md`: what it knows, and what it does next.
 ///
-/// It has no clock, no store and no chance of its own: [`Member::next`] says what is to be done now, whoever drives it does that, and tells
-/// it what became of it. Times are whole nanoseconds of one clock that never goes back.
+/// It has no clock, no store and no random numbers of its own: [`Member::next`] says what is to be done now, the
+/// program that drives it does that, and tells the member what became of it. Times are whole nanoseconds of one clock
+/// that never goes back.
 ///
-/// A member may go from thread to thread. Threads can't share one without a lock.
+/// A member may move from thread to thread. Threads can't share one without a lock.
 ///
 /// ```compile_fail,E0277
 /// fn shared<T: Sync>() {}
@@ -222,30 +227,33 @@ pub struct Member {
 }
 
 impl Member {
-    /// A member that has learned nothing, and asked for nothing. No other process of the group ever has its number. The ttl, from
-    /// [`TTL_MIN`] to [`TTL_MAX`], is for how long a presence lasts from its last renewal.
+    /// A member that has learned nothing, and asked for nothing. `process` is a number that no other process of the
+    /// group ever has. `ttl`, from [`TTL_MIN`] to [`TTL_MAX`], is for how many nanoseconds a lease lasts after its last
+    /// renewal.
     pub fn open(opening: &Opening, process: u64, ttl: u64) -> Result<Member, OpeningError> {
         let handle = MemberHandle::open(&opening.raw(), process, ttl);
         let handle = handle.map_err(OpeningError::told)?;
         Ok(Member { handle })
     }
 
-    /// What it does now: the first of its rules that applies. It notes that, so what it says is to be done. As long as a request is awaited
-    /// it asks for nothing else: it stops its work, or rests. So of one whose answer is lost [`Member::answered`] is to be told.
+    /// What it does now: the first of its rules that applies. The member notes that, so the step has to be done. As
+    /// long as a request is awaited it asks for nothing else: it stops its work, or backs off. So if the answer of a
+    /// request is lost, call [`Member::answered`] with `Unanswered`.
     pub fn next(&mut self, now: u64) -> Step {
         let step = self.handle.next(now);
         Step::of(&step.unwrap_or_else(|status| unexpected(status)))
     }
 
-    /// What became of its last request. A look or a follow whose result doesn't come wasn't answered. Nothing changes if no request is
-    /// awaited.
+    /// What became of its last request. A snapshot or a follow whose result doesn't come counts as not answered.
+    /// Nothing changes if no request is awaited.
     pub fn answered(&mut self, now: u64, answer: StoreAnswer) {
         self.handle.answered(now, answer.number());
     }
 
-    /// Learns the rows that a look found behind all that was learned, before [`Member::looked`] is told of it, and tells how many, as
-    /// [`Replica::learn`](crate::Replica::learn) does. If a row isn't learned, but for want of memory, the member ends as `Broken`; so it
-    /// does if one tells no event. A text that isn't one row changes nothing.
+    /// Learns the rows that a snapshot found after all that was learned, before [`Member::snapshot_read`] is called for
+    /// it, and returns how many, as [`Replica::learn`](crate::Replica::learn) does. If a row isn't learned, unless an
+    /// allocation failed, the member ends as `Broken`; so it does if a row has no event. A text that isn't one row
+    /// changes nothing.
     pub fn learn<R: AsRef<str>>(
         &mut self,
         rows: impl IntoIterator<Item = R>,
@@ -257,29 +265,29 @@ impl Member {
         })
     }
 
-    /// What a look found beside the rows. Nothing changes if no look is awaited.
-    pub fn looked(&mut self, now: u64, seen: &Seen) -> Result<(), SeenError> {
-        let presences: Vec<bully_presence> = seen.presences.iter().map(Presence::raw).collect();
-        let (has_strangers, is_wished) = (seen.has_strangers, seen.is_wished);
+    /// What a snapshot found beside the rows. Nothing changes if no snapshot is awaited.
+    pub fn snapshot_read(&mut self, now: u64, seen: &Seen) -> Result<(), SeenError> {
+        let leases: Vec<bully_lease> = seen.leases.iter().map(Lease::raw).collect();
+        let (has_unknown, has_request) = (seen.has_unknown, seen.has_request);
         let told = self
             .handle
-            .looked(now, seen.epoch, &presences, has_strangers, is_wished);
+            .snapshot_read(now, seen.epoch, &leases, has_unknown, has_request);
         told.map_err(SeenError::told)
     }
 
-    /// In place of any other answer: its epoch is over, and the log of that was taken away.
+    /// Instead of any other answer: its epoch is over, and the epoch's log was removed.
     pub fn passed(&mut self) {
         self.handle.passed();
     }
 
-    /// What the current epoch began with: it goes on there, by its life, and has learned nothing of its log. Nothing changes if no
-    /// follow is awaited, and it counts as not answered if the epoch is the member's.
+    /// What the current epoch began with: the member goes on there with its session, and has learned nothing of the
+    /// log. Nothing changes if no follow is awaited, and it counts as not answered if the epoch is the member's.
     pub fn followed(&mut self, now: u64, opening: &Opening) -> Result<(), OpeningError> {
         let told = self.handle.followed(now, &opening.raw());
         told.map_err(OpeningError::told)
     }
 
-    /// The current epoch's group has no node of its name: it ends. Nothing changes if no follow is awaited.
+    /// The current epoch's group has no node of its name: the member ends. Nothing changes if no follow is awaited.
     pub fn not_there(&mut self) {
         self.handle.not_there();
     }
@@ -289,65 +297,67 @@ impl Member {
         self.handle.woke();
     }
 
-    /// It has to end in order.
+    /// The member has to leave in an orderly way.
     pub fn leave(&mut self) {
         self.handle.leave();
     }
 
-    /// What was begun by this token has ended outside.
+    /// The work that was begun by this token has ended outside the member.
     pub fn lost(&mut self, token: u32) {
         self.handle.lost(token);
     }
 
-    /// Nothing is worked on any more.
+    /// All work has ended.
     pub fn stopped(&mut self) {
         self.handle.stopped();
     }
 
-    /// The rows of an append: they settle the group among those that are present, as [`Replica::settle`](crate::Replica::settle) does, or,
-    /// if the member ends, among nobody.
-    pub fn settlement(&self) -> Result<Vec<String>, SettleError> {
-        let text = self.handle.settlement();
-        Ok(calls::rows_of(&text.map_err(SettleError::told)?))
+    /// The rows of an append: they rebalance the group among the live nodes, as
+    /// [`Replica::rebalance`](crate::Replica::rebalance) does, or, if the member ends, among none.
+    pub fn rebalance(&self) -> Result<Vec<String>, RebalanceError> {
+        let text = self.handle.rebalance();
+        Ok(calls::rows_of(&text.map_err(RebalanceError::told)?))
     }
 
-    /// What its node owns, by a plan behind all that its life has promised, if anything.
+    /// What its node owns, by a plan after all that its session has promised, if anything.
     pub fn owned(&self) -> Result<Option<Owned>, OutOfMemory> {
         self.handle.owned().map_err(OutOfMemory::told)
     }
 
-    /// What who is present so owns, by a plan behind what that life has promised of this epoch, if anything: its process may work on that.
-    pub fn owned_of(&self, presence: &Presence) -> Result<Option<Owned>, SeenError> {
-        let owned = self.handle.owned_of(&presence.raw());
+    /// What the holder of this lease owns, by a plan after what its session has promised in this epoch, if anything:
+    /// its process may work on that.
+    pub fn owned_of(&self, lease: &Lease) -> Result<Option<Owned>, SeenError> {
+        let owned = self.handle.owned_of(&lease.raw());
         owned.map_err(SeenError::told)
     }
 
-    /// Whether the group rests for it, by its last look, so that nothing is to be done but to work: among those who are up in the log, or
-    /// have stayed long enough by now. A member that takes no presence may observe a group so.
-    pub fn rests(&self, now: u64) -> bool {
-        let rests = self.handle.rests(now);
-        rests.unwrap_or_else(|status| unexpected(status)) != 0
+    /// Whether the group is stable for the member, by its last snapshot, so that there is nothing to do but to work:
+    /// among the live nodes that are up in the log or have stayed long enough by now. A member that acquires no lease
+    /// may observe a group by this call.
+    pub fn is_stable(&self, now: u64) -> bool {
+        let is_stable = self.handle.is_stable(now);
+        is_stable.unwrap_or_else(|status| unexpected(status)) != 0
     }
 
-    /// How it stands now.
+    /// The state of the member now.
     pub fn state(&self, now: u64) -> MemberState {
         let shown = self.handle.show(now);
         MemberState::of(&shown.unwrap_or_else(|status| unexpected(status)))
     }
 
-    /// How a node stands, by what it learned.
+    /// The state of a node, by what the member has learned.
     pub fn node(&self, node: u16) -> Result<State, NodeFault> {
         let state = self.handle.node(node).map_err(NodeFault::told)?;
         Ok(State::of(&state))
     }
 
-    /// How its group stands, by what it learned.
+    /// The state of its group, by what the member has learned.
     pub fn group(&self) -> Group {
         let group = self.handle.group();
         Group::of(&group.unwrap_or_else(|status| unexpected(status)))
     }
 
-    /// The owners of the last plan's table, if there is a plan in what it learned.
+    /// The owners of the last plan's table, if there is a plan in what the member has learned.
     pub fn planned(&self) -> Option<Vec<u16>> {
         let owners = self.handle.planned();
         let owners = owners.unwrap_or_else(|status| unexpected(status));
@@ -373,20 +383,20 @@ impl StoreAnswer {
     }
 }
 
-impl Presence {
-    fn raw(&self) -> bully_presence {
-        bully_presence {
-            process: self.life.process,
-            number: self.life.number,
+impl Lease {
+    fn raw(&self) -> bully_lease {
+        bully_lease {
+            process: self.session.process,
+            number: self.session.number,
             epoch: self.promise.epoch,
-            place: self.promise.place,
+            offset: self.promise.offset,
             node: self.node,
         }
     }
 }
 
 impl Step {
-    // The step that the library tells.
+    // The step that the library returned.
     fn of(told: &bully_step) -> Step {
         match told.kind {
             raw::BULLY_STEP_ASK => Step::Ask(Request::of(told)),
@@ -395,7 +405,7 @@ impl Step {
             raw::BULLY_STEP_WAIT => {
                 Step::Wait(told.at_most, known(told.until, Until::of(told.until)))
             }
-            raw::BULLY_STEP_REST => Step::Rest(told.at_most),
+            raw::BULLY_STEP_BACK_OFF => Step::BackOff(told.at_most),
             raw::BULLY_STEP_END => Step::End(known(told.ending, Ending::of(told.ending))),
             kind => unexpected_number(kind),
         }
@@ -403,20 +413,20 @@ impl Step {
 }
 
 impl Request {
-    // The request of the step that the library tells.
+    // The request of the step that the library returned.
     fn of(told: &bully_step) -> Request {
-        let life = Life {
+        let session = Session {
             process: told.process,
             number: told.number,
         };
         match told.request {
-            raw::BULLY_ASK_TAKE => Request::Take(life, told.place),
-            raw::BULLY_ASK_RENEW => Request::Renew(life),
-            raw::BULLY_ASK_RELEASE => Request::Release(life),
-            raw::BULLY_ASK_LOOK => Request::Look,
-            raw::BULLY_ASK_PROMISE => Request::Promise(life, told.place),
-            raw::BULLY_ASK_APPEND => Request::Append(told.place),
-            raw::BULLY_ASK_FINISH => Request::Finish(told.place),
+            raw::BULLY_ASK_ACQUIRE => Request::Acquire(session, told.offset),
+            raw::BULLY_ASK_RENEW => Request::Renew(session),
+            raw::BULLY_ASK_RELEASE => Request::Release(session),
+            raw::BULLY_ASK_SNAPSHOT => Request::Snapshot,
+            raw::BULLY_ASK_PROMISE => Request::Promise(session, told.offset),
+            raw::BULLY_ASK_APPEND => Request::Append(told.offset),
+            raw::BULLY_ASK_ROLL_OVER => Request::RollOver(told.offset),
             raw::BULLY_ASK_FOLLOW => Request::Follow,
             request => unexpected_number(request),
         }
@@ -427,29 +437,29 @@ impl MemberState {
     // What the library shows of the member.
     fn of(shown: &bully_member_state) -> MemberState {
         MemberState {
-            life: LifeState::of(shown),
+            session: SessionState::of(shown),
             sure_left: shown.sure_left,
             promised: shown.promised,
             work: Work::of(shown),
             ending: Ending::of(shown.ending),
             epoch: shown.epoch,
-            place: shown.place,
+            offset: shown.offset,
             node: shown.node,
-            is_wished: shown.is_wished != 0,
+            has_request: shown.has_request != 0,
         }
     }
 }
 
-impl LifeState {
-    fn of(shown: &bully_member_state) -> LifeState {
-        let life = Life {
+impl SessionState {
+    fn of(shown: &bully_member_state) -> SessionState {
+        let session = Session {
             process: shown.process,
             number: shown.number,
         };
-        match shown.life {
-            raw::BULLY_LIFE_ABSENT => LifeState::Absent,
-            raw::BULLY_LIFE_UNKNOWN => LifeState::Unknown(life),
-            raw::BULLY_LIFE_PRESENT => LifeState::Present(life, shown.since),
+        match shown.session {
+            raw::BULLY_SESSION_ABSENT => SessionState::Absent,
+            raw::BULLY_SESSION_UNKNOWN => SessionState::Unknown(session),
+            raw::BULLY_SESSION_LIVE => SessionState::Live(session, shown.since),
             number => unexpected_number(number),
         }
     }

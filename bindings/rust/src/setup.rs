@@ -27,7 +27,7 @@ pub struct Setup {
     pub nodes: u16,
     /// How many partitions the task has, from 1 to [`PARTITIONS_MAX`].
     pub partitions: u16,
-    /// How many events the group tells at most, from 1 to [`EVENTS_MAX`].
+    /// How many events the group has at most, from 1 to [`EVENTS_MAX`].
     pub events_max: u32,
     /// The weights of nodes 1, 2, .., each from 1 to [`WEIGHT_MAX`]; or none, and then each node weighs 1.
     pub weights: Vec<u16>,
@@ -53,7 +53,7 @@ impl Setup {
         Setup { weights, ..self }
     }
 
-    /// The same, where tasks are kept over a crash.
+    /// The same, but tasks are kept over a crash.
     pub fn keeping(self) -> Setup {
         Setup {
             keeps: true,
@@ -61,9 +61,9 @@ impl Setup {
         }
     }
 
-    /// The header of a log of this group, a row without its line end: of version 1 if that can tell the setup, and else of version
-    /// 2, as `docs/FORMATS.md` says. A header doesn't tell `events_max`: a log has room for [`EVENTS_MAX`] events, whatever the setup
-    /// bounds.
+    /// The header of a log of this group, a row without its line end: of version 1 if that can express the setup, and
+    /// else of version 2, as `docs/FORMATS.md` says. A header doesn't have `events_max`: a log has room for
+    /// [`EVENTS_MAX`] events, whatever the bound of the setup.
     ///
     /// ```
     /// use bully::Setup;

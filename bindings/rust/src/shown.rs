@@ -76,7 +76,7 @@ pub struct Call {
     pub orphan: bool,
 }
 
-/// How a node stands.
+/// The state of a node.
 #[derive(Clone, Copy, Debug, PartialEq, Eq, Hash)]
 pub struct State {
     /// Its own number.
@@ -93,7 +93,7 @@ pub struct State {
     pub call: Option<Call>,
     /// Of an agent: the number of its last call. Of a replica: 0.
     pub number: u32,
-    /// Of an agent: how many events it told, with those before it was opened. Of a replica: how many its log has.
+    /// Of an agent: how many events it had, with those before it was opened. Of a replica: how many its log has.
     pub events: u32,
     /// How often it was stopped or crashed: of an agent since it was opened, of a replica in its log.
     pub generation: u32,
@@ -123,16 +123,16 @@ impl Answer {
     }
 }
 
-/// How a group stands, as a replica of its log shows it.
+/// The state of a group, as a replica of its log shows it.
 #[derive(Clone, Copy, Debug, PartialEq, Eq, Hash)]
 pub struct Group {
     /// How many rows were learned, claims too. The header isn't counted.
     pub rows: u32,
-    /// How many events they told.
+    /// How many of them were events.
     pub events: u32,
-    /// The token of the last plan, if any: how many events there are up to it and with it.
+    /// The token of the last plan, if any: the number of events up to and including it.
     pub token: Option<u32>,
-    /// Whose the last plan is, if any.
+    /// The node that made the last plan, if any.
     pub planner: Option<u16>,
     /// How many nodes the group has.
     pub nodes: u16,
@@ -147,7 +147,7 @@ pub struct Group {
 pub struct Owned {
     /// The token of the last plan.
     pub token: u32,
-    /// The node's partitions by that plan, rising, the first of a group being 0. There is one at least.
+    /// The node's partitions by that plan, in rising order: at least one. The first partition of a group is 0.
     pub partitions: Vec<u16>,
 }
 
@@ -166,7 +166,7 @@ impl Group {
     }
 }
 
-// The call in the slot; a callee of 0 says that there is none.
+// The call in the slot; a callee of 0 means that there is none.
 fn call_of(shown: &bully_state) -> Option<Call> {
     node_of(shown.callee).map(|callee| Call {
         kind: known(shown.call, CallKind::of(shown.call)),
@@ -175,12 +175,12 @@ fn call_of(shown: &bully_state) -> Option<Call> {
     })
 }
 
-// The node of this number, of which 0 stands for none.
+// The node of this number, of which 0 means none.
 fn node_of(number: u16) -> Option<u16> {
     (number != 0).then_some(number)
 }
 
-// What the number stands for. It always stands for something, as `bully.h` has it.
+// What the number means. It always means something, as `bully.h` has it.
 pub(crate) fn known<T>(number: u32, meaning: Option<T>) -> T {
     meaning.unwrap_or_else(|| unexpected_number(number))
 }

@@ -9,11 +9,12 @@ use crate::setup::Setup;
 pub struct PlannedTable {
     /// The owner of each partition.
     pub owners: Vec<u16>,
-    /// How many partitions change their owner: all, where there is no old table.
+    /// How many partitions change their owner: all, if there is no old table.
     pub moves: u16,
 }
 
-/// Plans the table over these members, balanced, with the fewest moves from the old table, if any. An empty old table is none.
+/// Plans the table over these members, balanced, with the fewest moves from the old table, if any. An empty old table
+/// is none.
 ///
 /// ```
 /// use bully::{plan_table, Setup};

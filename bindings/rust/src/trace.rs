@@ -5,7 +5,7 @@ use crate::faults::{Refused, TraceFault};
 use crate::raw;
 use std::fmt;
 
-/// The verdict on a trace, shown as the first line that `bully check` writes of it.
+/// The verdict on a trace, shown as the first line that `bully check` writes for it.
 #[derive(Clone, Copy, Debug, PartialEq, Eq, Hash)]
 pub enum Verdict {
     /// The rows are a run of the algorithm.

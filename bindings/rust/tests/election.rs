@@ -1,5 +1,5 @@
 //! Two nodes elect through lines, each in the loop of `docs/NODE.md`. What they have to say follows from the rows of an election in
-//! `docs/FORMATS.md`, and the numbers of calls from `docs/NODE.md`.
+//! `docs/FORMATS.md`, and so do the numbers of calls.
 
 use bully::{check, Agent, Answer, Call, CallKind, Setup, State, Status, Verdict, Want};
 use std::thread;
@@ -57,21 +57,21 @@ impl Pair {
     }
 
     fn recover_both(&mut self) {
-        for place in [0, 1] {
-            self.agents[place].recover().expect("it was down");
-            self.log_rows(place);
+        for index in [0, 1] {
+            self.agents[index].recover().expect("it was down");
+            self.log_rows(index);
         }
     }
 
-    fn log_rows(&mut self, place: usize) {
+    fn log_rows(&mut self, index: usize) {
         self.log
-            .push_str(&self.agents[place].rows().expect("memory"));
+            .push_str(&self.agents[index].rows().expect("memory"));
     }
 
     // The node goes on until it wants nothing more by itself.
-    fn settle(&mut self, place: usize) {
+    fn go_on(&mut self, index: usize) {
         loop {
-            let agent = &mut self.agents[place];
+            let agent = &mut self.agents[index];
             match agent.state().wants {
                 Want::Start => agent.start().expect("a start"),
                 Want::Move => agent.advance().expect("a move"),
@@ -81,21 +81,21 @@ impl Pair {
                 }
                 Want::Await | Want::Nothing => return,
             }
-            self.log_rows(place);
-            self.hand_on(place);
+            self.log_rows(index);
+            self.hand_on(index);
         }
     }
 
     // The request of the node, if any, goes to the other one, and the reply comes back.
-    fn hand_on(&mut self, place: usize) {
-        let Some(request) = self.agents[place].request().expect("memory") else {
+    fn hand_on(&mut self, index: usize) {
+        let Some(request) = self.agents[index].request().expect("memory") else {
             return;
         };
-        let reply = self.agents[1 - place].serve(&request).expect("it is up");
-        self.log_rows(1 - place);
-        let answer = self.agents[place].replied(&reply);
+        let reply = self.agents[1 - index].serve(&request).expect("it is up");
+        self.log_rows(1 - index);
+        let answer = self.agents[index].replied(&reply);
         assert_eq!(answer, Ok(Answer::Yes));
-        self.log_rows(place);
+        self.log_rows(index);
         self.lines.extend([request, reply]);
     }
 }
@@ -103,8 +103,8 @@ impl Pair {
 fn elected() -> Pair {
     let mut pair = Pair::open(&Setup::new(2, 3, 1000));
     pair.recover_both();
-    pair.settle(0);
-    pair.settle(1);
+    pair.go_on(0);
+    pair.go_on(1);
     pair
 }
 
@@ -227,11 +227,11 @@ fn from_thread_to_thread() {
     let mut pair = Pair::open(&Setup::new(2, 3, 1000));
     pair.recover_both();
     let moved = thread::spawn(move || {
-        pair.settle(0);
+        pair.go_on(0);
         pair
     });
     let mut pair = moved.join().expect("a thread");
-    pair.settle(1);
+    pair.go_on(1);
     assert_eq!(pair.log, LOG);
 }
 

@@ -186,7 +186,7 @@ macro_rules! layouts {
             claims.push(format!("_Static_assert(sizeof({kind}) == {size} && _Alignof({kind}) == {alignment}, \"{kind}\");"));
             let _all_fields = |raw::$kind { $($field: _),+ }: raw::$kind| ();
             $(
-                let (field, place) = (stringify!($field), offset_of!(raw::$kind, $field));
+                let (field, offset) = (stringify!($field), offset_of!(raw::$kind, $field));
                 let size = size_of_field(|held: &raw::$kind| &raw const held.$field);
                 claims.push(format!("_Static_assert(offsetof({kind}, {field}) == {place} && sizeof((({kind} *)0)->{field}) == {size}, \"{kind}.{field}\");"));
             )+
@@ -208,9 +208,9 @@ fn claims_on_structs() -> Vec<String> {
         bully_replica: held;
         bully_group: rows events token planner nodes partitions keeps;
         bully_member: held;
-        bully_step: at_most process number kind request until place token ending;
-        bully_presence: process number epoch place node;
-        bully_member_state: process number since sure_left life promised work token ending epoch place node is_wished;
+        bully_step: at_most process number kind request until offset token ending;
+        bully_lease: process number epoch offset node;
+        bully_member_state: process number since sure_left session promised work token ending epoch offset node has_request;
     };
     for name in declared("pub struct ") {
         let claim = format!("sizeof({name})");

@@ -1,20 +1,20 @@
-//! Settlements, and members: what each does next, by the rules in `docs/ALGORITHM.md`. All times follow from a ttl of 1,000,000 ns.
+//! Rebalances, and members: what each does next, by the rules in `docs/REBALANCING.md`. All times follow from a ttl of 1,000,000 ns.
 
 use bully::{
-    check, Ending, Life, LifeState, Member, Opening, OpeningError, Presence, Promise, Replica,
-    Request, Seen, SettleError, Status, Step, StoreAnswer, Until, Verdict, Work, TTL_MAX, TTL_MIN,
+    check, Ending, Lease, Member, Opening, OpeningError, Promise, RebalanceError, Replica, Request,
+    Seen, Session, SessionState, Status, Step, StoreAnswer, Until, Verdict, Work, TTL_MAX, TTL_MIN,
 };
 use bully::{FormFault, LearnFault, NodeFault, OwnedError, SeenError, TableFault, TermsFault};
 
 const ONE: &str = "bully,1,1,1";
-const LIFE: Life = Life {
+const SESSION: Session = Session {
     process: 5,
     number: 1,
 };
 
-// ---- Settlements ----
+// ---- Rebalances ----
 
-// What settles two nodes that are Down and present, if this table is planned.
+// What rebalances two nodes that are live and Down, if this table is planned.
 fn both(table: &str) -> Vec<String> {
     let before =
         "recover,1 recover,2 move,2 start,2 run,2 return,2 move,2 start,2 run,2 return,2 move,2";
@@ -27,20 +27,23 @@ fn both(table: &str) -> Vec<String> {
 }
 
 #[test]
-fn a_group_settles() {
+fn a_group_rebalances() {
     let mut replica = Replica::open("bully,1,2,2").unwrap();
-    assert_eq!(replica.settle(&[], None), Ok(Vec::new()));
-    assert_eq!(replica.is_at_rest(&[], u32::MAX), Ok(true));
-    assert_eq!(replica.is_at_rest(&[1, 2], 0), Ok(false));
-    assert_eq!(replica.settle(&[2, 1], None), Ok(both("1 2")));
-    assert_eq!(replica.settle(&[2, 1], Some(&[])), Ok(both("1 2")));
+    assert_eq!(replica.rebalance(&[], None), Ok(Vec::new()));
+    assert_eq!(replica.is_stable(&[], u32::MAX), Ok(true));
+    assert_eq!(replica.is_stable(&[1, 2], 0), Ok(false));
+    assert_eq!(replica.rebalance(&[2, 1], None), Ok(both("1 2")));
+    assert_eq!(replica.rebalance(&[2, 1], Some(&[])), Ok(both("1 2")));
     // as many owners as can stay do so, and 0 is gone
-    assert_eq!(replica.settle(&[1, 2, 1], Some(&[2, 1])), Ok(both("2 1")));
-    assert_eq!(replica.settle(&[1, 2], Some(&[0, 1])), Ok(both("2 1")));
+    assert_eq!(
+        replica.rebalance(&[1, 2, 1], Some(&[2, 1])),
+        Ok(both("2 1"))
+    );
+    assert_eq!(replica.rebalance(&[1, 2], Some(&[0, 1])), Ok(both("2 1")));
     replica.learn(both("1 2")).unwrap();
-    assert_eq!(replica.is_at_rest(&[2, 1], 11), Ok(true));
-    assert_eq!(replica.is_at_rest(&[2, 1], 12), Ok(false));
-    assert_eq!(replica.is_at_rest(&[1], 0), Ok(false));
+    assert_eq!(replica.is_stable(&[2, 1], 11), Ok(true));
+    assert_eq!(replica.is_stable(&[2, 1], 12), Ok(false));
+    assert_eq!(replica.is_stable(&[1], 0), Ok(false));
     let owned = replica.owned(2, 11).unwrap().expect("a partition");
     assert_eq!((owned.token, owned.partitions), (12, vec![1]));
     assert_eq!(replica.owned(2, 12), Ok(None));
@@ -48,26 +51,29 @@ fn a_group_settles() {
         "crash,1 recover,1 crash,2 start,1 lose,1 return,1 move,1 move,1 move,1 plan,1,1 1 move,1";
     let rows = rows.replace("1 1 ", "1_1 ");
     let rows: Vec<String> = rows.split(' ').map(|row| row.replace('_', " ")).collect();
-    assert_eq!(replica.settle(&[1], Some(&[2, 2])), Ok(rows.clone()));
+    assert_eq!(replica.rebalance(&[1], Some(&[2, 2])), Ok(rows.clone()));
     replica.learn(rows).unwrap();
-    assert_eq!(replica.is_at_rest(&[1], 25), Ok(true));
+    assert_eq!(replica.is_stable(&[1], 25), Ok(true));
     let owned = replica.owned(1, 25).unwrap().expect("both partitions");
     assert_eq!((owned.token, owned.partitions), (26, vec![0, 1]));
     assert_eq!(replica.owned(2, 0), Ok(None));
-    assert_eq!(replica.settle(&[], None), Ok(vec!["crash,1".to_string()]));
+    assert_eq!(
+        replica.rebalance(&[], None),
+        Ok(vec!["crash,1".to_string()])
+    );
 }
 
 #[test]
-fn a_settlement_is_refused() {
+fn a_rebalance_is_refused() {
     let replica = Replica::open("bully,1,2,2").unwrap();
-    let no_node = SettleError::Present(NodeFault::BadNode);
-    assert_eq!(replica.settle(&[1, 0], Some(&[1])), Err(no_node));
-    assert_eq!(replica.settle(&[3], None), Err(no_node));
-    let length = SettleError::Old(TableFault::Length);
-    assert_eq!(replica.settle(&[1], Some(&[1])), Err(length));
-    let owner = SettleError::Old(TableFault::Owner);
-    assert_eq!(replica.settle(&[1], Some(&[1, 3])), Err(owner));
-    assert_eq!(replica.is_at_rest(&[3], 0), Err(NodeFault::BadNode));
+    let no_node = RebalanceError::Live(NodeFault::BadNode);
+    assert_eq!(replica.rebalance(&[1, 0], Some(&[1])), Err(no_node));
+    assert_eq!(replica.rebalance(&[3], None), Err(no_node));
+    let length = RebalanceError::Old(TableFault::Length);
+    assert_eq!(replica.rebalance(&[1], Some(&[1])), Err(length));
+    let owner = RebalanceError::Old(TableFault::Owner);
+    assert_eq!(replica.rebalance(&[1], Some(&[1, 3])), Err(owner));
+    assert_eq!(replica.is_stable(&[3], 0), Err(NodeFault::BadNode));
     let no_node = OwnedError::Node(NodeFault::BadNode);
     assert_eq!(replica.owned(0, 0), Err(no_node));
     assert_eq!(replica.owned(3, 0), Err(no_node));
@@ -85,34 +91,34 @@ fn opening() -> Opening {
     }
 }
 
-fn seen(presences: &[Presence]) -> Seen {
+fn seen(leases: &[Lease]) -> Seen {
     Seen {
         epoch: 7,
-        presences: presences.to_vec(),
-        has_strangers: false,
-        is_wished: false,
+        leases: leases.to_vec(),
+        has_unknown: false,
+        has_request: false,
     }
 }
 
-fn own(place: u32) -> Presence {
-    Presence {
+fn own(offset: u32) -> Lease {
+    Lease {
         node: 1,
-        life: LIFE,
-        promise: Promise { epoch: 7, place },
+        session: SESSION,
+        promise: Promise { epoch: 7, offset },
     }
 }
 
-// A member that has its presence since 10, has settled its group of one, and works since 90.
+// A member that has its lease since 10, has rebalanced its group of one, and works since 90.
 fn worker() -> Member {
     let mut member = Member::open(&opening(), 5, TTL_MIN).unwrap();
-    assert_eq!(member.next(0), Step::Ask(Request::Look));
-    member.looked(5, &seen(&[])).unwrap();
-    assert_eq!(member.next(10), Step::Ask(Request::Take(LIFE, 0)));
+    assert_eq!(member.next(0), Step::Ask(Request::Snapshot));
+    member.snapshot_read(5, &seen(&[])).unwrap();
+    assert_eq!(member.next(10), Step::Ask(Request::Acquire(SESSION, 0)));
     member.answered(20, StoreAnswer::Done);
-    assert_eq!(member.next(30), Step::Ask(Request::Look));
-    member.looked(40, &seen(&[own(0)])).unwrap();
+    assert_eq!(member.next(30), Step::Ask(Request::Snapshot));
+    member.snapshot_read(40, &seen(&[own(0)])).unwrap();
     assert_eq!(member.next(50), Step::Ask(Request::Append(0)));
-    let rows = member.settlement().unwrap();
+    let rows = member.rebalance().unwrap();
     let wanted = [
         "recover,1",
         "move,1",
@@ -123,9 +129,9 @@ fn worker() -> Member {
     ];
     assert_eq!(rows, wanted);
     member.answered(60, StoreAnswer::Done);
-    assert_eq!(member.next(70), Step::Ask(Request::Look));
+    assert_eq!(member.next(70), Step::Ask(Request::Snapshot));
     assert_eq!(member.learn(rows), Ok(6));
-    member.looked(80, &seen(&[own(0)])).unwrap();
+    member.snapshot_read(80, &seen(&[own(0)])).unwrap();
     assert_eq!(member.next(90), Step::Begin(5));
     member
 }
@@ -136,34 +142,37 @@ fn a_member_works_and_stops() {
     let owned = member.owned().unwrap().expect("the partition");
     assert_eq!((owned.token, owned.partitions), (5, vec![0]));
     let state = member.state(100);
-    assert_eq!(state.life, LifeState::Present(LIFE, 10));
+    assert_eq!(state.session, SessionState::Live(SESSION, 10));
     assert_eq!(
-        (state.sure_left, state.promised, state.place),
+        (state.sure_left, state.promised, state.offset),
         (799_910, 0, 6)
     );
     assert_eq!((state.work, state.ending), (Work::Working(5), None));
-    assert_eq!((state.epoch, state.node, state.is_wished), (7, 1, false));
+    assert_eq!((state.epoch, state.node, state.has_request), (7, 1, false));
     assert_eq!(member.node(1).unwrap().status, Status::Normal);
     assert_eq!(member.node(2), Err(NodeFault::BadNode));
     assert_eq!(member.group().token, Some(5));
     assert_eq!(member.planned(), Some(vec![1]));
     assert_eq!(member.next(100), Step::Wait(249_910, Until::AnyIdle));
     member.woke();
-    assert_eq!(member.next(110), Step::Ask(Request::Look));
+    assert_eq!(member.next(110), Step::Ask(Request::Snapshot));
     member.answered(120, StoreAnswer::Unanswered);
-    assert_eq!(member.next(130), Step::Rest(49_990));
-    assert_eq!(member.next(260_010), Step::Ask(Request::Renew(LIFE)));
+    assert_eq!(member.next(130), Step::BackOff(49_990));
+    assert_eq!(member.next(260_010), Step::Ask(Request::Renew(SESSION)));
     member.answered(260_020, StoreAnswer::Refused);
-    assert_eq!(member.state(260_020).life, LifeState::Absent);
+    assert_eq!(member.state(260_020).session, SessionState::Absent);
     assert_eq!(member.next(260_030), Step::Stop);
     assert_eq!(member.state(260_030).work, Work::Stopping(5));
     member.stopped();
-    assert_eq!(member.next(260_040), Step::Ask(Request::Look));
-    member.looked(260_050, &seen(&[])).unwrap();
-    let next = Life { number: 2, ..LIFE };
-    assert_eq!(member.next(260_060), Step::Ask(Request::Take(next, 6)));
+    assert_eq!(member.next(260_040), Step::Ask(Request::Snapshot));
+    member.snapshot_read(260_050, &seen(&[])).unwrap();
+    let next = Session {
+        number: 2,
+        ..SESSION
+    };
+    assert_eq!(member.next(260_060), Step::Ask(Request::Acquire(next, 6)));
     member.answered(260_070, StoreAnswer::Unanswered);
-    assert_eq!(member.state(260_070).life, LifeState::Unknown(next));
+    assert_eq!(member.state(260_070).session, SessionState::Unknown(next));
     assert_eq!(member.next(310_070), Step::Ask(Request::Release(next)));
 }
 
@@ -171,31 +180,34 @@ fn a_member_works_and_stops() {
 fn one_request_is_under_way_at_a_time() {
     let mut member = worker();
     member.woke();
-    assert_eq!(member.next(100), Step::Ask(Request::Look));
-    assert_eq!(member.next(260_010), Step::Rest(540_000));
+    assert_eq!(member.next(100), Step::Ask(Request::Snapshot));
+    assert_eq!(member.next(260_010), Step::BackOff(540_000));
     assert_eq!(member.next(800_010), Step::Stop);
-    assert_eq!(member.next(800_020), Step::Rest(TTL_MIN));
+    assert_eq!(member.next(800_020), Step::BackOff(TTL_MIN));
     member.stopped();
     member.answered(800_030, StoreAnswer::Unanswered);
-    assert_eq!(member.next(850_030), Step::Ask(Request::Renew(LIFE)));
+    assert_eq!(member.next(850_030), Step::Ask(Request::Renew(SESSION)));
 }
 
 #[test]
 fn a_member_observes_its_group() {
     let member = worker();
-    let owned = |presence: Presence| {
-        let owned = member.owned_of(&presence).expect("a node of the group");
+    let owned = |lease: Lease| {
+        let owned = member.owned_of(&lease).expect("a node of the group");
         owned.map(|owned| (owned.token, owned.partitions))
     };
     assert_eq!(owned(own(4)), Some((5, vec![0])));
     assert_eq!(owned(own(5)), None);
-    let promise = Promise { epoch: 6, place: 5 };
-    assert!(owned(Presence { promise, ..own(0) }).is_some());
-    let third = Presence { node: 3, ..own(0) };
+    let promise = Promise {
+        epoch: 6,
+        offset: 5,
+    };
+    assert!(owned(Lease { promise, ..own(0) }).is_some());
+    let third = Lease { node: 3, ..own(0) };
     let no_node = SeenError::Node(NodeFault::BadNode);
     assert_eq!(member.owned_of(&third).err(), Some(no_node));
-    assert!(member.rests(100));
-    assert!(!Member::open(&opening(), 5, TTL_MIN).unwrap().rests(100));
+    assert!(member.is_stable(100));
+    assert!(!Member::open(&opening(), 5, TTL_MIN).unwrap().is_stable(100));
 }
 
 #[test]
@@ -208,15 +220,15 @@ fn a_member_leaves() {
     member.leave();
     assert_eq!(member.next(110), Step::Stop);
     member.stopped();
-    assert_eq!(member.next(120), Step::Ask(Request::Promise(LIFE, 6)));
+    assert_eq!(member.next(120), Step::Ask(Request::Promise(SESSION, 6)));
     member.answered(130, StoreAnswer::Done);
     assert_eq!(member.next(140), Step::Ask(Request::Append(6)));
-    assert_eq!(member.settlement(), Ok(vec!["crash,1".to_string()]));
+    assert_eq!(member.rebalance(), Ok(vec!["crash,1".to_string()]));
     member.answered(150, StoreAnswer::Done);
-    assert_eq!(member.next(160), Step::Ask(Request::Look));
+    assert_eq!(member.next(160), Step::Ask(Request::Snapshot));
     member.learn(["crash,1"]).unwrap();
-    member.looked(170, &seen(&[own(6)])).unwrap();
-    assert_eq!(member.next(180), Step::Ask(Request::Release(LIFE)));
+    member.snapshot_read(170, &seen(&[own(6)])).unwrap();
+    assert_eq!(member.next(180), Step::Ask(Request::Release(SESSION)));
     member.answered(190, StoreAnswer::Done);
     assert_eq!(member.next(200), Step::End(Ending::Left));
     assert_eq!(format!("{}", Ending::NotThere), "not there");
@@ -226,15 +238,15 @@ fn a_member_leaves() {
 fn a_member_goes_on_in_another_epoch() {
     let mut member = worker();
     member.woke();
-    assert_eq!(member.next(100), Step::Ask(Request::Look));
-    let mut wish = seen(&[own(0)]);
-    wish.is_wished = true;
-    member.looked(110, &wish).unwrap();
+    assert_eq!(member.next(100), Step::Ask(Request::Snapshot));
+    let mut requested = seen(&[own(0)]);
+    requested.has_request = true;
+    member.snapshot_read(110, &requested).unwrap();
     assert_eq!(member.next(120), Step::Stop);
     member.stopped();
-    assert_eq!(member.next(130), Step::Ask(Request::Promise(LIFE, 6)));
+    assert_eq!(member.next(130), Step::Ask(Request::Promise(SESSION, 6)));
     member.answered(140, StoreAnswer::Done);
-    assert_eq!(member.next(150), Step::Ask(Request::Finish(6)));
+    assert_eq!(member.next(150), Step::Ask(Request::RollOver(6)));
     member.answered(160, StoreAnswer::Done);
     assert_eq!(member.next(170), Step::Ask(Request::Follow));
     let mut next = opening();
@@ -245,8 +257,8 @@ fn a_member_goes_on_in_another_epoch() {
     assert_eq!(member.followed(180, &next), Err(no_node));
     next.node = 1;
     member.followed(180, &next).unwrap();
-    assert_eq!((member.state(180).epoch, member.state(180).place), (8, 0));
-    assert_eq!(member.next(190), Step::Ask(Request::Look));
+    assert_eq!((member.state(180).epoch, member.state(180).offset), (8, 0));
+    assert_eq!(member.next(190), Step::Ask(Request::Snapshot));
     member.passed();
     assert_eq!(member.next(200), Step::Ask(Request::Follow));
     member.not_there();
@@ -300,14 +312,14 @@ fn a_member_is_refused() {
     assert_eq!(open(&|_| {}, TTL_MAX + 1), ttl);
     let mut member = Member::open(&opening(), 5, TTL_MAX).unwrap();
     member.next(0);
-    let third = Presence { node: 3, ..own(0) };
+    let third = Lease { node: 3, ..own(0) };
     let no_node = SeenError::Node(NodeFault::BadNode);
-    assert_eq!(member.looked(1, &seen(&[third])), Err(no_node));
+    assert_eq!(member.snapshot_read(1, &seen(&[third])), Err(no_node));
 }
 
-// Two members over a log in memory settle their group, and the log is lawful.
+// Two members over a log in memory rebalance their group, and the log is lawful.
 #[test]
-fn members_settle_their_group() {
+fn members_rebalance_their_group() {
     let mut log = vec!["bully,1,2,3".to_string()];
     let with = |node| Opening {
         header: log[0].clone(),
@@ -320,44 +332,44 @@ fn members_settle_their_group() {
         Member::open(&with(1), 1, TTL_MAX).unwrap(),
         Member::open(&with(2), 2, TTL_MAX).unwrap(),
     ];
-    let mut presences: Vec<Presence> = Vec::new();
+    let mut leases: Vec<Lease> = Vec::new();
     let mut begun = 0;
     for now in 0..40 {
         let at = (now % 2) as usize;
         let member = &mut members[at];
         let node = at as u16 + 1;
         match member.next(now) {
-            Step::Ask(Request::Look) => {
-                let place = member.state(now).place as usize;
-                member.learn(&log[1 + place..]).unwrap();
+            Step::Ask(Request::Snapshot) => {
+                let offset = member.state(now).offset as usize;
+                member.learn(&log[1 + offset..]).unwrap();
                 let found = Seen {
                     epoch: 1,
-                    ..seen(&presences)
+                    ..seen(&leases)
                 };
-                member.looked(now, &found).unwrap();
+                member.snapshot_read(now, &found).unwrap();
             }
             Step::Ask(request) => {
-                let promise = |place| Promise { epoch: 1, place };
-                let place = log.len() as u32 - 1;
+                let promise = |offset| Promise { epoch: 1, offset };
+                let offset = log.len() as u32 - 1;
                 let is_done = match request {
-                    Request::Take(life, at) if at == place => {
-                        presences.push(Presence {
+                    Request::Acquire(session, at) if at == offset => {
+                        leases.push(Lease {
                             node,
-                            life,
+                            session,
                             promise: promise(at),
                         });
-                        presences.sort_by_key(|presence| presence.node);
+                        leases.sort_by_key(|lease| lease.node);
                         true
                     }
-                    Request::Promise(life, at) => {
-                        let held = presences.iter_mut().find(|held| held.life == life);
-                        held.expect("its presence").promise = promise(at);
+                    Request::Promise(session, at) => {
+                        let held = leases.iter_mut().find(|held| held.session == session);
+                        held.expect("its lease").promise = promise(at);
                         true
                     }
-                    Request::Append(at) if at == place => {
-                        let are_idle = presences.iter().all(|held| held.promise.place == at);
+                    Request::Append(at) if at == offset => {
+                        let are_idle = leases.iter().all(|held| held.promise.offset == at);
                         if are_idle {
-                            log.extend(member.settlement().unwrap());
+                            log.extend(member.rebalance().unwrap());
                         }
                         are_idle
                     }

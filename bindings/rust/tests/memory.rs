@@ -4,9 +4,9 @@ mod counted;
 
 use bully::{
     check, plan_table, Agent, HeaderError, LearnError, LearnFault, LogError, Member, OpenError,
-    Opening, OpeningError, OutOfMemory, OwnedError, PlanError, PrepareError, Replica, ReplicaEvent,
-    Request, RowError, Seen, SeenError, ServeError, SettleError, Setup, Step, TraceFault, Want,
-    TTL_MIN,
+    Opening, OpeningError, OutOfMemory, OwnedError, PlanError, PrepareError, RebalanceError,
+    Replica, ReplicaEvent, Request, RowError, Seen, SeenError, ServeError, Setup, Step, TraceFault,
+    Want, TTL_MIN,
 };
 use counted::{held, refused_behind, Aside};
 
@@ -21,7 +21,7 @@ const LINES: [&str; 3] = [
 
 const HEADER: &str = "bully,3,2,3,1 1,clear";
 
-// The rows of an election up to its plan, and those behind it, in which rows say more and claim all of a vector.
+// The rows of an election up to its plan, and those after it, in which rows say more and claim all of a vector.
 const ROWS: [&str; 22] = [
     "recover,1",
     "recover,2",
@@ -209,14 +209,14 @@ fn all_of_replicas() {
 fn all_of_members() {
     for count in [0, 19] {
         let mut member = member(count);
-        let _asked = (member.next(0), member.settlement(), member.owned());
+        let _asked = (member.next(0), member.rebalance(), member.owned());
         let seen = Seen {
             epoch: 1,
-            presences: Vec::new(),
-            has_strangers: false,
-            is_wished: false,
+            leases: Vec::new(),
+            has_unknown: false,
+            has_request: false,
         };
-        let _told = (member.looked(1, &seen), member.learn(["?"]));
+        let _told = (member.snapshot_read(1, &seen), member.learn(["?"]));
         member.passed();
         let _asked = member.next(2);
         let _told = member.followed(3, &opening(2));
@@ -227,10 +227,10 @@ fn all_of_members() {
     let _fault = Member::open(&wrong, 9, TTL_MIN);
     let replica = learned(ROWS.len());
     let _all = (
-        replica.settle(&[1], None),
-        replica.settle(&[1, 2], Some(&[1, 0, 2])),
-        replica.settle(&[3], None),
-        replica.is_at_rest(&[1, 2], 0),
+        replica.rebalance(&[1], None),
+        replica.rebalance(&[1, 2], Some(&[1, 0, 2])),
+        replica.rebalance(&[3], None),
+        replica.is_stable(&[1, 2], 0),
         replica.owned(2, 0),
     );
 }
@@ -303,27 +303,30 @@ fn refused_tables_of_replicas() {
     assert!(tried.iter().all(|&count| count > 0), "{tried:?}");
 }
 
-/// What settles a group, and what a member makes, copies or learns.
+/// What rebalances a group, and what a member makes, copies or learns.
 #[test]
 fn refused_members() {
     let memory = OutOfMemory;
-    let out_of_memory = SettleError::Memory(memory);
+    let out_of_memory = RebalanceError::Memory(memory);
     let seen = Seen {
         epoch: 1,
-        presences: vec![bully::Presence {
+        leases: vec![bully::Lease {
             node: 1,
-            life: bully::Life {
+            session: bully::Session {
                 process: 8,
                 number: 1,
             },
-            promise: bully::Promise { epoch: 1, place: 0 },
+            promise: bully::Promise {
+                epoch: 1,
+                offset: 0,
+            },
         }],
-        has_strangers: false,
-        is_wished: false,
+        has_unknown: false,
+        has_request: false,
     };
-    let looking = || {
+    let reading = || {
         let mut member = member(19);
-        assert_eq!(member.next(0), Step::Ask(Request::Look));
+        assert_eq!(member.next(0), Step::Ask(Request::Snapshot));
         member
     };
     let following = || {
@@ -334,7 +337,7 @@ fn refused_members() {
     };
     let tried = [
         refusals(learned(ROWS.len()), out_of_memory, |replica| {
-            replica.settle(&[2], Some(&[1, 0, 2]))
+            replica.rebalance(&[2], Some(&[1, 0, 2]))
         }),
         refusals(learned(ROWS.len()), OwnedError::Memory(memory), |replica| {
             replica.owned(1, 0)
@@ -342,13 +345,13 @@ fn refused_members() {
         refusals(open(1), OpeningError::Memory(memory), |_| {
             Member::open(&opening(1), 9, TTL_MIN)
         }),
-        refusals(looking(), SeenError::Memory(memory), |member| {
-            member.looked(1, &seen)
+        refusals(reading(), SeenError::Memory(memory), |member| {
+            member.snapshot_read(1, &seen)
         }),
         refusals(member(14), NONE_LEARNED, |member| {
             member.learn(["plan,2,1 1 2"])
         }),
-        refusals(member(19), out_of_memory, |member| member.settlement()),
+        refusals(member(19), out_of_memory, |member| member.rebalance()),
         refusals(member(19), memory, |member| member.owned()),
         refusals(following(), OpeningError::Memory(memory), |member| {
             member.followed(1, &opening(2))

@@ -1,5 +1,5 @@
 //! What one agent or one replica refuses, by each fault that the header has: nothing changes then. The faults of lines are those of
-//! `docs/NODE.md`. `replicas.rs` has the faults of rows that are learned.
+//! `docs/FORMATS.md`. `replicas.rs` has the faults of rows that are learned.
 
 use bully::{
     Agent, Answer, FormFault, HeaderError, LearnError, LearnFault, LineFault, LogError, NodeFault,

@@ -37,7 +37,7 @@ impl Row<'_> {
         }
     }
 
-    // What its node wants before it, if no call is under way; and behind it why the same call is refused, and why a check is.
+    // What its node wants before it, if no call is under way; and after it why the same call is refused, and why a check is.
     fn facts(&self) -> (Option<Want>, Option<Refused>, Option<Refused>) {
         use Refused::{Busy, IsDown, IsUp, NoCall, NoStep, SlotBusy};
         match self.word {
@@ -108,7 +108,7 @@ impl Node {
         format!("tell,{},{},{answer}", row.place + 1, self.number)
     }
 
-    // What is refused behind the row changes nothing.
+    // What is refused after the row changes nothing.
     fn refuse(&mut self, row: &Row) {
         let before = shown(&self.agent);
         let (_, again, check) = row.facts();
@@ -159,7 +159,7 @@ impl Node {
     }
 }
 
-/// The agents of a group, and their log, in which a claim stands behind each event.
+/// The agents of a group, and their log, in which a claim comes after each event.
 struct Replay {
     setup: Setup,
     nodes: Vec<Node>,

@@ -1,4 +1,4 @@
-//! Groups whose history is one log: each member has a replica of it, and appends behind exactly the rows that it has learned. What
+//! Groups whose history is one log: each member has a replica of it, and appends after exactly the rows that it has learned. What
 //! they append, the tables and the tokens follow from the rules of `docs/ALGORITHM.md`, and what is learned from `docs/FORMATS.md`.
 
 mod shown;
@@ -25,12 +25,12 @@ impl Member {
     }
 
     fn read_on(&mut self, log: &[String]) {
-        let unread = &log[self.place()..];
+        let unread = &log[self.offset()..];
         assert_eq!(self.replica.learn(unread), Ok(unread.len()));
     }
 
-    // Where it would append: behind the rows that it has learned.
-    fn place(&self) -> usize {
+    // Where it would append: after the rows that it has learned.
+    fn offset(&self) -> usize {
         self.replica.group().rows as usize
     }
 
@@ -56,9 +56,9 @@ impl Cluster {
         }
     }
 
-    // The row stands in the log from now on, if that ends at this place.
-    fn append(&mut self, place: usize, row: String) -> bool {
-        let is_end = place == self.log.len();
+    // The row is in the log from now on, if that ends at this offset.
+    fn append(&mut self, offset: usize, row: String) -> bool {
+        let is_end = offset == self.log.len();
         if is_end {
             self.log.push(row);
         }
@@ -70,8 +70,8 @@ impl Cluster {
         let member = &mut self.members[usize::from(by) - 1];
         member.read_on(&self.log);
         let row = member.replica.event(node, event).expect("it may happen");
-        let place = member.place();
-        assert!(self.append(place, row));
+        let offset = member.offset();
+        assert!(self.append(offset, row));
     }
 
     fn recover(&mut self, nodes: &[u16]) {
@@ -81,7 +81,7 @@ impl Cluster {
     }
 
     // Each member in turn reads on and appends what its node does next, until all rest.
-    fn settle(&mut self) {
+    fn take_turns(&mut self) {
         let mut before = usize::MAX;
         while self.log.len() != before {
             before = self.log.len();
@@ -89,8 +89,8 @@ impl Cluster {
             for index in 0..self.members.len() {
                 let member = &mut self.members[index];
                 member.read_on(&self.log);
-                let place = member.place();
-                let appended = member.next().map(|row| self.append(place, row));
+                let offset = member.offset();
+                let appended = member.next().map(|row| self.append(offset, row));
                 assert_ne!(appended, Some(false));
             }
         }
@@ -189,14 +189,14 @@ const OF_THREE: Group = Group {
 fn two_nodes() -> Cluster {
     let mut cluster = Cluster::open("bully,1,2,3");
     cluster.recover(&[1, 2]);
-    cluster.settle();
+    cluster.take_turns();
     cluster
 }
 
 fn three_nodes() -> Cluster {
     let mut cluster = Cluster::open("bully,2,3,7,1 2 1,clear");
     cluster.recover(&[1, 2, 3]);
-    cluster.settle();
+    cluster.take_turns();
     cluster
 }
 
@@ -243,7 +243,7 @@ fn the_coordinator_crashes_and_comes_back() {
     let mut cluster = three_nodes();
     cluster.happens(1, 3, ReplicaEvent::Crash);
     cluster.happens(2, 2, ReplicaEvent::Timeout);
-    cluster.settle();
+    cluster.take_turns();
     assert_eq!(cluster.log[32..], rows_of(WITHOUT_NODE_3));
     let without = Group {
         rows: 54,
@@ -258,7 +258,7 @@ fn the_coordinator_crashes_and_comes_back() {
 
     cluster.members[2] = Member::open(&cluster.header, 3); // another process, which reads all
     cluster.recover(&[3]);
-    cluster.settle();
+    cluster.take_turns();
     assert_eq!(cluster.log[54..], rows_of(NODE_3_AGAIN));
     let again = Group {
         rows: 78,
@@ -269,7 +269,7 @@ fn the_coordinator_crashes_and_comes_back() {
     cluster.assert_all_see(again, &[1, 1, 2, 2, 2, 2, 3]);
 }
 
-/// Tokens never fall, and each node that is Normal goes by the last plan, behind whichever row.
+/// Tokens never fall, and each node that is Normal goes by the last plan, after whichever row.
 #[test]
 fn normal_nodes_go_by_the_last_plan() {
     let mut replica = opened("bully,2,3,7,1 2 1,clear");
@@ -297,7 +297,7 @@ fn normal_nodes_go_by_the_last_plan() {
 fn a_plan_goes_by_the_last_one() {
     let mut cluster = Cluster::open("bully,1,2,3");
     cluster.recover(&[2]);
-    cluster.settle();
+    cluster.take_turns();
     assert_eq!(
         cluster.log,
         rows_of("recover,2 move,2 start,2 lose,2 return,2 move,2 move,2 plan,2,2.2.2 move,2")
@@ -312,7 +312,7 @@ fn a_plan_goes_by_the_last_one() {
     cluster.happens(1, 2, ReplicaEvent::Crash);
     cluster.recover(&[2, 1]);
     assert_eq!(cluster.members[0].replica.task(2), Ok(None));
-    cluster.settle();
+    cluster.take_turns();
     let both = Group {
         rows: 29,
         events: 29,
@@ -328,9 +328,9 @@ fn a_task_is_kept() {
     let header = Setup::new(2, 3, 1000).keeping().header();
     let mut cluster = Cluster::open(&header.expect("a setup"));
     cluster.recover(&[1, 2]);
-    cluster.settle();
+    cluster.take_turns();
     cluster.happens(2, 1, ReplicaEvent::Crash);
-    cluster.settle();
+    cluster.take_turns();
     assert_eq!(cluster.lines(), ["1 down - - 1,1,2", "2 normal 2 2 1,1,2"]);
     let keeping = Group {
         rows: 20,
@@ -351,14 +351,14 @@ fn one_of_many_appends() {
         let log = &cluster.log;
         let offers = cluster.members.iter_mut().filter_map(|member| {
             member.read_on(log);
-            Some((member.place(), member.next()?))
+            Some((member.offset(), member.next()?))
         });
         let offers: Vec<(usize, String)> = offers.collect();
         if offers.is_empty() {
             break;
         }
-        for (place, row) in offers {
-            passed_over += usize::from(!cluster.append(place, row));
+        for (offset, row) in offers {
+            passed_over += usize::from(!cluster.append(offset, row));
         }
     }
     assert!(passed_over > 0);
@@ -377,7 +377,7 @@ fn one_of_many_appends() {
 fn a_log_of_version_3() {
     let mut cluster = Cluster::open("bully,3,2,3,1 1,clear");
     cluster.recover(&[1, 2]);
-    cluster.settle();
+    cluster.take_turns();
     cluster.assert_all_see(OF_TWO, &[1, 1, 2]);
     for (row, wanted) in cluster.log.iter().zip(rows_of(TWO_NODES)) {
         assert!(row.starts_with(&wanted), "{row} isn't {wanted}");
@@ -487,7 +487,7 @@ fn stopped(taken: usize, fault: LearnFault) -> Result<usize, LearnError> {
     Err(LearnError { taken, fault })
 }
 
-/// Learning stops at the first row that isn't taken, and goes on behind those before it.
+/// Learning stops at the first row that isn't taken, and goes on after those before it.
 #[test]
 fn learning_stops_and_goes_on() {
     let mut replica = opened("bully,1,2,3");
@@ -568,7 +568,7 @@ fn rows_that_differ() {
     assert_eq!(opened(header).learn(rows), Ok(3));
 }
 
-/// A row that has none of the forms, whatever stands before it or behind it.
+/// A row that has none of the forms, whatever comes before it or after it.
 #[test]
 fn rows_without_form() {
     let bad_row = LearnFault::Form(FormFault::BadRow);
@@ -641,7 +641,7 @@ fn even(nodes: u16, partitions: u16) -> Setup {
     Setup::new(nodes, partitions, 1_000_000)
 }
 
-// The setup has this header, and a replica behind it shows the setup, of which each node is Down.
+// The setup has this header, and a replica opened with it shows the setup, of which each node is Down.
 fn assert_header(setup: &Setup, header: &str) {
     assert_eq!(setup.header().as_deref(), Ok(header));
     let replica = opened(header);

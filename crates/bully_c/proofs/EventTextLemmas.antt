@@ -4,7 +4,7 @@ use Rattle.std.proofs.lemmas.List.{append-nil}
 use Rattle.bully_calls.specs.declared.event.Event.{Event}
 use Rattle.bully_rows.specs.TraceText.{event_fields, line_of, row_fields, rows_text}
 use Rattle.bully_rows.specs.declared.trace.Row.{Row}
-use Rattle.bully_c.specs.Settlements.{events_text}
+use Rattle.bully_c.specs.RebalanceRows.{events_text}
 use Rattle.bully_c.proofs.MappedLemmas.{mapped-more}
 
 rows-push : (rows : List Row) (row : Row) → rows_text (rows ++ row ∷ []) ≡ rows_text rows ++ line_of (row_fields row)

@@ -2,7 +2,7 @@ pub mod RoomLemmas
 pub mod ConfigurationLemmas
 pub mod MappedLemmas
 pub mod OldTableLemmas
-pub mod PresenceLemmas
+pub mod LeaseLemmas
 pub mod EventTextLemmas
 pub mod SetLemmas
 pub mod SetupLemmas

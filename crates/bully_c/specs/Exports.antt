@@ -23,35 +23,35 @@ use Rattle.bully_calls.specs.declared.event.Refused.{Refused}
 use Rattle.bully_calls.specs.declared.kind.NodeEventKind.{NodeEventKind}
 use Rattle.bully_calls.specs.Events.{event_at}
 use Rattle.bully_c.specs.Arguments.{AreGiven, IsCopied, IsSetupRefusal, RefusesGiven, RefusesOwners, table_given}
-use Rattle.bully_c.specs.AgentSession.{ServesRequest, call_in, Takes, TakesFailure, TakesReply, TellsOwn, TellsPlan}
+use Rattle.bully_c.specs.HeldAgent.{ServesRequest, call_in, Takes, TakesFailure, TakesReply, TellsOwn, TellsPlan}
 use Rattle.bully_c.specs.Numbers.{answer_number, kind_number, reply_number, request_number, status_number, step_number, want_number}
 use Rattle.bully_c.specs.declared.status.TheConstants.{BAD_NODE, CLOSED, LINE_WORD, OK, OPEN, OUT_OF_MEMORY, SHORT, TABLE_LENGTH}
-use Rattle.bully_c.specs.declared.agent_session.AgentSession.{AgentSession}
-use Rattle.bully_c.specs.declared.agent_session.StepRows.{StepRows}
+use Rattle.bully_c.specs.declared.held_agent.HeldAgent.{HeldAgent}
+use Rattle.bully_c.specs.declared.held_agent.StepRows.{StepRows}
 use Rattle.bully_c.specs.declared.shown.CState.{CState}
 
 -- of what an open handle has this holds, and it stays open; a closed one is told, and stays closed
 abbrev pub AtOpenOf : (H : Type 0) → (H → ℕ → H → Type 0) → Option H → ℕ → Option H → Type 0
 AtOpenOf H Holds None status new = (status ≡ CLOSED) × (new ≡ None)
-AtOpenOf H Holds (Some session) status new = (after : H) × (new ≡ Some after) × Holds session status after
+AtOpenOf H Holds (Some held) status new = (after : H) × (new ≡ Some after) × Holds held status after
 
 -- and of an agent's
-abbrev pub AtOpen : (AgentSession → ℕ → AgentSession → Type 0) → Option AgentSession → ℕ → Option AgentSession → Type 0
-AtOpen = AtOpenOf AgentSession
+abbrev pub AtOpen : (HeldAgent → ℕ → HeldAgent → Type 0) → Option HeldAgent → ℕ → Option HeldAgent → Type 0
+AtOpen = AtOpenOf HeldAgent
 
 -- the status is that of a step which is taken or refused so
-abbrev pub IsStep : {A : Type 0} → (AgentSession → Result A Refused → AgentSession → Type 0) → AgentSession → ℕ → AgentSession → Type 0
-IsStep {A} Steps session status after = (said : Result A Refused) × (status ≡ step_number said) × Steps session said after
+abbrev pub IsStep : {A : Type 0} → (HeldAgent → Result A Refused → HeldAgent → Type 0) → HeldAgent → ℕ → HeldAgent → Type 0
+IsStep {A} Steps held status after = (said : Result A Refused) × (status ≡ step_number said) × Steps held said after
 
 -- an event of this kind, which the node takes by itself
-abbrev pub IsOwn : NodeEventKind → AgentSession → ℕ → AgentSession → Type 0
+abbrev pub IsOwn : NodeEventKind → HeldAgent → ℕ → HeldAgent → Type 0
 IsOwn kind = IsStep (Takes (event_at kind) (TellsOwn kind))
 
 -- the plan of these owners, or why they are none of the setup
-abbrev pub IsPlan : List ℕ → AgentSession → ℕ → AgentSession → Type 0
-IsPlan owners session status after =
-    (AreOwners session.agent.setup owners × IsStep (Takes (λ i. Event.Plan i owners) (TellsPlan owners)) session status after)
-    ⊎ (RefusesOwners session.agent.setup owners status × (after ≡ session))
+abbrev pub IsPlan : List ℕ → HeldAgent → ℕ → HeldAgent → Type 0
+IsPlan owners held status after =
+    (AreOwners held.agent.setup owners × IsStep (Takes (λ i. Event.Plan i owners) (TellsPlan owners)) held status after)
+    ⊎ (RefusesOwners held.agent.setup owners status × (after ≡ held))
 
 -- why a line is no request, by its number
 abbrev pub RefusesRequestLine : Setup → List ℕ → ℕ → Type 0
@@ -68,41 +68,41 @@ abbrev pub IsRequestLine : Setup → List ℕ → Request → Type 0
 IsRequestLine s line request = IsUtf8 line × (request_of_text s line ≡ Ok request)
 
 -- the line of what the node answers it, where it runs
-abbrev pub answer_line : AgentSession → Request → List ℕ
-answer_line session request = reply_text (record { caller = request.caller; number = request.number; answer = reply request.call.kind session.agent.node_state.vector.vector })
+abbrev pub answer_line : HeldAgent → Request → List ℕ
+answer_line held request = reply_text (record { caller = request.caller; number = request.number; answer = reply request.call.kind held.agent.node_state.vector.vector })
 
 -- the request of a line runs, and the line of its reply is written. Nothing happens where there isn't room for that, where the line
 -- is no request, or where an allocation failed.
-pub record NothingServed (line : List ℕ) (room count : ℕ) (session : AgentSession) (status count_after : ℕ) : Type 0 where
-  pub why : ((request : Request) × IsRequestLine session.agent.setup line request × (status ≡ SHORT) × (room < count_after) × (count_after ≡ length (answer_line session request)))
-      ⊎ ((request : Request) × IsRequestLine session.agent.setup line request × (status ≡ OUT_OF_MEMORY) × (count_after ≡ count))
-      ⊎ (RefusesRequestLine session.agent.setup line status × (count_after ≡ count))
+pub record NothingServed (line : List ℕ) (room count : ℕ) (held : HeldAgent) (status count_after : ℕ) : Type 0 where
+  pub why : ((request : Request) × IsRequestLine held.agent.setup line request × (status ≡ SHORT) × (room < count_after) × (count_after ≡ length (answer_line held request)))
+      ⊎ ((request : Request) × IsRequestLine held.agent.setup line request × (status ≡ OUT_OF_MEMORY) × (count_after ≡ count))
+      ⊎ (RefusesRequestLine held.agent.setup line status × (count_after ≡ count))
 
 -- what was written of the reply, if there is one
 abbrev pub IsReplyCopied : Result Reply Refused → List ℕ → ℕ → List ℕ → ℕ → Type 0
 IsReplyCopied (Ok reply) before count_before after count = IsCopied (reply_text reply) before OK after count
 IsReplyCopied (Err why) before count_before after count = (after ≡ before) × (count ≡ count_before)
 
-abbrev pub IsServe : List ℕ → List ℕ → ℕ → List ℕ → ℕ → AgentSession → ℕ → AgentSession → Type 0
-IsServe line before count_before after_reply count session status after =
-    (NothingServed line (length before) count_before session status count × (after ≡ session) × (after_reply ≡ before))
-    ⊎ ((request : Request) × IsRequestLine session.agent.setup line request × (length (answer_line session request) ≤ length before)
-    × (said : Result Reply Refused) × (status ≡ step_number said) × ServesRequest request session said after × IsReplyCopied said before count_before after_reply count)
+abbrev pub IsServe : List ℕ → List ℕ → ℕ → List ℕ → ℕ → HeldAgent → ℕ → HeldAgent → Type 0
+IsServe line before count_before after_reply count held status after =
+    (NothingServed line (length before) count_before held status count × (after ≡ held) × (after_reply ≡ before))
+    ⊎ ((request : Request) × IsRequestLine held.agent.setup line request × (length (answer_line held request) ≤ length before)
+    × (said : Result Reply Refused) × (status ≡ step_number said) × ServesRequest request held said after × IsReplyCopied said before count_before after_reply count)
 
 -- what a call brought, in the place of what was there
 abbrev pub told_answer : ℕ → Result Answer Refused → ℕ
 told_answer before (Ok answer) = answer_number answer
 told_answer before (Err why) = before
 
-abbrev pub IsReply : List ℕ → ℕ → ℕ → AgentSession → ℕ → AgentSession → Type 0
-IsReply line before answer session status after =
-    (RefusesReplyLine session.agent.setup line status × (after ≡ session) × (answer ≡ before))
-    ⊎ ((reply : Reply) × IsUtf8 line × (reply_of_text session.agent.setup line ≡ Ok reply) × (said : Result Answer Refused) × (status ≡ step_number said)
-    × TakesReply reply session said after × (answer ≡ told_answer before said))
+abbrev pub IsReply : List ℕ → ℕ → ℕ → HeldAgent → ℕ → HeldAgent → Type 0
+IsReply line before answer held status after =
+    (RefusesReplyLine held.agent.setup line status × (after ≡ held) × (answer ≡ before))
+    ⊎ ((reply : Reply) × IsUtf8 line × (reply_of_text held.agent.setup line ≡ Ok reply) × (said : Result Answer Refused) × (status ≡ step_number said)
+    × TakesReply reply held said after × (answer ≡ told_answer before said))
 
-abbrev pub IsFailure : ℕ → ℕ → ℕ → AgentSession → ℕ → AgentSession → Type 0
-IsFailure number before answer session status after =
-    (said : Result Answer Refused) × (status ≡ step_number said) × TakesFailure number session said after × (answer ≡ told_answer before said)
+abbrev pub IsFailure : ℕ → ℕ → ℕ → HeldAgent → ℕ → HeldAgent → Type 0
+IsFailure number before answer held status after =
+    (said : Result Answer Refused) × (status ≡ step_number said) × TakesFailure number held said after × (answer ≡ told_answer before said)
 
 -- ---- what an agent shows
 
@@ -132,11 +132,11 @@ shown a = record (node_shown a.node_state.vector.vector a.node_state.slot a.node
 
 -- nothing changes, and this is shown
 abbrev pub ShowsOf : (H : Type 0) → (H → ℕ → Type 0) → H → ℕ → H → Type 0
-ShowsOf H Says session status after = Says session status × (after ≡ session)
+ShowsOf H Says held status after = Says held status × (after ≡ held)
 
 -- and shown of the agent
-abbrev pub Shows : (AgentSession → ℕ → Type 0) → AgentSession → ℕ → AgentSession → Type 0
-Shows = ShowsOf AgentSession
+abbrev pub Shows : (HeldAgent → ℕ → Type 0) → HeldAgent → ℕ → HeldAgent → Type 0
+Shows = ShowsOf HeldAgent
 
 -- ---- what a node should plan
 
@@ -150,9 +150,9 @@ RefusesPrepare a old room status =
     ((status ≡ TABLE_LENGTH) × (room ≢ a.setup.partitions)) ⊎ ((room ≡ a.setup.partitions) × RefusesGiven a.setup old status)
     ⊎ ((status ≡ OUT_OF_MEMORY) × (room ≡ a.setup.partitions) × AreGiven a.setup old)
 
-abbrev pub IsPrepared : List ℕ → List ℕ → List ℕ → AgentSession → ℕ → AgentSession → Type 0
-IsPrepared old before owners = Shows (λ session status.
-    ((status ≡ OK) × IsPreparedTable session.agent old owners) ⊎ (RefusesPrepare session.agent old (length before) status × (owners ≡ before)))
+abbrev pub IsPrepared : List ℕ → List ℕ → List ℕ → HeldAgent → ℕ → HeldAgent → Type 0
+IsPrepared old before owners = Shows (λ held status.
+    ((status ≡ OK) × IsPreparedTable held.agent old owners) ⊎ (RefusesPrepare held.agent old (length before) status × (owners ≡ before)))
 
 -- ---- opening and closing
 
@@ -170,14 +170,14 @@ pub record RefusesOpening (s : Setup) (node : ℕ) (task : List ℕ) (status : �
       ⊎ ((status ≡ OUT_OF_MEMORY) × IsSetup s × IsNode s node × AreGiven s task)
 
 -- the agent that took no step
-abbrev pub opened : Setup → ℕ → ℕ → List ℕ → AgentSession
+abbrev pub opened : Setup → ℕ → ℕ → List ℕ → HeldAgent
 opened s node events task = record { agent = new_agent s node events (table_given task); told = StepRows.Nothing }
 
-abbrev pub IsOpening : Setup → ℕ → ℕ → List ℕ → Option AgentSession → ℕ → Option AgentSession → Type 0
-IsOpening s node events task (Some session) status new = (status ≡ OPEN) × (new ≡ Some session)
+abbrev pub IsOpening : Setup → ℕ → ℕ → List ℕ → Option HeldAgent → ℕ → Option HeldAgent → Type 0
+IsOpening s node events task (Some held) status new = (status ≡ OPEN) × (new ≡ Some held)
 IsOpening s node events task None status new =
     ((status ≡ OK) × CanOpen s node task × (new ≡ Some (opened s node events task))) ⊎ (RefusesOpening s node task status × (new ≡ None))
 
 abbrev pub IsClosing : {H : Type 0} → Option H → ℕ → Option H → Type 0
 IsClosing None status new = (status ≡ CLOSED) × (new ≡ None)
-IsClosing (Some session) status new = (status ≡ OK) × (new ≡ None)
+IsClosing (Some held) status new = (status ≡ OK) × (new ≡ None)

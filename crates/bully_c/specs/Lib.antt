@@ -1,14 +1,14 @@
 pub mod Numbers
 pub mod MemberNumbers
 pub mod Ownership
-pub mod AgentSession
+pub mod HeldAgent
 pub mod Arguments
 pub mod Exports
 pub mod Judged
 pub mod Configurations
 pub mod Replicas
 pub mod OldTables
-pub mod Settlements
-pub mod Presences
+pub mod RebalanceRows
+pub mod Leases
 pub mod MemberShown
 pub mod Members

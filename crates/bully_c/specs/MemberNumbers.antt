@@ -3,7 +3,7 @@ use Rattle.std.specs.Prelude.{ℕ, ◌==◌, Option, None, Some, if◌then◌els
 use Rattle.bully_member.specs.declared.opening.MemberFault.{MemberFault}
 use Rattle.bully_member.specs.declared.values.Until.{Until}
 use Rattle.bully_member.specs.declared.values.Ending.{Ending}
-use Rattle.bully_member.specs.declared.values.LifeState.{LifeState}
+use Rattle.bully_member.specs.declared.values.SessionState.{SessionState}
 use Rattle.bully_member.specs.declared.values.StoreAnswer.{StoreAnswer}
 use Rattle.bully_member.specs.declared.values.Work.{Work}
 
@@ -33,26 +33,26 @@ abbrev pub ending_or_none : Option Ending → ℕ
 ending_or_none None = 0
 ending_or_none (Some ending) = ending_number ending
 
-abbrev pub life_number : LifeState → ℕ
-life_number LifeState.Absent = 0
-life_number (LifeState.Unknown life) = 1
-life_number (LifeState.Present life since) = 2
+abbrev pub session_number : SessionState → ℕ
+session_number SessionState.Absent = 0
+session_number (SessionState.Unknown session) = 1
+session_number (SessionState.Live session since) = 2
 
-abbrev pub life_process : LifeState → ℕ
-life_process LifeState.Absent = 0
-life_process (LifeState.Unknown life) = life.process
-life_process (LifeState.Present life since) = life.process
+abbrev pub session_process : SessionState → ℕ
+session_process SessionState.Absent = 0
+session_process (SessionState.Unknown session) = session.process
+session_process (SessionState.Live session since) = session.process
 
--- how many lives its process asked for up to this one
-abbrev pub life_count : LifeState → ℕ
-life_count LifeState.Absent = 0
-life_count (LifeState.Unknown life) = life.number
-life_count (LifeState.Present life since) = life.number
+-- how many sessions its process has asked for, up to and including this one
+abbrev pub session_count : SessionState → ℕ
+session_count SessionState.Absent = 0
+session_count (SessionState.Unknown session) = session.number
+session_count (SessionState.Live session since) = session.number
 
-abbrev pub life_since : LifeState → ℕ
-life_since LifeState.Absent = 0
-life_since (LifeState.Unknown life) = 0
-life_since (LifeState.Present life since) = since
+abbrev pub session_since : SessionState → ℕ
+session_since SessionState.Absent = 0
+session_since (SessionState.Unknown session) = 0
+session_since (SessionState.Live session since) = since
 
 abbrev pub work_number : Work → ℕ
 work_number Work.Idle = 0

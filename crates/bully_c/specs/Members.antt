@@ -4,10 +4,10 @@ use Rattle.bully_base.specs.Setup.{IsNode, Setup}
 use Rattle.bully_base.specs.declared.TheConstants.{NODES_MAX}
 use Rattle.bully_member.specs.Due.{due, noted}
 use Rattle.bully_member.specs.Learned.{RefusesTerms, after_learning, followed}
-use Rattle.bully_member.specs.Member.{AllAreDown, MemberState, Rests, new_member, owned_of, place_of, replica_of}
+use Rattle.bully_member.specs.Member.{AllAreDown, MemberState, SeesStable, new_member, owned_of, offset_of, replica_of}
 use Rattle.bully_member.specs.Opening.{RefusesMember, member_fault, terms_fault}
-use Rattle.bully_member.specs.Settlement.{settlement}
-use Rattle.bully_member.specs.Told.{answered, end_for, looked}
+use Rattle.bully_member.specs.Rebalance.{rebalance}
+use Rattle.bully_member.specs.Told.{answered, end_for, snapshot_read}
 use Rattle.bully_member.specs.declared.opening.MemberFault.{MemberFault}
 use Rattle.bully_member.specs.declared.opening.Terms.{Terms}
 use Rattle.bully_member.specs.declared.values.Ending.{Ending}
@@ -23,27 +23,27 @@ use Rattle.bully_c.specs.MemberNumbers.{answer_numbered, member_number}
 use Rattle.bully_c.specs.MemberShown.{step_shown}
 use Rattle.bully_c.specs.Numbers.{learn_fault_number}
 use Rattle.bully_c.specs.OldTables.{AreOld, RefusesOld, old_given}
-use Rattle.bully_c.specs.Presences.{ArePresences, RefusesPresences, presence_given}
+use Rattle.bully_c.specs.Leases.{AreLeases, RefusesLeases, lease_given}
 use Rattle.bully_c.specs.Replicas.{IsHeaderAlone, RefusesHeader, ShowsNode, has_end, has_mark, mark_number}
-use Rattle.bully_c.specs.Settlements.{IsOwnedMade, events_text}
+use Rattle.bully_c.specs.RebalanceRows.{IsOwnedMade, events_text}
 use Rattle.bully_c.specs.declared.member_shown.CStep.{CStep}
-use Rattle.bully_c.specs.declared.openings.MemberSession.{MemberSession}
+use Rattle.bully_c.specs.declared.openings.HeldMember.{HeldMember}
 use Rattle.bully_c.specs.declared.openings.Opening.{Opening}
 use Rattle.bully_c.specs.declared.openings.TermsTold.{TermsTold}
-use Rattle.bully_c.specs.declared.presences.CPresence.{CPresence}
+use Rattle.bully_c.specs.declared.leases.CLease.{CLease}
 use Rattle.bully_c.specs.declared.status.TheConstants.{BAD_ANSWER, BAD_NODE, FULL, OK, OPEN, OUT_OF_MEMORY, ROW_END}
 
 -- ---- handles
 
-abbrev pub AtMember : (MemberSession → ℕ → MemberSession → Type 0) → Option MemberSession → ℕ → Option MemberSession → Type 0
-AtMember = AtOpenOf MemberSession
+abbrev pub AtMember : (HeldMember → ℕ → HeldMember → Type 0) → Option HeldMember → ℕ → Option HeldMember → Type 0
+AtMember = AtOpenOf HeldMember
 
-abbrev pub ShowsMember : (MemberSession → ℕ → Type 0) → MemberSession → ℕ → MemberSession → Type 0
-ShowsMember = ShowsOf MemberSession
+abbrev pub ShowsMember : (HeldMember → ℕ → Type 0) → HeldMember → ℕ → HeldMember → Type 0
+ShowsMember = ShowsOf HeldMember
 
 -- the member becomes this, whatever it is
-abbrev pub Becomes : (MemberState → MemberState) → MemberSession → ℕ → MemberSession → Type 0
-Becomes to session status after = (status ≡ OK) × (after.member ≡ to session.member)
+abbrev pub Becomes : (MemberState → MemberState) → HeldMember → ℕ → HeldMember → Type 0
+Becomes to held status after = (status ≡ OK) × (after.member ≡ to held.member)
 
 -- ---- what an epoch is for a member
 
@@ -68,14 +68,14 @@ abbrev pub RefusesOpeningOf : List ℕ → TermsTold → List ℕ → ℕ → Ty
 RefusesOpeningOf text told old status =
     RefusesHeader text status ⊎ ((header : Header) × IsHeaderAlone text header × RefusesTermsGiven header.setup told old status)
 
--- the member that begins so
-pub record IsMemberOpened (text : List ℕ) (told : TermsTold) (old : List ℕ) (process ttl : ℕ) (session : MemberSession) : Type 0 where
+-- the member that begins with this
+pub record IsMemberOpened (text : List ℕ) (told : TermsTold) (old : List ℕ) (process ttl : ℕ) (held : HeldMember) : Type 0 where
   pub opening : Opening
   pub is : IsOpeningOf text told old opening
   pub can : member_fault opening.header.setup opening.terms ttl ≡ None
-  pub begins : session.member ≡ new_member opening.header opening.terms process ttl
+  pub begins : held.member ≡ new_member opening.header opening.terms process ttl
 
--- a member doesn't begin so, by its first fault, or for want of memory
+-- a member doesn't begin with this: for its first fault, or because an allocation failed
 pub record RefusesBeginning (text : List ℕ) (told : TermsTold) (old : List ℕ) (ttl status : ℕ) : Type 0 where
   pub opening : Opening
   pub is : IsOpeningOf text told old opening
@@ -86,29 +86,29 @@ pub record RefusesBeginning (text : List ℕ) (told : TermsTold) (old : List ℕ
 abbrev pub RefusesMemberOpening : List ℕ → TermsTold → List ℕ → ℕ → ℕ → Type 0
 RefusesMemberOpening text told old ttl status = RefusesOpeningOf text told old status ⊎ RefusesBeginning text told old ttl status
 
-abbrev pub IsMemberOpening : List ℕ → TermsTold → List ℕ → ℕ → ℕ → Option MemberSession → ℕ → Option MemberSession → Type 0
-IsMemberOpening text told old process ttl (Some session) status new = (status ≡ OPEN) × (new ≡ Some session)
+abbrev pub IsMemberOpening : List ℕ → TermsTold → List ℕ → ℕ → ℕ → Option HeldMember → ℕ → Option HeldMember → Type 0
+IsMemberOpening text told old process ttl (Some held) status new = (status ≡ OPEN) × (new ≡ Some held)
 IsMemberOpening text told old process ttl None status new =
-    ((status ≡ OK) × (after : MemberSession) × (new ≡ Some after) × IsMemberOpened text told old process ttl after)
+    ((status ≡ OK) × (after : HeldMember) × (new ≡ Some after) × IsMemberOpened text told old process ttl after)
     ⊎ (RefusesMemberOpening text told old ttl status × (new ≡ None))
 
 -- ---- what it does next
 
 -- the first rule that applies
 abbrev pub IsDue : MemberState → (now : ℕ) → Step → Type 0
-IsDue m now step = (rests are_down : Bool) → (IsTrue rests ↔ Rests m now) → (IsTrue are_down ↔ AllAreDown m) → step ≡ due m now rests are_down
+IsDue m now step = (is_stable are_down : Bool) → (IsTrue is_stable ↔ SeesStable m now) → (IsTrue are_down ↔ AllAreDown m) → step ≡ due m now is_stable are_down
 
-abbrev pub IsNextStep : (now : ℕ) → CStep → MemberSession → ℕ → MemberSession → Type 0
-IsNextStep now shown session status after =
-    (status ≡ OK) × (step : Step) × (shown ≡ step_shown step) × IsDue session.member now step × (after.member ≡ noted session.member now step)
+abbrev pub IsNextStep : (now : ℕ) → CStep → HeldMember → ℕ → HeldMember → Type 0
+IsNextStep now shown held status after =
+    (status ≡ OK) × (step : Step) × (shown ≡ step_shown step) × IsDue held.member now step × (after.member ≡ noted held.member now step)
 
 -- ---- what it is told
 
-abbrev pub IsAnswerOf : (now : ℕ) → Option StoreAnswer → MemberSession → ℕ → MemberSession → Type 0
-IsAnswerOf now None session status after = (status ≡ BAD_ANSWER) × (after ≡ session)
-IsAnswerOf now (Some answer) session status after = (status ≡ OK) × (after.member ≡ answered session.member now answer)
+abbrev pub IsAnswerOf : (now : ℕ) → Option StoreAnswer → HeldMember → ℕ → HeldMember → Type 0
+IsAnswerOf now None held status after = (status ≡ BAD_ANSWER) × (after ≡ held)
+IsAnswerOf now (Some answer) held status after = (status ≡ OK) × (after.member ≡ answered held.member now answer)
 
-abbrev pub IsAnswer : (now number : ℕ) → MemberSession → ℕ → MemberSession → Type 0
+abbrev pub IsAnswer : (now number : ℕ) → HeldMember → ℕ → HeldMember → Type 0
 IsAnswer now number = IsAnswerOf now (answer_numbered number)
 
 -- all that is left was learned, or why the first of it wasn't
@@ -130,55 +130,55 @@ pub record LearnsRows (text : List ℕ) (m : MemberState) (status : ℕ) (after 
   pub is : after ≡ after_learning m after.learned told
 
 -- ... and so many; nothing of a text without its end; nothing of one that begins with a mark, and then the member ends
-abbrev pub IsMemberLearning : List ℕ → ℕ → MemberSession → ℕ → MemberSession → Type 0
-IsMemberLearning text taken session status after =
-    ((has_end text ≡ false) × (status ≡ ROW_END) × (taken ≡ 0) × (after ≡ session))
-    ⊎ ((has_end text ≡ true) × (has_mark text ≡ true) × (status ≡ mark_number session.member.learned) × (taken ≡ 0) × (after.member ≡ end_for session.member Ending.Broken session.member.ending))
-    ⊎ ((has_end text ≡ true) × (has_mark text ≡ false) × LearnsRows text session.member status after.member
-    × (after.member.learned.rows ≡ session.member.learned.rows + taken))
+abbrev pub IsMemberLearning : List ℕ → ℕ → HeldMember → ℕ → HeldMember → Type 0
+IsMemberLearning text taken held status after =
+    ((has_end text ≡ false) × (status ≡ ROW_END) × (taken ≡ 0) × (after ≡ held))
+    ⊎ ((has_end text ≡ true) × (has_mark text ≡ true) × (status ≡ mark_number held.member.learned) × (taken ≡ 0) × (after.member ≡ end_for held.member Ending.Broken held.member.ending))
+    ⊎ ((has_end text ≡ true) × (has_mark text ≡ false) × LearnsRows text held.member status after.member
+    × (after.member.learned.rows ≡ held.member.learned.rows + taken))
 
--- the last node that may be present in this epoch, so far as the member knows
+-- the last node that may be live in this epoch, so far as the member knows
 abbrev pub last_node : MemberState → (epoch : ℕ) → ℕ
 last_node m epoch = if epoch == m.terms.epoch then (replica_of m).world.setup.nodes else NODES_MAX
 
-abbrev pub IsLook : (now epoch : ℕ) → List CPresence → (has_strangers is_wished : Bool) → MemberSession → ℕ → MemberSession → Type 0
-IsLook now epoch presences has_strangers is_wished session status after =
-    ((status ≡ OK) × ArePresences (last_node session.member epoch) presences
-    × (after.member ≡ looked session.member now epoch (map presence_given presences) has_strangers is_wished))
-    ⊎ (RefusesPresences (last_node session.member epoch) presences status × (after ≡ session))
+abbrev pub IsSnapshotRead : (now epoch : ℕ) → List CLease → (has_unknown has_request : Bool) → HeldMember → ℕ → HeldMember → Type 0
+IsSnapshotRead now epoch leases has_unknown has_request held status after =
+    ((status ≡ OK) × AreLeases (last_node held.member epoch) leases
+    × (after.member ≡ snapshot_read held.member now epoch (map lease_given leases) has_unknown has_request))
+    ⊎ (RefusesLeases (last_node held.member epoch) leases status × (after ≡ held))
 
 -- what an epoch begins with, or why the member doesn't go on there
-abbrev pub IsFollowOf : (now : ℕ) → Opening → MemberSession → ℕ → MemberSession → Type 0
-IsFollowOf now opening session status after =
-    ((status ≡ OK) × (terms_fault opening.header.setup opening.terms ≡ None) × (after.member ≡ followed session.member now opening.header opening.terms))
-    ⊎ ((fault : MemberFault) × RefusesTerms (terms_fault opening.header.setup opening.terms) fault × (status ≡ member_number fault) × (after ≡ session))
+abbrev pub IsFollowOf : (now : ℕ) → Opening → HeldMember → ℕ → HeldMember → Type 0
+IsFollowOf now opening held status after =
+    ((status ≡ OK) × (terms_fault opening.header.setup opening.terms ≡ None) × (after.member ≡ followed held.member now opening.header opening.terms))
+    ⊎ ((fault : MemberFault) × RefusesTerms (terms_fault opening.header.setup opening.terms) fault × (status ≡ member_number fault) × (after ≡ held))
 
-abbrev pub IsFollow : (now : ℕ) → List ℕ → TermsTold → List ℕ → MemberSession → ℕ → MemberSession → Type 0
-IsFollow now text told old session status after =
-    ((opening : Opening) × IsOpeningOf text told old opening × IsFollowOf now opening session status after)
-    ⊎ (RefusesOpeningOf text told old status × (after ≡ session))
+abbrev pub IsFollow : (now : ℕ) → List ℕ → TermsTold → List ℕ → HeldMember → ℕ → HeldMember → Type 0
+IsFollow now text told old held status after =
+    ((opening : Opening) × IsOpeningOf text told old opening × IsFollowOf now opening held status after)
+    ⊎ (RefusesOpeningOf text told old status × (after ≡ held))
 
 -- ---- what it finds of its group
 
--- whether the group rests for it
-pub record IsMemberRest (m : MemberState) (now told : ℕ) : Type 0 where
-  pub rests : Bool
-  pub decides : IsTrue rests ↔ Rests m now
-  pub told_is : told ≡ (if rests then 1 else 0)
+-- whether the group is stable for it
+pub record IsMemberStable (m : MemberState) (now told : ℕ) : Type 0 where
+  pub is_stable : Bool
+  pub decides : IsTrue is_stable ↔ SeesStable m now
+  pub told_is : told ≡ (if is_stable then 1 else 0)
 
--- what who is present so owns, if its node is one of the group's
-abbrev pub IsOwnedOfShown : MemberState → CPresence → ℕ → List ℕ → ℕ → ℕ → ℕ → List ℕ → ℕ → Type 0
+-- what the holder of this lease owns, if its node is one of the group's
+abbrev pub IsOwnedOfShown : MemberState → CLease → ℕ → List ℕ → ℕ → ℕ → ℕ → List ℕ → ℕ → Type 0
 IsOwnedOfShown m p token_before before count_before status token after count =
-    ShowsNode (replica_of m).world.setup p.node status (IsOwnedMade (owned_of m (presence_given p)) token_before before count_before status token after count)
+    ShowsNode (replica_of m).world.setup p.node status (IsOwnedMade (owned_of m (lease_given p)) token_before before count_before status token after count)
     ((token ≡ token_before) × (after ≡ before) × (count ≡ count_before))
 
 -- ---- what it appends
 
--- the rows of what settles the group, for which the log has room
-pub record IsMemberSettlement (m : MemberState) (text : List ℕ) : Type 0 where
-  pub text_is : text ≡ events_text (settlement m)
-  pub room : place_of m + length (settlement m) ≤ (replica_of m).world.setup.events_max
+-- the rows that rebalance the group, for which the log has room
+pub record IsMemberRebalance (m : MemberState) (text : List ℕ) : Type 0 where
+  pub text_is : text ≡ events_text (rebalance m)
+  pub room : offset_of m + length (rebalance m) ≤ (replica_of m).world.setup.events_max
 
-abbrev pub RefusesMemberSettlement : MemberState → ℕ → Type 0
-RefusesMemberSettlement m status =
-    ((status ≡ FULL) × ((replica_of m).world.setup.events_max < place_of m + length (settlement m))) ⊎ (status ≡ OUT_OF_MEMORY)
+abbrev pub RefusesMemberRebalance : MemberState → ℕ → Type 0
+RefusesMemberRebalance m status =
+    ((status ≡ FULL) × ((replica_of m).world.setup.events_max < offset_of m + length (rebalance m))) ⊎ (status ≡ OUT_OF_MEMORY)

@@ -44,7 +44,7 @@ trace_number TraceCause.OutOfMemory = 23
 trace_number TraceCause.Read = 23
 trace_number TraceCause.Write = 23
 
--- of the text of a header: with a row behind it, that is none
+-- of the text of a header: with a row after it, that is none
 abbrev pub header_number : TraceCause → ℕ
 header_number TraceCause.BadHeader = 50
 header_number TraceCause.BadRow = 50

@@ -35,7 +35,7 @@ AtLog = AtOpenOf RowReplicaState
 abbrev pub ShowsLog : (RowReplicaState → ℕ → Type 0) → RowReplicaState → ℕ → RowReplicaState → Type 0
 ShowsLog = ShowsOf RowReplicaState
 
--- the text is that of a header, and no row stands behind it
+-- the text is that of a header, and no row comes after it
 abbrev pub IsHeaderAlone : List ℕ → Header → Type 0
 IsHeaderAlone text header = trace_of (records_of text) ≡ Ok (headed header [])
 
@@ -48,7 +48,7 @@ abbrev pub RefusesHeader : List ℕ → ℕ → Type 0
 RefusesHeader text status = ((status ≡ BAD_HEADER) × ((header : Header) → ¬ IsHeaderAlone text header)) ⊎ (status ≡ OUT_OF_MEMORY)
 
 abbrev pub IsLogOpening : List ℕ → Option RowReplicaState → ℕ → Option RowReplicaState → Type 0
-IsLogOpening text (Some session) status new = (status ≡ OPEN) × (new ≡ Some session)
+IsLogOpening text (Some held) status new = (status ≡ OPEN) × (new ≡ Some held)
 IsLogOpening text None status new =
     ((header : Header) × IsHeaderAlone text header × (status ≡ OK) × (new ≡ Some (opened_log header))) ⊎ (RefusesHeader text status × (new ≡ None))
 
@@ -76,11 +76,11 @@ mark_number f = if f.rows == ROWS_MAX then trace_number TraceCause.TooManyRows e
 
 -- the rows of the text were learned up to that one, so many of them; nothing of a text that begins with a mark, or without its end
 abbrev pub IsLearning : List ℕ → ℕ → RowReplicaState → ℕ → RowReplicaState → Type 0
-IsLearning text taken session status after =
-    ((has_end text ≡ false) × (status ≡ ROW_END) × (taken ≡ 0) × (after ≡ session))
-    ⊎ ((has_end text ≡ true) × (has_mark text ≡ true) × (status ≡ mark_number session) × (taken ≡ 0) × (after ≡ session))
-    ⊎ ((has_end text ≡ true) × (has_mark text ≡ false) × (left : List Record) × FollowsUpTo (records_of text) session after left
-    × (after.rows ≡ session.rows + taken) × EndsLearning left after status)
+IsLearning text taken held status after =
+    ((has_end text ≡ false) × (status ≡ ROW_END) × (taken ≡ 0) × (after ≡ held))
+    ⊎ ((has_end text ≡ true) × (has_mark text ≡ true) × (status ≡ mark_number held) × (taken ≡ 0) × (after ≡ held))
+    ⊎ ((has_end text ≡ true) × (has_mark text ≡ false) × (left : List Record) × FollowsUpTo (records_of text) held after left
+    × (after.rows ≡ held.rows + taken) × EndsLearning left after status)
 
 -- ---- rows to be appended
 
@@ -100,7 +100,7 @@ RefusesRow f e status = ((why : Refused) × (append_cause f e ≡ Some why) × (
 abbrev pub HasNode : RowReplicaState → ℕ → Type 0
 HasNode f node = IsNode f.replica.world.setup node
 
--- the row of what the node appends next, or nothing if it rests
+-- the row that the node appends next, or nothing if it rests
 abbrev pub IsNextRow : RowReplicaState → ℕ → List ℕ → Type 0
 IsNextRow f node text = HasNode f node × (next : Option Event) × IsNext f.replica node next × MatchOption next (text ≡ []) (λ e. IsAllowedRow f e text)
 

@@ -9,13 +9,13 @@ ghost use Rattle.bully_calls.specs.declared.kind.EventKind.{EventKind};
 ghost use Rattle.bully_calls.specs.declared.kind.NodeEventKind.{NodeEventKind as KindState};
 ghost use Rattle.bully_c.specs.Arguments.{IsCopied, IsMadeAndCopied, setup_given};
 ghost use Rattle.bully_c.specs.Exports.{AtOpen, CanOpen, IsClosing, IsOpening, IsOwn, IsPlan, IsPrepared, IsPreparedTable, RefusesOpening, RefusesPrepare, Shows, opened, shown};
-ghost use Rattle.bully_c.specs.AgentSession.{rows_told};
+ghost use Rattle.bully_c.specs.HeldAgent.{rows_told};
 ghost use Rattle.bully_c.specs.Numbers.{step_number};
 ghost use Rattle.bully_c.specs.declared.status.TheConstants.{OK as OkNumber};
-ghost use Rattle.bully_c.specs.declared.agent_session.StepRows.{StepRows as StepRowsState};
+ghost use Rattle.bully_c.specs.declared.held_agent.StepRows.{StepRows as StepRowsState};
 
 use crate::agent_handle::AgentHandle;
-use crate::agent_session::AgentSession;
+use crate::held_agent::HeldAgent;
 use crate::shown::{CState, copy_owners, copy_text, copy_up, state_of};
 use crate::status::{CLOSED, OK, OPEN, OUT_OF_MEMORY, TABLE_LENGTH, status_of_refusal};
 use crate::tables::{CSetup, node_of, put_owners, read_table, setup_of, table_of};
@@ -37,7 +37,7 @@ fn done(taken: Result<Answer, Refused>) -> u32
     }
 }
 
-/// Opens the handle: [`Agent::new`], behind a test of its arguments.
+/// Opens the handle: [`Agent::new`], after a test of its arguments.
 #[unsafe(no_mangle)]
 pub extern "C" fn bully_c_agent_open(
     alloc: Global,
@@ -50,13 +50,13 @@ pub extern "C" fn bully_c_agent_open(
 ) -> u32
     ensures { IsOpening (setup_given setup.now weights.now) node events task.now agent.old.value result agent.new.value }
 {
-    if let Some(session) = agent.take(alloc) {
-        agent.put(alloc, session);
+    if let Some(held) = agent.take(alloc) {
+        agent.put(alloc, held);
         return OPEN;
     }
     match opened(alloc, setup, weights, node, events, task) {
-        Ok(session) => {
-            agent.put(alloc, session);
+        Ok(held) => {
+            agent.put(alloc, held);
             OK
         }
         Err(status) => status,
@@ -71,8 +71,8 @@ fn opened(
     node: u16,
     events: u32,
     task: &[u16],
-) -> Result<Box<AgentSession>, u32>
-    ensures ok { IfOk result (λ session. session.value ≡ opened (setup_given setup.now weights.now) node events task.now) }
+) -> Result<Box<HeldAgent>, u32>
+    ensures ok { IfOk result (λ held. held.value ≡ opened (setup_given setup.now weights.now) node events task.now) }
     ensures can { IfOk result (λ _. CanOpen (setup_given setup.now weights.now) node task.now) }
     ensures err { IfErr result (RefusesOpening (setup_given setup.now weights.now) node task.now) }
 {
@@ -80,7 +80,7 @@ fn opened(
     let node = node_of(&setup, node)?;
     let task = table_of(alloc, &setup, task)?;
     match boxed(alloc, &setup, node, events, task.as_ref()) {
-        Ok(session) => Ok(session),
+        Ok(held) => Ok(held),
         Err(_) => Err(OUT_OF_MEMORY),
     }
 }
@@ -92,13 +92,13 @@ fn boxed(
     node: Node,
     events: u32,
     task: Option<&Table>,
-) -> Result<Box<AgentSession>, OutOfMemory>
+) -> Result<Box<HeldAgent>, OutOfMemory>
     requires node { node ≤ setup.now.nodes }
     requires task { IfSome (option_copied task) (λ t. length t ≡ setup.now.partitions) }
-    ensures { IfOk result (λ session. session.value ≡ record { agent = new_agent setup.now node events (option_copied task.entry); told = StepRowsState.Nothing }) }
+    ensures { IfOk result (λ held. held.value ≡ record { agent = new_agent setup.now node events (option_copied task.entry); told = StepRowsState.Nothing }) }
 {
     let agent = Agent::new(alloc, setup, node, events, task)?;
-    Ok(Box::new(alloc, AgentSession::new(agent))?)
+    Ok(Box::new(alloc, HeldAgent::new(agent))?)
 }
 
 /// Closes the handle, and gives back what it kept.
@@ -117,11 +117,11 @@ fn apply(alloc: Global, agent: &mut AgentHandle, kind: NodeEventKind) -> u32
     requires { IsAlone (EventKind.Node kind) }
     ensures { AtOpen (IsOwn kind) agent.old.value result agent.new.value }
 {
-    let Some(mut session) = agent.take(alloc) else {
+    let Some(mut held) = agent.take(alloc) else {
         return CLOSED;
     };
-    let status = done(session.apply(kind));
-    agent.put(alloc, session);
+    let status = done(held.apply(kind));
+    agent.put(alloc, held);
     status
 }
 
@@ -186,25 +186,25 @@ pub extern "C" fn bully_c_agent_drop_orphan(alloc: Global, agent: &mut AgentHand
 pub extern "C" fn bully_c_agent_plan(alloc: Global, agent: &mut AgentHandle, owners: &[u16]) -> u32
     ensures { AtOpen (IsPlan owners.now) agent.old.value result agent.new.value }
 {
-    let Some(mut session) = agent.take(alloc) else {
+    let Some(mut held) = agent.take(alloc) else {
         return CLOSED;
     };
-    let status = planned(alloc, &mut session, owners);
-    agent.put(alloc, session);
+    let status = planned(alloc, &mut held, owners);
+    agent.put(alloc, held);
     status
 }
 
 // The agent has planned the table of these owners.
-fn planned(alloc: Global, session: &mut AgentSession, owners: &[u16]) -> u32
-    ensures { IsPlan owners.now session.old result session.new }
+fn planned(alloc: Global, held: &mut HeldAgent, owners: &[u16]) -> u32
+    ensures { IsPlan owners.now held.old result held.new }
 {
-    match read_table(alloc, session.agent.setup(), owners) {
-        Ok(table) => done(session.plan(table)),
+    match read_table(alloc, held.agent.setup(), owners) {
+        Ok(table) => done(held.plan(table)),
         Err(status) => status,
     }
 }
 
-/// The table that the node should plan from the one of these owners, or from none: [`Agent::prepare`].
+/// The table that the node should plan from the table of these owners, or from none: [`Agent::prepare`].
 #[unsafe(no_mangle)]
 pub extern "C" fn bully_c_agent_prepare(
     alloc: Global,
@@ -215,17 +215,17 @@ pub extern "C" fn bully_c_agent_prepare(
     ensures open { AtOpen (IsPrepared old.now owners.old owners.new) agent.old.value result agent.new.value }
     ensures closed { agent.old.value ≡ None → owners.new ≡ owners.old }
 {
-    let Some(session) = agent.take(alloc) else {
+    let Some(held) = agent.take(alloc) else {
         return CLOSED;
     };
-    let status = match prepared(alloc, &session.agent, old, owners.len()) {
+    let status = match prepared(alloc, &held.agent, old, owners.len()) {
         Ok(table) => {
             put_owners(&table, owners);
             OK
         }
         Err(status) => status,
     };
-    agent.put(alloc, session);
+    agent.put(alloc, held);
     status
 }
 
@@ -246,25 +246,25 @@ fn prepared(alloc: Global, agent: &Agent, old: &[u16], count: usize) -> Result<T
     }
 }
 
-/// How the node stands.
+/// The state of the node.
 #[unsafe(no_mangle)]
 pub extern "C" fn bully_c_agent_show(
     alloc: Global,
     agent: &mut AgentHandle,
     state: &mut CState,
 ) -> u32
-    ensures open { AtOpen (Shows (λ session status. (status ≡ OkNumber) × (state.new ≡ shown session.agent))) agent.old.value result agent.new.value }
+    ensures open { AtOpen (Shows (λ held status. (status ≡ OkNumber) × (state.new ≡ shown held.agent))) agent.old.value result agent.new.value }
     ensures closed { agent.old.value ≡ None → state.new ≡ state.old }
 {
-    let Some(session) = agent.take(alloc) else {
+    let Some(held) = agent.take(alloc) else {
         return CLOSED;
     };
-    *state = state_of(&session.agent);
-    agent.put(alloc, session);
+    *state = state_of(&held.agent);
+    agent.put(alloc, held);
     OK
 }
 
-/// The nodes of the node's up set, rising.
+/// The nodes of the node's up set, in rising order.
 #[unsafe(no_mangle)]
 pub extern "C" fn bully_c_agent_up(
     alloc: Global,
@@ -272,18 +272,18 @@ pub extern "C" fn bully_c_agent_up(
     nodes: &mut [u16],
     count: &mut usize,
 ) -> u32
-    ensures open { AtOpen (Shows (λ session status. IsCopied (reverse session.agent.node_state.vector.vector.up) nodes.old status nodes.new count.new)) agent.old.value result agent.new.value }
+    ensures open { AtOpen (Shows (λ held status. IsCopied (reverse held.agent.node_state.vector.vector.up) nodes.old status nodes.new count.new)) agent.old.value result agent.new.value }
     ensures closed { agent.old.value ≡ None → (nodes.new ≡ nodes.old) × (count.new ≡ count.old) }
 {
-    let Some(session) = agent.take(alloc) else {
+    let Some(held) = agent.take(alloc) else {
         return CLOSED;
     };
-    let status = copy_up(session.agent.vector().up(), nodes, count);
-    agent.put(alloc, session);
+    let status = copy_up(held.agent.vector().up(), nodes, count);
+    agent.put(alloc, held);
     status
 }
 
-/// The owners of the node's task; none without one.
+/// The owners of the node's task, or none without a task.
 #[unsafe(no_mangle)]
 pub extern "C" fn bully_c_agent_task(
     alloc: Global,
@@ -291,14 +291,14 @@ pub extern "C" fn bully_c_agent_task(
     owners: &mut [u16],
     count: &mut usize,
 ) -> u32
-    ensures open { AtOpen (Shows (λ session status. IsCopied (unwrap_or session.agent.node_state.vector.vector.task []) owners.old status owners.new count.new)) agent.old.value result agent.new.value }
+    ensures open { AtOpen (Shows (λ held status. IsCopied (unwrap_or held.agent.node_state.vector.vector.task []) owners.old status owners.new count.new)) agent.old.value result agent.new.value }
     ensures closed { agent.old.value ≡ None → (owners.new ≡ owners.old) × (count.new ≡ count.old) }
 {
-    let Some(session) = agent.take(alloc) else {
+    let Some(held) = agent.take(alloc) else {
         return CLOSED;
     };
-    let status = copy_owners(session.agent.vector().task(), owners, count);
-    agent.put(alloc, session);
+    let status = copy_owners(held.agent.vector().task(), owners, count);
+    agent.put(alloc, held);
     status
 }
 
@@ -310,18 +310,18 @@ pub extern "C" fn bully_c_agent_rows(
     rows: &mut [u8],
     length: &mut usize,
 ) -> u32
-    ensures open { AtOpen (Shows (λ session status. IsMadeAndCopied (rows_text (rows_told session.told)) rows.old length.old status rows.new length.new)) agent.old.value result agent.new.value }
+    ensures open { AtOpen (Shows (λ held status. IsMadeAndCopied (rows_text (rows_told held.told)) rows.old length.old status rows.new length.new)) agent.old.value result agent.new.value }
     ensures closed { agent.old.value ≡ None → (rows.new ≡ rows.old) × (length.new ≡ length.old) }
 {
-    let Some(session) = agent.take(alloc) else {
+    let Some(held) = agent.take(alloc) else {
         return CLOSED;
     };
     let mut text = String::new(alloc);
-    let status = match session.push_rows(&mut text) {
+    let status = match held.push_rows(&mut text) {
         Ok(()) => copy_text(&text, rows, length),
         Err(_) => OUT_OF_MEMORY,
     };
-    agent.put(alloc, session);
+    agent.put(alloc, held);
     status
 }
 
@@ -333,17 +333,17 @@ pub extern "C" fn bully_c_agent_claim(
     row: &mut [u8],
     length: &mut usize,
 ) -> u32
-    ensures open { AtOpen (Shows (λ session status. IsMadeAndCopied (line_of (row_fields (RowState.Whole (whole_of session.agent.node session.agent.node_state.vector.vector)))) row.old length.old status row.new length.new)) agent.old.value result agent.new.value }
+    ensures open { AtOpen (Shows (λ held status. IsMadeAndCopied (line_of (row_fields (RowState.Whole (whole_of held.agent.node held.agent.node_state.vector.vector)))) row.old length.old status row.new length.new)) agent.old.value result agent.new.value }
     ensures closed { agent.old.value ≡ None → (row.new ≡ row.old) × (length.new ≡ length.old) }
 {
-    let Some(session) = agent.take(alloc) else {
+    let Some(held) = agent.take(alloc) else {
         return CLOSED;
     };
     let mut text = String::new(alloc);
-    let status = match push_vector(&mut text, session.agent.node(), session.agent.vector()) {
+    let status = match push_vector(&mut text, held.agent.node(), held.agent.vector()) {
         Ok(()) => copy_text(&text, row, length),
         Err(_) => OUT_OF_MEMORY,
     };
-    agent.put(alloc, session);
+    agent.put(alloc, held);
     status
 }

@@ -1,4 +1,4 @@
-//! What is kept of a log behind a handle, and what is learned of it and told of it.
+//! What is kept of a log behind a handle, what is learned of it, and what is shown of it.
 ghost use Rattle.std.specs.Prelude.{◌≡◌, ◌≤◌, IfErr, IfOk, List, string_bytes};
 ghost use Rattle.bully_c.specs.Numbers.{header_number};
 ghost use Rattle.bully_c.specs.Replicas.{EndsLearning, IsAllowedRow, IsEventRow, IsHeaderAlone, IsLearning, IsNextRow, IsWritten, RefusesEvent, RefusesHeader, RefusesNext, RefusesRow, append_cause, has_end, has_mark, mark_number, opened_log};
@@ -19,15 +19,15 @@ use bully_rows::{Header, ROWS_MAX, RowReader, TraceCause, push_event, read_trace
 use bully_world::{Event, Refused};
 use std::alloc::Global;
 
-/// The replica of a log with the header of this text, on the heap. Refused if that is no header, if a row stands behind it,
-/// and if an allocation fails.
+/// The replica of a log with the header of this text, on the heap. Refused if the text is no header, if a row comes
+/// after the header, and if an allocation fails.
 pub fn opened(alloc: Global, text: &[u8]) -> Result<Box<RowReplica>, u32>
-    ensures ok { IfOk result (λ session. (header : HeaderState) × IsHeaderAlone text.now header × (session.value ≡ opened_log header)) }
+    ensures ok { IfOk result (λ held. (header : HeaderState) × IsHeaderAlone text.now header × (held.value ≡ opened_log header)) }
     ensures err { IfErr result (RefusesHeader text.now) }
 {
     let header = header_in(alloc, text)?;
     match boxed(alloc, header) {
-        Ok(session) => Ok(session),
+        Ok(held) => Ok(held),
         Err(_) => Err(OUT_OF_MEMORY),
     }
 }
@@ -49,7 +49,7 @@ pub fn header_in(alloc: Global, text: &[u8]) -> Result<Header, u32>
     }
 }
 
-// Why a text is no header: of a bad row, a row stands behind it.
+// Why a text is no header: if the cause is a bad row, a row comes after the header.
 fn status_of_header(cause: TraceCause) -> u32
     ensures { result ≡ header_number cause }
 {
@@ -61,30 +61,30 @@ fn status_of_header(cause: TraceCause) -> u32
 
 // The replica of a log with this header, on the heap.
 fn boxed(alloc: Global, header: Header) -> Result<Box<RowReplica>, OutOfMemory>
-    ensures { IfOk result (λ session. session.value ≡ opened_log header) }
+    ensures { IfOk result (λ held. held.value ≡ opened_log header) }
 {
     let learned = RowReplica::new(alloc, header)?;
     Ok(Box::new(alloc, learned)?)
 }
 
-/// Learns the rows of the text, and tells how many, and why the next one wasn't learned.
-pub fn learn(alloc: Global, session: &mut RowReplica, text: &[u8], taken: &mut usize) -> u32
-    ensures { IsLearning text.now taken.new session.old result session.new }
+/// Learns the rows of the text. Writes how many, and returns why the next one wasn't learned.
+pub fn learn(alloc: Global, held: &mut RowReplica, text: &[u8], taken: &mut usize) -> u32
+    ensures { IsLearning text.now taken.new held.old result held.new }
 {
     *taken = 0;
     if !has_end(text) {
         return ROW_END;
     }
     if has_mark(text) {
-        return status_of_mark(session);
+        return status_of_mark(held);
     }
-    let before = session.rows();
-    let status = learn_rows(alloc, session, text);
-    *taken = (session.rows() - before) as usize;
+    let before = held.rows();
+    let status = learn_rows(alloc, held, text);
+    *taken = (held.rows() - before) as usize;
     status
 }
 
-// Learns the rows of the text up to the first that isn't learned, and tells why it isn't.
+// Learns the rows of the text up to the first that isn't learned, and returns why it isn't.
 fn learn_rows(alloc: Global, learned: &mut RowReplica, text: &[u8]) -> u32
     ensures learned { (left : List Record) × FollowsUpTo (records_of text.now) learned.old learned.new left × EndsLearning left learned.new result }
     ensures counted { learned.old.rows ≤ learned.new.rows }
@@ -122,7 +122,8 @@ pub fn has_mark(text: &[u8]) -> bool
     text.starts_with(b"\xEF\xBB\xBF")
 }
 
-/// Writes the row of what the node of this number appends next by itself, or nothing if it rests; or tells why there is none.
+/// Writes the row that the node of this number appends next by itself, or nothing if it rests; or returns why there is
+/// none.
 pub fn write_next(
     alloc: Global,
     learned: &RowReplica,
@@ -138,7 +139,7 @@ pub fn write_next(
     }
 }
 
-// The row of what the node of this number appends next by itself, or nothing if it rests.
+// The row that the node of this number appends next by itself, or nothing if it rests.
 fn next_row(alloc: Global, learned: &RowReplica, node: u16) -> Result<String, u32>
     ensures ok { IfOk result (λ text. IsNextRow learned.now node (string_bytes text)) }
     ensures err { IfErr result (RefusesNext learned.now node) }
@@ -152,7 +153,7 @@ fn next_row(alloc: Global, learned: &RowReplica, node: u16) -> Result<String, u3
     }
 }
 
-/// Writes the row of the event of this number of the node of this number, or tells why there is none.
+/// Writes the row of the event of this number of the node of this number, or returns why there is none.
 pub fn write_event(
     alloc: Global,
     learned: &RowReplica,

@@ -1,8 +1,8 @@
 //! What C holds of a member.
 ghost use Rattle.std.specs.Prelude.{◌≡◌, Option, None, Some, MatchOption};
-ghost use Rattle.bully_c.specs.declared.openings.MemberSession.{MemberSession};
+ghost use Rattle.bully_c.specs.declared.openings.HeldMember.{HeldMember};
 
-use crate::openings::MemberSession;
+use crate::openings::HeldMember;
 use crate::raw_box::RawBox;
 use std::alloc::Global;
 use std::marker::Model;
@@ -11,41 +11,41 @@ use std::marker::Model;
 #[repr(C)]
 pub struct MemberHandle {
     at: *mut u8,
-    pub ghost value: { Option MemberSession },
+    pub ghost value: { Option HeldMember },
 }
 
 impl Model for MemberHandle {
     ghost use Rattle.std.specs.Prelude.{Option};
     ghost use Rattle.bully_c.specs.Ownership.{raw_box_owns};
-    ghost use Rattle.bully_c.specs.contracts.openings.MemberSession.{the_row};
+    ghost use Rattle.bully_c.specs.contracts.openings.HeldMember.{the_row};
 
     ghost also_owns = { λ h. raw_box_owns the_row h.at h.value };
 }
 
 impl MemberHandle {
     // Puts `with` in the place of what the handle has.
-    fn swap(&mut self, with: RawBox<MemberSession>) -> RawBox<MemberSession>
+    fn swap(&mut self, with: RawBox<HeldMember>) -> RawBox<HeldMember>
         ensures now { self.new.value ≡ with.value }
         ensures before { result.value ≡ self.old.value }
     {
         let RawBox { at } = with;
-        let before = self.at as *mut MemberSession;
+        let before = self.at as *mut HeldMember;
         self.at = at as *mut u8;
         RawBox { at: before }
     }
 
     /// Takes what the handle has, and leaves it closed.
-    pub fn take(&mut self, alloc: Global) -> Option<Box<MemberSession>>
-        ensures taken { MatchOption result (self.old.value ≡ None) (λ session. self.old.value ≡ Some session.value) }
+    pub fn take(&mut self, alloc: Global) -> Option<Box<HeldMember>>
+        ensures taken { MatchOption result (self.old.value ≡ None) (λ held. self.old.value ≡ Some held.value) }
         ensures closed { self.new.value ≡ None }
     {
         self.swap(RawBox::none()).into_box(alloc)
     }
 
     /// Puts this in, and drops what was there.
-    pub fn put(&mut self, alloc: Global, session: Box<MemberSession>)
-        ensures { self.new.value ≡ Some session.value }
+    pub fn put(&mut self, alloc: Global, held: Box<HeldMember>)
+        ensures { self.new.value ≡ Some held.value }
     {
-        drop(self.swap(RawBox::of(session)).into_box(alloc));
+        drop(self.swap(RawBox::of(held)).into_box(alloc));
     }
 }

@@ -1,11 +1,11 @@
 //! What a member does next, and what it shows, as C has it.
 ghost use Rattle.std.specs.Prelude.{◌≡◌};
-ghost use Rattle.bully_c.specs.MemberNumbers.{until_number, ending_number, ending_or_none, life_count, life_number, life_process, life_since, work_number, work_token};
-ghost use Rattle.bully_c.specs.MemberShown.{member_shown, no_step, of_life, request_shown, step_shown};
+ghost use Rattle.bully_c.specs.MemberNumbers.{until_number, ending_number, ending_or_none, session_count, session_number, session_process, session_since, work_number, work_token};
+ghost use Rattle.bully_c.specs.MemberShown.{member_shown, no_step, of_session, request_shown, step_shown};
 
-use bully_member::{Ending, LifeId, LifeState, Member, Request, Step, Until, Work};
+use bully_member::{Ending, Member, Request, SessionId, SessionState, Step, Until, Work};
 
-/// What a member does next. What a kind of step or request doesn't have is 0.
+/// What a member does next. A field that a kind of step or request doesn't have is 0.
 #[repr(C)]
 #[derive(Clone, Copy)]
 pub struct CStep {
@@ -15,12 +15,12 @@ pub struct CStep {
     pub kind: u32,
     pub request: u32,
     pub until: u32,
-    pub place: u32,
+    pub offset: u32,
     pub token: u32,
     pub ending: u32,
 }
 
-/// How a member stands.
+/// The state of a member.
 #[repr(C)]
 #[derive(Clone, Copy)]
 pub struct CMember {
@@ -28,15 +28,15 @@ pub struct CMember {
     pub number: u64,
     pub since: u64,
     pub sure_left: u64,
-    pub life: u32,
+    pub session: u32,
     pub promised: u32,
     pub work: u32,
     pub token: u32,
     pub ending: u32,
     pub epoch: u32,
-    pub place: u32,
+    pub offset: u32,
     pub node: u16,
-    pub is_wished: u16,
+    pub has_request: u16,
 }
 
 /// The step.
@@ -56,7 +56,7 @@ pub fn step_of(step: Step) -> CStep
             shown.at_most = at_most;
             shown.until = of_until(until);
         }
-        Step::Rest(at_most) => {
+        Step::BackOff(at_most) => {
             shown.kind = 5;
             shown.at_most = at_most;
         }
@@ -68,33 +68,33 @@ pub fn step_of(step: Step) -> CStep
     shown
 }
 
-// The step that asks this.
+// The step of this request.
 fn request_of(request: Request) -> CStep
     ensures { result ≡ request_shown request }
 {
     match request {
-        Request::Take(life, place) => asking(1, Some(life), place),
-        Request::Renew(life) => asking(2, Some(life), 0),
-        Request::Release(life) => asking(3, Some(life), 0),
-        Request::Look => asking(4, None, 0),
-        Request::Promise(life, place) => asking(5, Some(life), place),
-        Request::Append(place) => asking(6, None, place),
-        Request::Finish(place) => asking(7, None, place),
+        Request::Acquire(session, offset) => asking(1, Some(session), offset),
+        Request::Renew(session) => asking(2, Some(session), 0),
+        Request::Release(session) => asking(3, Some(session), 0),
+        Request::Snapshot => asking(4, None, 0),
+        Request::Promise(session, offset) => asking(5, Some(session), offset),
+        Request::Append(offset) => asking(6, None, offset),
+        Request::RollOver(offset) => asking(7, None, offset),
         Request::Follow => asking(8, None, 0),
     }
 }
 
-// The step that asks what has this number, of this life, and at this place.
-fn asking(request: u32, life: Option<LifeId>, place: u32) -> CStep
-    ensures { result ≡ of_life request life place }
+// The step of the request with this number, of this session, at this offset.
+fn asking(request: u32, session: Option<SessionId>, offset: u32) -> CStep
+    ensures { result ≡ of_session request session offset }
 {
     let mut shown = no_step();
     shown.kind = 1;
     shown.request = request;
-    shown.place = place;
-    if let Some(life) = life {
-        shown.process = life.process;
-        shown.number = life.number;
+    shown.offset = offset;
+    if let Some(session) = session {
+        shown.process = session.process;
+        shown.number = session.number;
     }
     shown
 }
@@ -109,7 +109,7 @@ fn no_step() -> CStep
         kind: 0,
         request: 0,
         until: 0,
-        place: 0,
+        offset: 0,
         token: 0,
         ending: 0,
     }
@@ -135,54 +135,57 @@ fn of_ending(ending: Ending) -> u32
     }
 }
 
-/// How the member stands now.
+/// The state of the member now.
 pub fn member_state(member: &Member, now: u64) -> CMember
     ensures { result ≡ member_shown member.now now }
 {
-    let (process, number) = life_of(member.life());
+    let (process, number) = session_of(member.session());
     CMember {
         process,
         number,
-        since: since_of(member.life()),
+        since: since_of(member.session()),
         sure_left: member.sure_left(now),
-        life: of_life(member.life()),
+        session: of_session(member.session()),
         promised: member.promised(),
         work: of_work(member.work()),
         token: token_of(member.work()),
         ending: ending_of(member.ending()),
         epoch: member.terms().epoch,
-        place: member.place(),
+        offset: member.offset(),
         node: member.terms().node.number(),
-        is_wished: u16::from(member.is_wished()),
+        has_request: u16::from(member.has_request()),
     }
 }
 
 // Its process and its number, or two zeros.
-fn life_of(life: LifeState) -> (u64, u64)
-    ensures { result ≡ (life_process life, life_count life) }
+fn session_of(session: SessionState) -> (u64, u64)
+    ensures { result ≡ (session_process session, session_count session) }
 {
-    match life {
-        LifeState::Absent => (0, 0),
-        LifeState::Unknown(life) | LifeState::Present(life, _) => (life.process, life.number),
+    match session {
+        SessionState::Absent => (0, 0),
+        SessionState::Unknown(session) | SessionState::Live(session, _) => (
+            session.process,
+            session.number,
+        ),
     }
 }
 
-fn since_of(life: LifeState) -> u64
-    ensures { result ≡ life_since life }
+fn since_of(session: SessionState) -> u64
+    ensures { result ≡ session_since session }
 {
-    match life {
-        LifeState::Absent | LifeState::Unknown(_) => 0,
-        LifeState::Present(_, since) => since,
+    match session {
+        SessionState::Absent | SessionState::Unknown(_) => 0,
+        SessionState::Live(_, since) => since,
     }
 }
 
-fn of_life(life: LifeState) -> u32
-    ensures { result ≡ life_number life }
+fn of_session(session: SessionState) -> u32
+    ensures { result ≡ session_number session }
 {
-    match life {
-        LifeState::Absent => 0,
-        LifeState::Unknown(_) => 1,
-        LifeState::Present(..) => 2,
+    match session {
+        SessionState::Absent => 0,
+        SessionState::Unknown(_) => 1,
+        SessionState::Live(..) => 2,
     }
 }
 

@@ -3,24 +3,24 @@ ghost use Rattle.std.specs.Prelude.{◌≡◌, ◌==◌, None, IfErr, IfOk, not,
 ghost use Rattle.bully_c.specs.Arguments.{IsCopied};
 ghost use Rattle.bully_c.specs.Exports.{IsClosing};
 ghost use Rattle.bully_c.specs.MemberShown.{member_shown};
-ghost use Rattle.bully_c.specs.Members.{AtMember, Becomes, IsAnswer, IsFollow, IsLook, IsMemberLearning, IsMemberOpening, IsMemberSettlement, IsNextStep, IsOwnedOfShown, IsMemberRest, RefusesMemberSettlement, ShowsMember};
+ghost use Rattle.bully_c.specs.Members.{AtMember, Becomes, IsAnswer, IsFollow, IsSnapshotRead, IsMemberLearning, IsMemberOpening, IsMemberRebalance, IsNextStep, IsOwnedOfShown, IsMemberStable, RefusesMemberRebalance, ShowsMember};
 ghost use Rattle.bully_c.specs.Replicas.{IsStateShown, IsWritten, group_shown, table_shown};
-ghost use Rattle.bully_c.specs.Settlements.{IsOwnedMade};
+ghost use Rattle.bully_c.specs.RebalanceRows.{IsOwnedMade};
 ghost use Rattle.bully_c.specs.declared.status.TheConstants.{OK as OkNumber};
 ghost use Rattle.bully_member.specs.Learned.{not_there};
 ghost use Rattle.bully_member.specs.Member.{replica_of};
-ghost use Rattle.bully_member.specs.Told.{end_for, lost_by, to_look};
+ghost use Rattle.bully_member.specs.Told.{end_for, lost_by, to_snapshot};
 ghost use Rattle.bully_member.specs.declared.values.Ending.{Ending};
 ghost use Rattle.bully_member.specs.declared.values.Work.{Work};
-ghost use Rattle.bully_settling.specs.Owning.{owned_by};
+ghost use Rattle.bully_rebalance.specs.Owning.{owned_by};
 
+use crate::leases::{CLease, lease_at};
 use crate::member_handle::MemberHandle;
 use crate::member_shown::{CMember, CStep, member_state};
-use crate::member_told::{learn, tell_answer, tell_follow, tell_look, tell_next};
+use crate::member_told::{learn, tell_answer, tell_follow, tell_next, tell_snapshot};
 use crate::openings::{TermsTold, opened_member};
-use crate::presences::{CPresence, presence_at};
+use crate::rebalances::{copy_owned, events_rows, status_of_rebalance};
 use crate::replicas::{CGroup, group_of, show_node};
-use crate::settlements::{copy_owned, events_rows, status_of_settling};
 use crate::shown::{CState, copy_owners, copy_text};
 use crate::status::{CLOSED, OK, OPEN, OUT_OF_MEMORY};
 use crate::tables::node_of;
@@ -42,8 +42,8 @@ pub extern "C" fn bully_c_member_open(
 ) -> u32
     ensures { IsMemberOpening header.now (record { epoch = epoch; node = node; rows_max = rows_max }) old.now process ttl member.old.value result member.new.value }
 {
-    if let Some(session) = member.take(alloc) {
-        member.put(alloc, session);
+    if let Some(held) = member.take(alloc) {
+        member.put(alloc, held);
         return OPEN;
     }
     let told = TermsTold {
@@ -52,8 +52,8 @@ pub extern "C" fn bully_c_member_open(
         rows_max,
     };
     match opened_member(alloc, header, told, old, process, ttl) {
-        Ok(session) => {
-            member.put(alloc, session);
+        Ok(held) => {
+            member.put(alloc, held);
             OK
         }
         Err(status) => status,
@@ -82,11 +82,11 @@ pub extern "C" fn bully_c_member_next(
     ensures open { AtMember (IsNextStep now step.new) member.old.value result member.new.value }
     ensures closed { member.old.value ≡ None → step.new ≡ step.old }
 {
-    let Some(mut session) = member.take(alloc) else {
+    let Some(mut held) = member.take(alloc) else {
         return CLOSED;
     };
-    let status = tell_next(&mut session, now, step);
-    member.put(alloc, session);
+    let status = tell_next(&mut held, now, step);
+    member.put(alloc, held);
     status
 }
 
@@ -100,15 +100,15 @@ pub extern "C" fn bully_c_member_answered(
 ) -> u32
     ensures { AtMember (IsAnswer now answer) member.old.value result member.new.value }
 {
-    let Some(mut session) = member.take(alloc) else {
+    let Some(mut held) = member.take(alloc) else {
         return CLOSED;
     };
-    let status = tell_answer(&mut session, now, answer);
-    member.put(alloc, session);
+    let status = tell_answer(&mut held, now, answer);
+    member.put(alloc, held);
     status
 }
 
-/// Learns the rows that stand next in the log: [`Member::learn`].
+/// Learns the rows that come next in the log: [`Member::learn`].
 #[unsafe(no_mangle)]
 pub extern "C" fn bully_c_member_learn(
     alloc: Global,
@@ -119,53 +119,53 @@ pub extern "C" fn bully_c_member_learn(
     ensures open { AtMember (IsMemberLearning rows.now taken.new) member.old.value result member.new.value }
     ensures closed { member.old.value ≡ None → taken.new ≡ taken.old }
 {
-    let Some(mut session) = member.take(alloc) else {
+    let Some(mut held) = member.take(alloc) else {
         return CLOSED;
     };
-    let status = learn(alloc, &mut session, rows, taken);
-    member.put(alloc, session);
+    let status = learn(alloc, &mut held, rows, taken);
+    member.put(alloc, held);
     status
 }
 
-/// What a look found behind the rows: [`Member::looked`].
+/// What a snapshot found beside the rows: [`Member::snapshot_read`].
 #[unsafe(no_mangle)]
-pub extern "C" fn bully_c_member_looked(
+pub extern "C" fn bully_c_member_snapshot_read(
     alloc: Global,
     member: &mut MemberHandle,
     now: u64,
     epoch: u32,
-    presences: &[CPresence],
-    has_strangers: u32,
-    is_wished: u32,
+    leases: &[CLease],
+    has_unknown: u32,
+    has_request: u32,
 ) -> u32
-    ensures { AtMember (IsLook now epoch presences.now (not (has_strangers == 0)) (not (is_wished == 0))) member.old.value result member.new.value }
+    ensures { AtMember (IsSnapshotRead now epoch leases.now (not (has_unknown == 0)) (not (has_request == 0))) member.old.value result member.new.value }
 {
-    let Some(mut session) = member.take(alloc) else {
+    let Some(mut held) = member.take(alloc) else {
         return CLOSED;
     };
-    let status = tell_look(
+    let status = tell_snapshot(
         alloc,
-        &mut session,
+        &mut held,
         now,
         epoch,
-        presences,
-        has_strangers != 0,
-        is_wished != 0,
+        leases,
+        has_unknown != 0,
+        has_request != 0,
     );
-    member.put(alloc, session);
+    member.put(alloc, held);
     status
 }
 
-/// The epoch is over, and its log was taken away: [`Member::passed`].
+/// The epoch is over, and its log was removed: [`Member::passed`].
 #[unsafe(no_mangle)]
 pub extern "C" fn bully_c_member_passed(alloc: Global, member: &mut MemberHandle) -> u32
     ensures { AtMember (Becomes (λ m. record m { is_past = true; asked = None })) member.old.value result member.new.value }
 {
-    let Some(mut session) = member.take(alloc) else {
+    let Some(mut held) = member.take(alloc) else {
         return CLOSED;
     };
-    session.member.passed();
-    member.put(alloc, session);
+    held.member.passed();
+    member.put(alloc, held);
     OK
 }
 
@@ -183,7 +183,7 @@ pub extern "C" fn bully_c_member_followed(
 ) -> u32
     ensures { AtMember (IsFollow now header.now (record { epoch = epoch; node = node; rows_max = rows_max }) old.now) member.old.value result member.new.value }
 {
-    let Some(mut session) = member.take(alloc) else {
+    let Some(mut held) = member.take(alloc) else {
         return CLOSED;
     };
     let told = TermsTold {
@@ -191,8 +191,8 @@ pub extern "C" fn bully_c_member_followed(
         node,
         rows_max,
     };
-    let status = tell_follow(alloc, &mut session, now, header, told, old);
-    member.put(alloc, session);
+    let status = tell_follow(alloc, &mut held, now, header, told, old);
+    member.put(alloc, held);
     status
 }
 
@@ -201,88 +201,88 @@ pub extern "C" fn bully_c_member_followed(
 pub extern "C" fn bully_c_member_not_there(alloc: Global, member: &mut MemberHandle) -> u32
     ensures { AtMember (Becomes (λ m. not_there m)) member.old.value result member.new.value }
 {
-    let Some(mut session) = member.take(alloc) else {
+    let Some(mut held) = member.take(alloc) else {
         return CLOSED;
     };
-    session.member.not_there();
-    member.put(alloc, session);
+    held.member.not_there();
+    member.put(alloc, held);
     OK
 }
 
 /// A wait is over: [`Member::woke`].
 #[unsafe(no_mangle)]
 pub extern "C" fn bully_c_member_woke(alloc: Global, member: &mut MemberHandle) -> u32
-    ensures { AtMember (Becomes (λ m. to_look m)) member.old.value result member.new.value }
+    ensures { AtMember (Becomes (λ m. to_snapshot m)) member.old.value result member.new.value }
 {
-    let Some(mut session) = member.take(alloc) else {
+    let Some(mut held) = member.take(alloc) else {
         return CLOSED;
     };
-    session.member.woke();
-    member.put(alloc, session);
+    held.member.woke();
+    member.put(alloc, held);
     OK
 }
 
-/// It has to end in order: [`Member::leave`].
+/// The member has to leave in an orderly way: [`Member::leave`].
 #[unsafe(no_mangle)]
 pub extern "C" fn bully_c_member_leave(alloc: Global, member: &mut MemberHandle) -> u32
     ensures { AtMember (Becomes (λ m. end_for m Ending.Left m.ending)) member.old.value result member.new.value }
 {
-    let Some(mut session) = member.take(alloc) else {
+    let Some(mut held) = member.take(alloc) else {
         return CLOSED;
     };
-    session.member.leave();
-    member.put(alloc, session);
+    held.member.leave();
+    member.put(alloc, held);
     OK
 }
 
-/// What was begun by this token has ended outside: [`Member::lost`].
+/// The work that was begun by this token has ended outside the member: [`Member::lost`].
 #[unsafe(no_mangle)]
 pub extern "C" fn bully_c_member_lost(alloc: Global, member: &mut MemberHandle, token: u32) -> u32
     ensures { AtMember (Becomes (λ m. record m { work = lost_by m.work token })) member.old.value result member.new.value }
 {
-    let Some(mut session) = member.take(alloc) else {
+    let Some(mut held) = member.take(alloc) else {
         return CLOSED;
     };
-    session.member.lost(token);
-    member.put(alloc, session);
+    held.member.lost(token);
+    member.put(alloc, held);
     OK
 }
 
-/// Nothing is worked on any more: [`Member::stopped`].
+/// All work has ended: [`Member::stopped`].
 #[unsafe(no_mangle)]
 pub extern "C" fn bully_c_member_stopped(alloc: Global, member: &mut MemberHandle) -> u32
     ensures { AtMember (Becomes (λ m. record m { work = Work.Idle })) member.old.value result member.new.value }
 {
-    let Some(mut session) = member.take(alloc) else {
+    let Some(mut held) = member.take(alloc) else {
         return CLOSED;
     };
-    session.member.stopped();
-    member.put(alloc, session);
+    held.member.stopped();
+    member.put(alloc, held);
     OK
 }
 
-/// The rows that it appends: [`Member::settlement`].
+/// The rows that it appends: [`Member::rebalance`].
 #[unsafe(no_mangle)]
-pub extern "C" fn bully_c_member_settlement(
+pub extern "C" fn bully_c_member_rebalance(
     alloc: Global,
     member: &mut MemberHandle,
     rows: &mut [u8],
     length: &mut usize,
 ) -> u32
-    ensures open { AtMember (ShowsMember (λ session status. IsWritten (IsMemberSettlement session.member) (RefusesMemberSettlement session.member) rows.old length.old status rows.new length.new)) member.old.value result member.new.value }
+    ensures open { AtMember (ShowsMember (λ held status. IsWritten (IsMemberRebalance held.member) (RefusesMemberRebalance held.member) rows.old length.old status rows.new length.new)) member.old.value result member.new.value }
     ensures closed { member.old.value ≡ None → (rows.new ≡ rows.old) × (length.new ≡ length.old) }
 {
-    let Some(session) = member.take(alloc) else {
+    let Some(held) = member.take(alloc) else {
         return CLOSED;
     };
-    let status = write_rows(alloc, &session.member, rows, length);
-    member.put(alloc, session);
+    let status = write_rows(alloc, &held.member, rows, length);
+    member.put(alloc, held);
     status
 }
 
 // Writes the rows that the member appends.
 fn write_rows(alloc: Global, member: &Member, rows: &mut [u8], length: &mut usize) -> u32
-    ensures { IsWritten (IsMemberSettlement member.now) (RefusesMemberSettlement member.now) rows.old length.old result rows.new length.new }
+    ensures { IsWritten (IsMemberRebalance member.now) (RefusesMemberRebalance member.now) rows.old length.old result rows.new length.new }
 {
     match member_rows(alloc, member) {
         Ok(text) => copy_text(&text, rows, length),
@@ -292,19 +292,19 @@ fn write_rows(alloc: Global, member: &Member, rows: &mut [u8], length: &mut usiz
 
 // The rows that the member appends.
 fn member_rows(alloc: Global, member: &Member) -> Result<String, u32>
-    ensures ok { IfOk result (λ text. IsMemberSettlement member.now (string_bytes text)) }
-    ensures err { IfErr result (RefusesMemberSettlement member.now) }
+    ensures ok { IfOk result (λ text. IsMemberRebalance member.now (string_bytes text)) }
+    ensures err { IfErr result (RefusesMemberRebalance member.now) }
 {
-    match member.settlement(alloc) {
+    match member.rebalance(alloc) {
         Ok(events) => match events_rows(alloc, &events) {
             Ok(text) => Ok(text),
             Err(_) => Err(OUT_OF_MEMORY),
         },
-        Err(fault) => Err(status_of_settling(fault)),
+        Err(fault) => Err(status_of_rebalance(fault)),
     }
 }
 
-/// What its node owns, by a plan behind all that its life has promised: [`Member::owned`].
+/// What its node owns, by a plan after all that its session has promised: [`Member::owned`].
 #[unsafe(no_mangle)]
 pub extern "C" fn bully_c_member_owned(
     alloc: Global,
@@ -313,14 +313,14 @@ pub extern "C" fn bully_c_member_owned(
     partitions: &mut [u16],
     count: &mut usize,
 ) -> u32
-    ensures open { AtMember (ShowsMember (λ session status. let m = session.member in IsOwnedMade (owned_by (replica_of m) m.terms.node m.promised) token.old partitions.old count.old status token.new partitions.new count.new)) member.old.value result member.new.value }
+    ensures open { AtMember (ShowsMember (λ held status. let m = held.member in IsOwnedMade (owned_by (replica_of m) m.terms.node m.promised) token.old partitions.old count.old status token.new partitions.new count.new)) member.old.value result member.new.value }
     ensures closed { member.old.value ≡ None → (token.new ≡ token.old) × (partitions.new ≡ partitions.old) × (count.new ≡ count.old) }
 {
-    let Some(session) = member.take(alloc) else {
+    let Some(held) = member.take(alloc) else {
         return CLOSED;
     };
-    let status = write_own(alloc, &session.member, token, partitions, count);
-    member.put(alloc, session);
+    let status = write_own(alloc, &held.member, token, partitions, count);
+    member.put(alloc, held);
     status
 }
 
@@ -340,40 +340,40 @@ fn write_own(
     }
 }
 
-/// What who is present so owns: [`Member::owned_of`].
+/// What the holder of this lease owns: [`Member::owned_of`].
 #[unsafe(no_mangle)]
 pub extern "C" fn bully_c_member_owned_of(
     alloc: Global,
     member: &mut MemberHandle,
-    presence: &CPresence,
+    lease: &CLease,
     token: &mut u32,
     partitions: &mut [u16],
     count: &mut usize,
 ) -> u32
-    ensures open { AtMember (ShowsMember (λ session status. IsOwnedOfShown session.member presence.now token.old partitions.old count.old status token.new partitions.new count.new)) member.old.value result member.new.value }
+    ensures open { AtMember (ShowsMember (λ held status. IsOwnedOfShown held.member lease.now token.old partitions.old count.old status token.new partitions.new count.new)) member.old.value result member.new.value }
     ensures closed { member.old.value ≡ None → (token.new ≡ token.old) × (partitions.new ≡ partitions.old) × (count.new ≡ count.old) }
 {
-    let Some(session) = member.take(alloc) else {
+    let Some(held) = member.take(alloc) else {
         return CLOSED;
     };
-    let status = write_owned_of(alloc, &session.member, presence, token, partitions, count);
-    member.put(alloc, session);
+    let status = write_owned_of(alloc, &held.member, lease, token, partitions, count);
+    member.put(alloc, held);
     status
 }
 
-// Writes what who is present so owns.
+// Writes what the holder of this lease owns.
 fn write_owned_of(
     alloc: Global,
     member: &Member,
-    presence: &CPresence,
+    lease: &CLease,
     token: &mut u32,
     partitions: &mut [u16],
     count: &mut usize,
 ) -> u32
-    ensures { IsOwnedOfShown member.now presence.now token.old partitions.old count.old result token.new partitions.new count.new }
+    ensures { IsOwnedOfShown member.now lease.now token.old partitions.old count.old result token.new partitions.new count.new }
 {
-    match node_of(member.replica().world().setup(), presence.node) {
-        Ok(node) => match member.owned_of(alloc, presence_at(node, presence)) {
+    match node_of(member.replica().world().setup(), lease.node) {
+        Ok(node) => match member.owned_of(alloc, lease_at(node, lease)) {
             Ok(owned) => copy_owned(&owned, token, partitions, count),
             Err(_) => OUT_OF_MEMORY,
         },
@@ -381,33 +381,33 @@ fn write_owned_of(
     }
 }
 
-/// Whether the group rests for it: [`Member::rests`].
+/// Whether the group is stable for it: [`Member::is_stable`].
 #[unsafe(no_mangle)]
-pub extern "C" fn bully_c_member_rests(
+pub extern "C" fn bully_c_member_is_stable(
     alloc: Global,
     member: &mut MemberHandle,
     now: u64,
-    rests: &mut u32,
+    is_stable: &mut u32,
 ) -> u32
-    ensures open { AtMember (ShowsMember (λ session status. (status ≡ OkNumber) × IsMemberRest session.member now rests.new)) member.old.value result member.new.value }
-    ensures closed { member.old.value ≡ None → rests.new ≡ rests.old }
+    ensures open { AtMember (ShowsMember (λ held status. (status ≡ OkNumber) × IsMemberStable held.member now is_stable.new)) member.old.value result member.new.value }
+    ensures closed { member.old.value ≡ None → is_stable.new ≡ is_stable.old }
 {
-    let Some(session) = member.take(alloc) else {
+    let Some(held) = member.take(alloc) else {
         return CLOSED;
     };
-    *rests = rest_told(&session.member, now);
-    member.put(alloc, session);
+    *is_stable = stable_told(&held.member, now);
+    member.put(alloc, held);
     OK
 }
 
-// Whether the group rests for the member, as C is told it.
-fn rest_told(member: &Member, now: u64) -> u32
-    ensures { IsMemberRest member.now now result }
+// Whether the group is stable for the member, as a number for C.
+fn stable_told(member: &Member, now: u64) -> u32
+    ensures { IsMemberStable member.now now result }
 {
-    u32::from(member.rests(now))
+    u32::from(member.is_stable(now))
 }
 
-/// How it stands now.
+/// The state of the member now.
 #[unsafe(no_mangle)]
 pub extern "C" fn bully_c_member_show(
     alloc: Global,
@@ -415,18 +415,18 @@ pub extern "C" fn bully_c_member_show(
     now: u64,
     shown: &mut CMember,
 ) -> u32
-    ensures open { AtMember (ShowsMember (λ session status. (status ≡ OkNumber) × (shown.new ≡ member_shown session.member now))) member.old.value result member.new.value }
+    ensures open { AtMember (ShowsMember (λ held status. (status ≡ OkNumber) × (shown.new ≡ member_shown held.member now))) member.old.value result member.new.value }
     ensures closed { member.old.value ≡ None → shown.new ≡ shown.old }
 {
-    let Some(session) = member.take(alloc) else {
+    let Some(held) = member.take(alloc) else {
         return CLOSED;
     };
-    *shown = member_state(&session.member, now);
-    member.put(alloc, session);
+    *shown = member_state(&held.member, now);
+    member.put(alloc, held);
     OK
 }
 
-/// How a node stands by what it learned.
+/// The state of a node, by what the member has learned.
 #[unsafe(no_mangle)]
 pub extern "C" fn bully_c_member_node(
     alloc: Global,
@@ -434,36 +434,36 @@ pub extern "C" fn bully_c_member_node(
     node: u16,
     state: &mut CState,
 ) -> u32
-    ensures open { AtMember (ShowsMember (λ session status. IsStateShown session.member.learned.replica.world node state.old status state.new)) member.old.value result member.new.value }
+    ensures open { AtMember (ShowsMember (λ held status. IsStateShown held.member.learned.replica.world node state.old status state.new)) member.old.value result member.new.value }
     ensures closed { member.old.value ≡ None → state.new ≡ state.old }
 {
-    let Some(session) = member.take(alloc) else {
+    let Some(held) = member.take(alloc) else {
         return CLOSED;
     };
-    let status = show_node(session.member.replica().world(), node, state);
-    member.put(alloc, session);
+    let status = show_node(held.member.replica().world(), node, state);
+    member.put(alloc, held);
     status
 }
 
-/// How its group stands by what it learned.
+/// The state of its group, by what the member has learned.
 #[unsafe(no_mangle)]
 pub extern "C" fn bully_c_member_group(
     alloc: Global,
     member: &mut MemberHandle,
     group: &mut CGroup,
 ) -> u32
-    ensures open { AtMember (ShowsMember (λ session status. (status ≡ OkNumber) × (group.new ≡ group_shown session.member.learned))) member.old.value result member.new.value }
+    ensures open { AtMember (ShowsMember (λ held status. (status ≡ OkNumber) × (group.new ≡ group_shown held.member.learned))) member.old.value result member.new.value }
     ensures closed { member.old.value ≡ None → group.new ≡ group.old }
 {
-    let Some(session) = member.take(alloc) else {
+    let Some(held) = member.take(alloc) else {
         return CLOSED;
     };
-    *group = group_of(session.member.learned());
-    member.put(alloc, session);
+    *group = group_of(held.member.learned());
+    member.put(alloc, held);
     OK
 }
 
-/// The owners of the last plan's table by what it learned; none without one.
+/// The owners of the last plan's table, by what the member has learned, or none without a plan.
 #[unsafe(no_mangle)]
 pub extern "C" fn bully_c_member_planned(
     alloc: Global,
@@ -471,13 +471,13 @@ pub extern "C" fn bully_c_member_planned(
     owners: &mut [u16],
     count: &mut usize,
 ) -> u32
-    ensures open { AtMember (ShowsMember (λ session status. IsCopied (table_shown session.member.learned.replica) owners.old status owners.new count.new)) member.old.value result member.new.value }
+    ensures open { AtMember (ShowsMember (λ held status. IsCopied (table_shown held.member.learned.replica) owners.old status owners.new count.new)) member.old.value result member.new.value }
     ensures closed { member.old.value ≡ None → (owners.new ≡ owners.old) × (count.new ≡ count.old) }
 {
-    let Some(session) = member.take(alloc) else {
+    let Some(held) = member.take(alloc) else {
         return CLOSED;
     };
-    let status = copy_owners(session.member.replica().last_table(), owners, count);
-    member.put(alloc, session);
+    let status = copy_owners(held.member.replica().last_table(), owners, count);
+    member.put(alloc, held);
     status
 }

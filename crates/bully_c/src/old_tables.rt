@@ -9,8 +9,9 @@ use bully_base::{EVENTS_MAX, NODES_MAX, OutOfMemory, Setup};
 use bully_table::Table;
 use std::alloc::Global;
 
-/// The old table of these owners, of which 0 stands for one that is gone; of none, none. Refused, in this order, as of another
-/// number of owners than there are partitions, an owner that is no node of the setup, and if an allocation fails.
+/// The old table of these owners, or none if there are no owners; 0 is an owner that is gone. Refused, in this order,
+/// if there are more or fewer owners than partitions, if an owner is neither 0 nor a node of the setup, and if an
+/// allocation fails.
 pub fn old_table(alloc: Global, setup: &Setup, owners: &[u16]) -> Result<Option<Table>, u32>
     ensures ok { IfOk result (λ table. table ≡ old_given setup.now.nodes owners.now) }
     ensures are { IfOk result (λ _. AreOld setup.now owners.now) }
@@ -45,7 +46,7 @@ fn are_old(setup: &Setup, owners: &[u16]) -> bool
     true
 }
 
-// The table in which a node that the setup lacks stands for 0. None if an allocation fails.
+// The table that has a node that the setup lacks in the place of 0. None if an allocation fails.
 fn kept_table(alloc: Global, setup: &Setup, owners: &[u16]) -> Option<Table>
     ensures table { IfSome result (λ table. table ≡ map (owner_before setup.now.nodes) owners.now) }
     ensures length { IfSome result (λ table. length table ≡ setup.now.partitions) }
@@ -68,7 +69,7 @@ fn kept_table(alloc: Global, setup: &Setup, owners: &[u16]) -> Option<Table>
     }
 }
 
-// The owners, in a group of so many nodes, with another node for each that is gone.
+// The owners, in a group of this many nodes, with another node for each that is gone.
 fn kept_owners(alloc: Global, nodes: u16, owners: &[u16]) -> Result<Vec<u16>, OutOfMemory>
     ensures { IfOk result (λ kept. kept.items ≡ map (owner_before nodes) owners.now) }
 {
@@ -79,7 +80,7 @@ fn kept_owners(alloc: Global, nodes: u16, owners: &[u16]) -> Result<Vec<u16>, Ou
     Ok(kept)
 }
 
-// The owner, or a node that a group of so many lacks if that is 0; in the largest group, node 1.
+// The owner; or if it is 0, a node that a group of this size lacks; in the largest group, node 1.
 fn owner_before(nodes: u16, owner: u16) -> u16
     ensures { result ≡ owner_before nodes owner }
 {

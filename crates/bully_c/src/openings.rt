@@ -14,11 +14,11 @@ use std::alloc::Global;
 
 /// A member.
 #[derive(Drop)]
-pub struct MemberSession {
+pub struct HeldMember {
     pub member: Member,
 }
 
-/// What an epoch is for a member, as it is told, beside the header of its log.
+/// What an epoch is for a member, as C gives it, beside the header of its log.
 #[derive(Clone, Copy)]
 pub struct TermsTold {
     pub epoch: u32,
@@ -33,7 +33,7 @@ pub struct Opening {
     pub terms: Terms,
 }
 
-/// What an epoch begins with, of this header and this old table.
+/// What an epoch begins with that has this header and this old table.
 pub fn opening_of(alloc: Global, text: &[u8], told: TermsTold, old: &[u16]) -> Result<Opening, u32>
     ensures ok { IfOk result (IsOpeningOf text.now told old.now) }
     ensures err { IfErr result (RefusesOpeningOf text.now told old.now) }
@@ -59,7 +59,7 @@ fn terms_of(alloc: Global, setup: &Setup, told: TermsTold, old: &[u16]) -> Resul
     })
 }
 
-/// The member that begins so, on the heap.
+/// The member that begins with this, on the heap.
 pub fn opened_member(
     alloc: Global,
     text: &[u8],
@@ -67,14 +67,14 @@ pub fn opened_member(
     old: &[u16],
     process: u64,
     ttl: u64,
-) -> Result<Box<MemberSession>, u32>
-    ensures ok { IfOk result (λ session. IsMemberOpened text.now told old.now process ttl session.value) }
+) -> Result<Box<HeldMember>, u32>
+    ensures ok { IfOk result (λ held. IsMemberOpened text.now told old.now process ttl held.value) }
     ensures err { IfErr result (RefusesMemberOpening text.now told old.now ttl) }
 {
     let Opening { header, terms } = opening_of(alloc, text, told, old)?;
     match Member::new(alloc, header, terms, process, ttl) {
         Ok(member) => match boxed(alloc, member) {
-            Ok(session) => Ok(session),
+            Ok(held) => Ok(held),
             Err(_) => Err(OUT_OF_MEMORY),
         },
         Err(fault) => Err(status_of_member(fault)),
@@ -82,13 +82,13 @@ pub fn opened_member(
 }
 
 // The member on the heap.
-fn boxed(alloc: Global, member: Member) -> Result<Box<MemberSession>, OutOfMemory>
-    ensures { IfOk result (λ session. session.value ≡ record { member = member }) }
+fn boxed(alloc: Global, member: Member) -> Result<Box<HeldMember>, OutOfMemory>
+    ensures { IfOk result (λ held. held.value ≡ record { member = member }) }
 {
-    Ok(Box::new(alloc, MemberSession { member })?)
+    Ok(Box::new(alloc, HeldMember { member })?)
 }
 
-/// Of a member that doesn't begin.
+/// The status of a member that doesn't begin.
 pub fn status_of_member(fault: MemberFault) -> u32
     ensures { result ≡ member_number fault }
 {

@@ -6,10 +6,11 @@ use std::alloc::Global;
 use std::marker::Model;
 use std::ptr::null_mut;
 
-/// A box as its pointer, which it owns, or null where there is none. To let it go without [`RawBox::into_box`] is to lose the box.
+/// A box as its pointer, which it owns, or null if there is none. To let it go without [`RawBox::into_box`] is to lose
+/// the box.
 pub struct RawBox<T> {
     pub at: *mut T,
-    /// What lies there; none where the pointer is null.
+    /// What lies there; none if the pointer is null.
     pub ghost value: { Option T },
 }
 

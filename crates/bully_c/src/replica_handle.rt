@@ -36,16 +36,16 @@ impl ReplicaHandle {
 
     /// Takes what the handle has, and leaves it closed.
     pub fn take(&mut self, alloc: Global) -> Option<Box<RowReplica>>
-        ensures taken { MatchOption result (self.old.value ≡ None) (λ session. self.old.value ≡ Some session.value) }
+        ensures taken { MatchOption result (self.old.value ≡ None) (λ held. self.old.value ≡ Some held.value) }
         ensures closed { self.new.value ≡ None }
     {
         self.swap(RawBox::none()).into_box(alloc)
     }
 
     /// Puts this in, and drops what was there.
-    pub fn put(&mut self, alloc: Global, session: Box<RowReplica>)
-        ensures { self.new.value ≡ Some session.value }
+    pub fn put(&mut self, alloc: Global, held: Box<RowReplica>)
+        ensures { self.new.value ≡ Some held.value }
     {
-        drop(self.swap(RawBox::of(session)).into_box(alloc));
+        drop(self.swap(RawBox::of(held)).into_box(alloc));
     }
 }

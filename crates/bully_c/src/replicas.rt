@@ -3,12 +3,12 @@ ghost use Rattle.std.specs.Prelude.{◌≡◌, None, IfErr, IfOk, string_bytes};
 ghost use Rattle.bully_c.specs.Arguments.{IsCopied, setup_given};
 ghost use Rattle.bully_c.specs.Exports.{IsClosing};
 ghost use Rattle.bully_c.specs.Replicas.{AtLog, IsEventRow, IsHeaderRow, IsLearning, IsLogOpening, IsNextRow, IsWritten, RefusesEvent, RefusesHeaderRow, RefusesNext, IsListShown, IsStateShown, ShowsLog, group_shown, table_shown, task_in, up_in};
-ghost use Rattle.bully_c.specs.Settlements.{IsAtRestShown, IsOwnedShown, IsSettlementOf, RefusesSettlement};
+ghost use Rattle.bully_c.specs.RebalanceRows.{IsStableShown, IsOwnedShown, IsRebalanceOf, RefusesRebalance};
 ghost use Rattle.bully_c.specs.declared.status.TheConstants.{OK as OkNumber};
 
 use crate::logs::{learn, opened, write_event, write_next};
+use crate::rebalances::{write_owned, write_rebalance, write_stable};
 use crate::replica_handle::ReplicaHandle;
-use crate::settlements::{write_owned, write_rest, write_settlement};
 use crate::shown::{CState, copy_owners, copy_text, copy_up, number_of, state_in};
 use crate::status::{CLOSED, OK, OPEN, OUT_OF_MEMORY};
 use crate::tables::{CSetup, node_of, setup_of};
@@ -17,7 +17,7 @@ use bully_rows::{push_header, version_for};
 use bully_world::World;
 use std::alloc::Global;
 
-/// How the group stands.
+/// The state of the group.
 #[repr(C)]
 #[derive(Clone, Copy)]
 pub struct CGroup {
@@ -30,7 +30,7 @@ pub struct CGroup {
     pub keeps: u16,
 }
 
-/// The header of a trace of this setup: [`push_header`], in the first version that can tell it.
+/// The header of a trace of this setup: [`push_header`], in the first version that can express it.
 #[unsafe(no_mangle)]
 pub extern "C" fn bully_c_header(
     alloc: Global,
@@ -60,7 +60,7 @@ fn header_row(alloc: Global, setup: &CSetup, weights: &[u16]) -> Result<String, 
     }
 }
 
-/// Opens the handle: the replica of a log behind this header, [`RowReplica::new`].
+/// Opens the handle: the replica of a log with this header, [`RowReplica::new`].
 #[unsafe(no_mangle)]
 pub extern "C" fn bully_c_replica_open(
     alloc: Global,
@@ -69,13 +69,13 @@ pub extern "C" fn bully_c_replica_open(
 ) -> u32
     ensures { IsLogOpening header.now replica.old.value result replica.new.value }
 {
-    if let Some(session) = replica.take(alloc) {
-        replica.put(alloc, session);
+    if let Some(held) = replica.take(alloc) {
+        replica.put(alloc, held);
         return OPEN;
     }
     match opened(alloc, header) {
-        Ok(session) => {
-            replica.put(alloc, session);
+        Ok(held) => {
+            replica.put(alloc, held);
             OK
         }
         Err(status) => status,
@@ -93,7 +93,7 @@ pub extern "C" fn bully_c_replica_close(alloc: Global, replica: &mut ReplicaHand
     }
 }
 
-/// Learns the rows that stand next in the log: [`RowReplica::learn_all`].
+/// Learns the rows that come next in the log: [`RowReplica::learn_all`].
 #[unsafe(no_mangle)]
 pub extern "C" fn bully_c_replica_learn(
     alloc: Global,
@@ -104,15 +104,15 @@ pub extern "C" fn bully_c_replica_learn(
     ensures open { AtLog (IsLearning rows.now taken.new) replica.old.value result replica.new.value }
     ensures closed { replica.old.value ≡ None → taken.new ≡ taken.old }
 {
-    let Some(mut session) = replica.take(alloc) else {
+    let Some(mut held) = replica.take(alloc) else {
         return CLOSED;
     };
-    let status = learn(alloc, &mut session, rows, taken);
-    replica.put(alloc, session);
+    let status = learn(alloc, &mut held, rows, taken);
+    replica.put(alloc, held);
     status
 }
 
-/// The row of what the node appends next by itself: [`bully_replica::Replica::next`].
+/// The row that the node appends next by itself: [`bully_replica::Replica::next`].
 #[unsafe(no_mangle)]
 pub extern "C" fn bully_c_replica_next(
     alloc: Global,
@@ -121,14 +121,14 @@ pub extern "C" fn bully_c_replica_next(
     row: &mut [u8],
     length: &mut usize,
 ) -> u32
-    ensures open { AtLog (ShowsLog (λ session status. IsWritten (IsNextRow session node) (RefusesNext session node) row.old length.old status row.new length.new)) replica.old.value result replica.new.value }
+    ensures open { AtLog (ShowsLog (λ held status. IsWritten (IsNextRow held node) (RefusesNext held node) row.old length.old status row.new length.new)) replica.old.value result replica.new.value }
     ensures closed { replica.old.value ≡ None → (row.new ≡ row.old) × (length.new ≡ length.old) }
 {
-    let Some(session) = replica.take(alloc) else {
+    let Some(held) = replica.take(alloc) else {
         return CLOSED;
     };
-    let status = write_next(alloc, &session, node, row, length);
-    replica.put(alloc, session);
+    let status = write_next(alloc, &held, node, row, length);
+    replica.put(alloc, held);
     status
 }
 
@@ -142,18 +142,18 @@ pub extern "C" fn bully_c_replica_event(
     row: &mut [u8],
     length: &mut usize,
 ) -> u32
-    ensures open { AtLog (ShowsLog (λ session status. IsWritten (IsEventRow session node event) (RefusesEvent session node event) row.old length.old status row.new length.new)) replica.old.value result replica.new.value }
+    ensures open { AtLog (ShowsLog (λ held status. IsWritten (IsEventRow held node event) (RefusesEvent held node event) row.old length.old status row.new length.new)) replica.old.value result replica.new.value }
     ensures closed { replica.old.value ≡ None → (row.new ≡ row.old) × (length.new ≡ length.old) }
 {
-    let Some(session) = replica.take(alloc) else {
+    let Some(held) = replica.take(alloc) else {
         return CLOSED;
     };
-    let status = write_event(alloc, &session, node, event, row, length);
-    replica.put(alloc, session);
+    let status = write_event(alloc, &held, node, event, row, length);
+    replica.put(alloc, held);
     status
 }
 
-/// How the node stands.
+/// The state of the node.
 #[unsafe(no_mangle)]
 pub extern "C" fn bully_c_replica_show(
     alloc: Global,
@@ -161,18 +161,18 @@ pub extern "C" fn bully_c_replica_show(
     node: u16,
     state: &mut CState,
 ) -> u32
-    ensures open { AtLog (ShowsLog (λ session status. IsStateShown session.replica.world node state.old status state.new)) replica.old.value result replica.new.value }
+    ensures open { AtLog (ShowsLog (λ held status. IsStateShown held.replica.world node state.old status state.new)) replica.old.value result replica.new.value }
     ensures closed { replica.old.value ≡ None → state.new ≡ state.old }
 {
-    let Some(session) = replica.take(alloc) else {
+    let Some(held) = replica.take(alloc) else {
         return CLOSED;
     };
-    let status = show_node(session.replica().world(), node, state);
-    replica.put(alloc, session);
+    let status = show_node(held.replica().world(), node, state);
+    replica.put(alloc, held);
     status
 }
 
-/// Writes how the node of this number stands.
+/// Writes the state of the node of this number.
 pub fn show_node(world: &World, node: u16, state: &mut CState) -> u32
     ensures { IsStateShown world.now node state.old result state.new }
 {
@@ -185,7 +185,7 @@ pub fn show_node(world: &World, node: u16, state: &mut CState) -> u32
     }
 }
 
-/// The nodes of the node's up set, rising.
+/// The nodes of the node's up set, in rising order.
 #[unsafe(no_mangle)]
 pub extern "C" fn bully_c_replica_up(
     alloc: Global,
@@ -194,14 +194,14 @@ pub extern "C" fn bully_c_replica_up(
     nodes: &mut [u16],
     count: &mut usize,
 ) -> u32
-    ensures open { AtLog (ShowsLog (λ session status. let w = session.replica.world in IsListShown w node (up_in w node) nodes.old count.old status nodes.new count.new)) replica.old.value result replica.new.value }
+    ensures open { AtLog (ShowsLog (λ held status. let w = held.replica.world in IsListShown w node (up_in w node) nodes.old count.old status nodes.new count.new)) replica.old.value result replica.new.value }
     ensures closed { replica.old.value ≡ None → (nodes.new ≡ nodes.old) × (count.new ≡ count.old) }
 {
-    let Some(session) = replica.take(alloc) else {
+    let Some(held) = replica.take(alloc) else {
         return CLOSED;
     };
-    let status = show_up(session.replica().world(), node, nodes, count);
-    replica.put(alloc, session);
+    let status = show_up(held.replica().world(), node, nodes, count);
+    replica.put(alloc, held);
     status
 }
 
@@ -215,7 +215,7 @@ fn show_up(world: &World, node: u16, nodes: &mut [u16], count: &mut usize) -> u3
     }
 }
 
-/// The owners of the node's task; none without one.
+/// The owners of the node's task, or none without a task.
 #[unsafe(no_mangle)]
 pub extern "C" fn bully_c_replica_task(
     alloc: Global,
@@ -224,14 +224,14 @@ pub extern "C" fn bully_c_replica_task(
     owners: &mut [u16],
     count: &mut usize,
 ) -> u32
-    ensures open { AtLog (ShowsLog (λ session status. let w = session.replica.world in IsListShown w node (task_in w node) owners.old count.old status owners.new count.new)) replica.old.value result replica.new.value }
+    ensures open { AtLog (ShowsLog (λ held status. let w = held.replica.world in IsListShown w node (task_in w node) owners.old count.old status owners.new count.new)) replica.old.value result replica.new.value }
     ensures closed { replica.old.value ≡ None → (owners.new ≡ owners.old) × (count.new ≡ count.old) }
 {
-    let Some(session) = replica.take(alloc) else {
+    let Some(held) = replica.take(alloc) else {
         return CLOSED;
     };
-    let status = show_task(session.replica().world(), node, owners, count);
-    replica.put(alloc, session);
+    let status = show_task(held.replica().world(), node, owners, count);
+    replica.put(alloc, held);
     status
 }
 
@@ -245,25 +245,25 @@ fn show_task(world: &World, node: u16, owners: &mut [u16], count: &mut usize) ->
     }
 }
 
-/// How the group stands.
+/// The state of the group.
 #[unsafe(no_mangle)]
 pub extern "C" fn bully_c_replica_group(
     alloc: Global,
     replica: &mut ReplicaHandle,
     group: &mut CGroup,
 ) -> u32
-    ensures open { AtLog (ShowsLog (λ session status. (status ≡ OkNumber) × (group.new ≡ group_shown session))) replica.old.value result replica.new.value }
+    ensures open { AtLog (ShowsLog (λ held status. (status ≡ OkNumber) × (group.new ≡ group_shown held))) replica.old.value result replica.new.value }
     ensures closed { replica.old.value ≡ None → group.new ≡ group.old }
 {
-    let Some(session) = replica.take(alloc) else {
+    let Some(held) = replica.take(alloc) else {
         return CLOSED;
     };
-    *group = group_of(&session);
-    replica.put(alloc, session);
+    *group = group_of(&held);
+    replica.put(alloc, held);
     OK
 }
 
-/// How the group stands of which this was learned.
+/// The state of the group of which this was learned.
 pub fn group_of(learned: &RowReplica) -> CGroup
     ensures { result ≡ group_shown learned.now }
 {
@@ -280,7 +280,7 @@ pub fn group_of(learned: &RowReplica) -> CGroup
     }
 }
 
-/// The owners of the last plan's table; none without one.
+/// The owners of the last plan's table, or none without a plan.
 #[unsafe(no_mangle)]
 pub extern "C" fn bully_c_replica_planned(
     alloc: Global,
@@ -288,84 +288,84 @@ pub extern "C" fn bully_c_replica_planned(
     owners: &mut [u16],
     count: &mut usize,
 ) -> u32
-    ensures open { AtLog (ShowsLog (λ session status. IsCopied (table_shown session.replica) owners.old status owners.new count.new)) replica.old.value result replica.new.value }
+    ensures open { AtLog (ShowsLog (λ held status. IsCopied (table_shown held.replica) owners.old status owners.new count.new)) replica.old.value result replica.new.value }
     ensures closed { replica.old.value ≡ None → (owners.new ≡ owners.old) × (count.new ≡ count.old) }
 {
-    let Some(session) = replica.take(alloc) else {
+    let Some(held) = replica.take(alloc) else {
         return CLOSED;
     };
-    let status = copy_owners(session.replica().last_table(), owners, count);
-    replica.put(alloc, session);
+    let status = copy_owners(held.replica().last_table(), owners, count);
+    replica.put(alloc, held);
     status
 }
 
-/// The rows that bring the group to rest among these nodes: [`bully_settling::settle`].
+/// The rows that make the group stable among these nodes: [`bully_rebalance::rebalance`].
 #[unsafe(no_mangle)]
-pub extern "C" fn bully_c_replica_settle(
+pub extern "C" fn bully_c_replica_rebalance(
     alloc: Global,
     replica: &mut ReplicaHandle,
-    present: &[u16],
+    live: &[u16],
     old: &[u16],
     rows: &mut [u8],
     length: &mut usize,
 ) -> u32
-    ensures open { AtLog (ShowsLog (λ session status. IsWritten (IsSettlementOf session present.now old.now) (RefusesSettlement session present.now old.now) rows.old length.old status rows.new length.new)) replica.old.value result replica.new.value }
+    ensures open { AtLog (ShowsLog (λ held status. IsWritten (IsRebalanceOf held live.now old.now) (RefusesRebalance held live.now old.now) rows.old length.old status rows.new length.new)) replica.old.value result replica.new.value }
     ensures closed { replica.old.value ≡ None → (rows.new ≡ rows.old) × (length.new ≡ length.old) }
 {
-    let Some(session) = replica.take(alloc) else {
+    let Some(held) = replica.take(alloc) else {
         return CLOSED;
     };
-    let status = write_settlement(alloc, &session, present, old, rows, length);
-    replica.put(alloc, session);
+    let status = write_rebalance(alloc, &held, live, old, rows, length);
+    replica.put(alloc, held);
     status
 }
 
-/// Whether the group is at rest among these nodes: [`bully_settling::is_at_rest`].
+/// Whether the group is stable among these nodes: [`bully_rebalance::is_stable`].
 #[unsafe(no_mangle)]
-pub extern "C" fn bully_c_replica_is_at_rest(
+pub extern "C" fn bully_c_replica_is_stable(
     alloc: Global,
     replica: &mut ReplicaHandle,
-    present: &[u16],
-    place: u32,
-    rests: &mut u32,
+    live: &[u16],
+    offset: u32,
+    is_stable: &mut u32,
 ) -> u32
-    ensures open { AtLog (ShowsLog (λ session status. IsAtRestShown session.replica present.now place rests.old status rests.new)) replica.old.value result replica.new.value }
-    ensures closed { replica.old.value ≡ None → rests.new ≡ rests.old }
+    ensures open { AtLog (ShowsLog (λ held status. IsStableShown held.replica live.now offset is_stable.old status is_stable.new)) replica.old.value result replica.new.value }
+    ensures closed { replica.old.value ≡ None → is_stable.new ≡ is_stable.old }
 {
-    let Some(session) = replica.take(alloc) else {
+    let Some(held) = replica.take(alloc) else {
         return CLOSED;
     };
-    let status = write_rest(&session, present, place, rests);
-    replica.put(alloc, session);
+    let status = write_stable(&held, live, offset, is_stable);
+    replica.put(alloc, held);
     status
 }
 
-/// What the node owns behind so many events: [`bully_settling::owned`].
+/// What the node owns, by a plan at or after this offset: [`bully_rebalance::owned`].
 #[unsafe(no_mangle)]
 pub extern "C" fn bully_c_replica_owned(
     alloc: Global,
     replica: &mut ReplicaHandle,
     node: u16,
-    place: u32,
+    offset: u32,
     token: &mut u32,
     partitions: &mut [u16],
     count: &mut usize,
 ) -> u32
-    ensures open { AtLog (ShowsLog (λ session status. IsOwnedShown session.replica node place token.old partitions.old count.old status token.new partitions.new count.new)) replica.old.value result replica.new.value }
+    ensures open { AtLog (ShowsLog (λ held status. IsOwnedShown held.replica node offset token.old partitions.old count.old status token.new partitions.new count.new)) replica.old.value result replica.new.value }
     ensures closed { replica.old.value ≡ None → (token.new ≡ token.old) × (partitions.new ≡ partitions.old) × (count.new ≡ count.old) }
 {
-    let Some(session) = replica.take(alloc) else {
+    let Some(held) = replica.take(alloc) else {
         return CLOSED;
     };
     let status = write_owned(
         alloc,
-        session.replica(),
+        held.replica(),
         node,
-        place,
+        offset,
         token,
         partitions,
         count,
     );
-    replica.put(alloc, session);
+    replica.put(alloc, held);
     status
 }

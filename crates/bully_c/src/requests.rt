@@ -6,7 +6,7 @@ ghost use Rattle.bully_c.specs.Exports.{AtOpen, IsFailure, IsReply, IsRequestLin
 ghost use Rattle.bully_c.specs.Numbers.{step_number};
 
 use crate::agent_handle::AgentHandle;
-use crate::agent_session::AgentSession;
+use crate::held_agent::HeldAgent;
 use crate::shown::copy_text;
 use crate::status::{
     CLOSED, LINE_WORD, OK, OUT_OF_MEMORY, SHORT, number_of_answer, status_of_refusal,
@@ -20,10 +20,10 @@ use bully_world::Refused;
 use std::alloc::Global;
 use std::str;
 
-// What a line mostly takes, so that it is allocated once.
+// The usual size of a line, so that it is allocated once.
 const LINE_ROOM: usize = 32;
 
-// The status of a step that brings an answer, which is written where it is taken.
+// The status of a step that brings an answer. The answer is written if the step is taken.
 fn answered(taken: Result<Answer, Refused>, answer: &mut u32) -> u32
     ensures status { result ≡ step_number taken }
     ensures answer { answer.new ≡ told_answer answer.old taken }
@@ -37,7 +37,7 @@ fn answered(taken: Result<Answer, Refused>, answer: &mut u32) -> u32
     }
 }
 
-/// The line of the request of the node's call, while that is under way, else none: [`Agent::request`].
+/// The line of the request of the node's call, while the call is under way, or else nothing: [`Agent::request`].
 #[unsafe(no_mangle)]
 pub extern "C" fn bully_c_agent_request(
     alloc: Global,
@@ -45,17 +45,17 @@ pub extern "C" fn bully_c_agent_request(
     line: &mut [u8],
     length: &mut usize,
 ) -> u32
-    ensures open { AtOpen (Shows (λ session status. IsMadeAndCopied (request_line session.agent) line.old length.old status line.new length.new)) agent.old.value result agent.new.value }
+    ensures open { AtOpen (Shows (λ held status. IsMadeAndCopied (request_line held.agent) line.old length.old status line.new length.new)) agent.old.value result agent.new.value }
     ensures closed { agent.old.value ≡ None → (line.new ≡ line.old) × (length.new ≡ length.old) }
 {
-    let Some(session) = agent.take(alloc) else {
+    let Some(held) = agent.take(alloc) else {
         return CLOSED;
     };
-    let status = match request_line(alloc, &session.agent) {
+    let status = match request_line(alloc, &held.agent) {
         Ok(text) => copy_text(&text, line, length),
         Err(_) => OUT_OF_MEMORY,
     };
-    agent.put(alloc, session);
+    agent.put(alloc, held);
     status
 }
 
@@ -83,29 +83,29 @@ pub extern "C" fn bully_c_agent_serve(
     ensures open { AtOpen (IsServe line.now reply.old length.old reply.new length.new) agent.old.value result agent.new.value }
     ensures closed { agent.old.value ≡ None → (reply.new ≡ reply.old) × (length.new ≡ length.old) }
 {
-    let Some(mut session) = agent.take(alloc) else {
+    let Some(mut held) = agent.take(alloc) else {
         return CLOSED;
     };
-    let status = served(alloc, &mut session, line, reply, length);
-    agent.put(alloc, session);
+    let status = served(alloc, &mut held, line, reply, length);
+    agent.put(alloc, held);
     status
 }
 
-// The request of this line runs, where there is room for the reply.
+// The request of this line runs, if there is room for the reply.
 fn served(
     alloc: Global,
-    session: &mut AgentSession,
+    held: &mut HeldAgent,
     line: &[u8],
     reply: &mut [u8],
     length: &mut usize,
 ) -> u32
-    ensures { IsServe line.now reply.old length.old reply.new length.new session.old result session.new }
+    ensures { IsServe line.now reply.old length.old reply.new length.new held.old result held.new }
 {
-    let request = match request_in(alloc, session.agent.setup(), line) {
+    let request = match request_in(alloc, held.agent.setup(), line) {
         Ok(request) => request,
         Err(status) => return status,
     };
-    let answer = session.agent.vector().reply(request.call.kind);
+    let answer = held.agent.vector().reply(request.call.kind);
     let Ok(text) = reply_line(alloc, &request, answer) else {
         return OUT_OF_MEMORY;
     };
@@ -113,13 +113,13 @@ fn served(
         *length = text.len();
         return SHORT;
     }
-    match session.serve(&request) {
+    match held.serve(&request) {
         Ok(_) => copy_text(&text, reply, length),
         Err(why) => status_of_refusal(why),
     }
 }
 
-// The line of the reply that tells this.
+// The line of the reply with this answer.
 fn reply_line(alloc: Global, request: &Request, answer: Answer) -> Result<String, OutOfMemory>
     ensures { IfOk result (λ text. string_bytes text ≡ reply_text (record { caller = request.now.caller; number = request.now.number; answer = answer })) }
 {
@@ -147,7 +147,7 @@ fn request_in(alloc: Global, setup: &Setup, line: &[u8]) -> Result<Request, u32>
     }
 }
 
-/// The node's call returns with the reply of this line, and what it is told is written: [`Agent::replied`].
+/// The node's call returns with the reply of this line, and what the call brought is written: [`Agent::replied`].
 #[unsafe(no_mangle)]
 pub extern "C" fn bully_c_agent_replied(
     alloc: Global,
@@ -158,14 +158,14 @@ pub extern "C" fn bully_c_agent_replied(
     ensures open { AtOpen (IsReply line.now answer.old answer.new) agent.old.value result agent.new.value }
     ensures closed { agent.old.value ≡ None → answer.new ≡ answer.old }
 {
-    let Some(mut session) = agent.take(alloc) else {
+    let Some(mut held) = agent.take(alloc) else {
         return CLOSED;
     };
-    let status = match reply_in(session.agent.setup(), line) {
-        Ok(reply) => answered(session.replied(reply), answer),
+    let status = match reply_in(held.agent.setup(), line) {
+        Ok(reply) => answered(held.replied(reply), answer),
         Err(status) => status,
     };
-    agent.put(alloc, session);
+    agent.put(alloc, held);
     status
 }
 
@@ -183,7 +183,7 @@ fn reply_in(setup: &Setup, line: &[u8]) -> Result<Reply, u32>
     }
 }
 
-/// The node's call of this number failed, and returns, and what it is told is written: [`Agent::failed`].
+/// The node's call of this number failed, and returns, and what the call brought is written: [`Agent::failed`].
 #[unsafe(no_mangle)]
 pub extern "C" fn bully_c_agent_failed(
     alloc: Global,
@@ -194,10 +194,10 @@ pub extern "C" fn bully_c_agent_failed(
     ensures open { AtOpen (IsFailure number answer.old answer.new) agent.old.value result agent.new.value }
     ensures closed { agent.old.value ≡ None → answer.new ≡ answer.old }
 {
-    let Some(mut session) = agent.take(alloc) else {
+    let Some(mut held) = agent.take(alloc) else {
         return CLOSED;
     };
-    let status = answered(session.failed(number), answer);
-    agent.put(alloc, session);
+    let status = answered(held.failed(number), answer);
+    agent.put(alloc, held);
     status
 }

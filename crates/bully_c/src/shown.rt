@@ -17,7 +17,7 @@ use bully_table::Table;
 use bully_trace::offer_of;
 use bully_world::World;
 
-/// How a node stands.
+/// The state of a node.
 #[repr(C)]
 #[derive(Clone, Copy)]
 pub struct CState {
@@ -34,7 +34,7 @@ pub struct CState {
     pub callee: u16,
 }
 
-/// How the agent's node stands.
+/// The state of the agent's node.
 pub fn state_of(agent: &Agent) -> CState
     ensures { result ≡ shown agent.now }
 {
@@ -46,7 +46,8 @@ pub fn state_of(agent: &Agent) -> CState
     state
 }
 
-/// How the node, which is at most the setup's last, stands in the world: as an agent of it that started no call yet.
+/// The state of the node, which is at most the setup's last, in the world: as that of an agent of it that has started
+/// no call yet.
 pub fn state_in(world: &World, node: Node) -> CState
     requires { node ≤ world.now.setup.nodes }
     ensures { result ≡ shown (agent_in world.now node) }
@@ -74,7 +75,7 @@ fn wanted_in(world: &World, node: Node) -> Want
     }
 }
 
-// How a node of this vector and this slot stands, of which no number was told yet.
+// The state of a node with this vector and this slot, without the number of its last call.
 fn node_shown(vector: &Vector, slot: &Slot, generation: u32, wants: Want) -> CState
     ensures { result ≡ node_shown vector.now.vector slot.now generation wants }
 {
@@ -123,7 +124,7 @@ pub fn number_of(node: Option<Node>) -> u16
     }
 }
 
-/// Writes the text and its length. Refused where there isn't room for it, and then the length alone is written.
+/// Writes the text and its length. Refused if there isn't room for it, and then the length alone is written.
 pub fn copy_text(text: &str, room: &mut [u8], length: &mut usize) -> u32
     ensures { IsCopied text.now room.old result room.new length.new }
 {
@@ -136,8 +137,8 @@ pub fn copy_text(text: &str, room: &mut [u8], length: &mut usize) -> u32
     OK
 }
 
-/// Writes the table's owners and their count, which is 0 without one. Refused where there isn't room for them, and then the count
-/// alone is written.
+/// Writes the table's owners and their count, which is 0 without a table. Refused if there isn't room for them, and
+/// then the count alone is written.
 pub fn copy_owners(table: Option<&Table>, room: &mut [u16], count: &mut usize) -> u32
     ensures { IsCopied (unwrap_or (option_copied table.entry) []) room.old result room.new count.new }
 {
@@ -153,8 +154,8 @@ pub fn copy_owners(table: Option<&Table>, room: &mut [u16], count: &mut usize) -
     OK
 }
 
-/// Writes the nodes of the set, rising, and their count. Refused where there isn't room for them, and then the count alone is
-/// written.
+/// Writes the nodes of the set, in rising order, and their count. Refused if there isn't room for them, and then the
+/// count alone is written.
 pub fn copy_up(set: &NodeSet, room: &mut [u16], count: &mut usize) -> u32
     ensures { IsCopied (reverse set.now) room.old result room.new count.new }
 {
@@ -167,7 +168,7 @@ pub fn copy_up(set: &NodeSet, room: &mut [u16], count: &mut usize) -> u32
     OK
 }
 
-// Writes the nodes of the set, falling, at the front of the room, which has that of each.
+// Writes the nodes of the set, in falling order, at the front of the room, which has room for each.
 fn put_members(set: &NodeSet, room: &mut [u16])
     requires { length set.now ≤ length room.old }
     ensures { room.new ≡ set.now ++ drop (length set.now) room.old }

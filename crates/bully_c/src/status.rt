@@ -56,7 +56,7 @@ pub const ROW_END: u32 = 54;
 
 pub const BAD_CONFIG: u32 = 55;
 
-/// The numbers that stand by themselves.
+/// The numbers of the constants above.
 pub fn numbers()
     ensures ok { OK ≡ 0 }
     ensures full { FULL ≡ refusal_number Refused.Full }
@@ -80,14 +80,14 @@ pub fn numbers()
     ensures config { BAD_CONFIG ≡ 55 }
 {}
 
-/// Of an event that is refused.
+/// The status of an event that is refused.
 pub fn status_of_refusal(why: Refused) -> u32
     ensures { result ≡ refusal_number why }
 {
     why.number()
 }
 
-/// Of a setup that is refused.
+/// The status of a setup that is refused.
 pub fn status_of_setup(fault: SetupFault) -> u32
     ensures { result ≡ setup_number fault }
 {
@@ -99,7 +99,7 @@ pub fn status_of_setup(fault: SetupFault) -> u32
     }
 }
 
-/// Of a line that is no request.
+/// The status of a line that is no request.
 pub fn status_of_request(fault: RequestFault) -> u32
     ensures { result ≡ request_number fault }
 {
@@ -113,7 +113,7 @@ pub fn status_of_request(fault: RequestFault) -> u32
     }
 }
 
-// Of the table of a line.
+// The status of the table of a line that is no request.
 fn status_of_table(fault: TableFault) -> u32
     ensures { result ≡ request_number (RequestFault.Table fault) }
 {
@@ -123,7 +123,7 @@ fn status_of_table(fault: TableFault) -> u32
     }
 }
 
-/// Of a line that is no reply.
+/// The status of a line that is no reply.
 pub fn status_of_reply(fault: ReplyFault) -> u32
     ensures { result ≡ reply_number fault }
 {
@@ -135,8 +135,8 @@ pub fn status_of_reply(fault: ReplyFault) -> u32
     }
 }
 
-/// Of a trace that isn't well-formed, or can't be judged. Its bytes are here and its verdict is written here, so that a read or a
-/// write fails for want of memory alone.
+/// The status of a trace that isn't well-formed, or can't be judged. Its bytes are in memory, and so is its verdict, so
+/// a read or a write fails only because an allocation failed.
 pub fn status_of_trace(cause: TraceCause) -> u32
     ensures { result ≡ trace_number cause }
 {
@@ -148,7 +148,7 @@ pub fn status_of_trace(cause: TraceCause) -> u32
     }
 }
 
-/// Of a row of a log that isn't learned.
+/// The status of a row of a log that isn't learned.
 pub fn status_of_learning(fault: LearnFault) -> u32
     ensures { result ≡ learn_fault_number fault }
 {
@@ -173,7 +173,7 @@ pub fn event_of(number: u32, node: Node) -> Option<Event>
     }
 }
 
-/// Of what a call brought.
+/// The number of what a call brought.
 pub fn number_of_answer(answer: Answer) -> u32
     ensures { result ≡ answer_number answer }
 {
@@ -186,7 +186,7 @@ pub fn number_of_answer(answer: Answer) -> u32
     }
 }
 
-/// Of a node's status.
+/// The number of a node's status.
 pub fn number_of_status(status: Status) -> u32
     ensures { result ≡ status_number status }
 {
@@ -198,7 +198,7 @@ pub fn number_of_status(status: Status) -> u32
     }
 }
 
-/// Of what a node wants to do next.
+/// The number of what a node wants to do next.
 pub fn number_of_want(want: Want) -> u32
     ensures { result ≡ want_number want }
 {
@@ -211,7 +211,7 @@ pub fn number_of_want(want: Want) -> u32
     }
 }
 
-/// Of the kind of a call.
+/// The number of the kind of a call.
 pub fn number_of_kind(kind: CallKind) -> u32
     ensures { result ≡ kind_number kind }
 {

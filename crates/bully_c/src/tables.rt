@@ -10,7 +10,7 @@ use bully_base::{NODES_MAX, Node, OutOfMemory, Setup};
 use bully_table::Table;
 use std::alloc::Global;
 
-/// A setup, but for its weights. `keeps` is 0, or a node keeps its task over a crash.
+/// A setup without its weights. A node keeps its task over a crash unless `keeps` is 0.
 #[repr(C)]
 #[derive(Clone, Copy)]
 pub struct CSetup {
@@ -61,7 +61,7 @@ fn weighted_setup(setup: &CSetup, weights: &[u16]) -> Result<Setup, u32>
     }
 }
 
-/// The node of this number. Refused where the setup has none.
+/// The node of this number. Refused if the setup has none.
 pub fn node_of(setup: &Setup, number: u16) -> Result<Node, u32>
     ensures ok { IfOk result (λ node. (node ≡ number) × IsNode setup.now node) }
     ensures err { IfErr result (λ status. (status ≡ BAD_NODE) × ¬ IsNode setup.now number) }
@@ -75,8 +75,8 @@ pub fn node_of(setup: &Setup, number: u16) -> Result<Node, u32>
     }
 }
 
-/// The table of these owners; of none, none. Refused, in this order, as of another number of owners than there are partitions, an
-/// owner that is no node of the setup, and where an allocation fails.
+/// The table of these owners, or none if there are no owners. Refused, in this order, if there are more or fewer owners
+/// than partitions, if an owner is no node of the setup, and if an allocation fails.
 pub fn table_of(alloc: Global, setup: &Setup, owners: &[u16]) -> Result<Option<Table>, u32>
     ensures ok { IfOk result (λ table. table ≡ table_given owners.now) }
     ensures owners { IfOk result (λ _. AreGiven setup.now owners.now) }
@@ -92,7 +92,7 @@ pub fn table_of(alloc: Global, setup: &Setup, owners: &[u16]) -> Result<Option<T
     }
 }
 
-/// The table of these owners. Refused as [`table_of`].
+/// The table of these owners. Refused as [`table_of`] is.
 pub fn read_table(alloc: Global, setup: &Setup, owners: &[u16]) -> Result<Table, u32>
     ensures ok { IfOk result (λ table. table ≡ owners.now) }
     ensures owners { IfOk result (λ _. AreOwners setup.now owners.now) }
@@ -123,7 +123,7 @@ fn are_nodes(setup: &Setup, owners: &[u16]) -> bool
     true
 }
 
-// The table that these owners spell, as text. None where an allocation fails.
+// The table that these owners spell, as text. None if an allocation fails.
 fn spelled_table(alloc: Global, setup: &Setup, owners: &[u16]) -> Option<Table>
     requires within { IsSetup setup.now }
     requires owners { AreOwners setup.now owners.now }
@@ -139,7 +139,7 @@ fn spelled_table(alloc: Global, setup: &Setup, owners: &[u16]) -> Option<Table>
     }
 }
 
-// Appends the owners, with a space between each two. Refused where an allocation fails.
+// Appends the owners, with a space between each two. Refused if an allocation fails.
 fn push_numbers(text: &mut String, owners: &[u16]) -> Result<(), OutOfMemory>
     ensures { OnOk result (string_bytes text.new ≡ string_bytes text.old ++ owners_text 32 owners.now) }
 {
@@ -153,7 +153,7 @@ fn push_numbers(text: &mut String, owners: &[u16]) -> Result<(), OutOfMemory>
     Ok(())
 }
 
-// The first so many of these, or all where there are fewer.
+// The first `count` of these, or all if there are fewer.
 fn first_of(items: &[u16], count: usize) -> &[u16]
     ensures { result.now ≡ take count items.now }
 {

@@ -23,7 +23,7 @@ pub struct CVerdict {
     pub cause: u32,
 }
 
-/// Judges a trace: [`bully_trace::check`]. Where the trace has a fault of form the verdict's number is its row.
+/// Judges a trace: [`bully_trace::check`]. If the trace has a fault of form, the verdict's number is its row.
 #[unsafe(no_mangle)]
 pub extern "C" fn bully_c_check(alloc: Global, trace: &[u8], verdict: &mut CVerdict) -> u32
     ensures { IsCheck trace.now verdict.old result verdict.new }
@@ -62,7 +62,7 @@ fn verdict_of(verdict: Verdict) -> CVerdict
     }
 }
 
-/// Plans a table over these members, from the one of these owners, or from none: [`plan_in`].
+/// Plans a table over these members, from the table of these owners, or from none: [`plan_in`].
 #[unsafe(no_mangle)]
 pub extern "C" fn bully_c_table(
     alloc: Global,
@@ -111,7 +111,7 @@ fn planned(
     }
 }
 
-/// The set of the nodes of these numbers. Refused where the setup lacks one.
+/// The set of the nodes of these numbers. Refused if the setup lacks one.
 pub fn members_of(setup: &Setup, numbers: &[u16]) -> Result<NodeSet, u32>
     ensures set { IfOk result (IsSetOf numbers.now) }
     ensures nodes { IfOk result (λ set. All (IsNode setup.now) set) }

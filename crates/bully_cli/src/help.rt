@@ -2,7 +2,7 @@
 
 /// The version of the program, that the promises of its README were proved for it, and the kit that they were proved with,
 /// by its number, letter and logic. `bin/test` compares number and logic with `rt version`. When the version rises: CONTRIBUTING.md.
-pub const VERSION: &str = "0.5.0\n\
+pub const VERSION: &str = "0.6.0\n\
     Each promise of its README was proved for this version.\n\
     Proved with rattle-kit-13f logic dac8208d650f15bf";
 

@@ -1,3 +1,3 @@
-pub mod PresentLemmas
+pub mod LiveLemmas
 pub mod KeepLemmas
 pub mod AskLemmas

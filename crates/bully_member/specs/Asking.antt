@@ -5,9 +5,9 @@ use Rattle.bully_member.specs.declared.values.Work.{Work}
 use Rattle.bully_replica.specs.Replica.{IsLogOf}
 use Rattle.bully_work.specs.Store.{Store}
 
--- the member's process acts for its node by this life: it has learned what the life has, it knows of all that the life has promised, and if it works on
--- nothing the life does not work
+-- the member's process acts for its node by this session: it has learned what the session has, it knows of all that the
+-- session has promised, and if the member works on nothing, neither does the session
 pub record ActsBy (m : MemberState) (s : Store) (n : ℕ) : Type 0 where
-  pub learned : IsLogOf (replica_of m) (take (s.lives m.terms.node n).learned s.log)
-  pub promised : (s.lives m.terms.node n).promised ≤ m.promised
-  pub idle : m.work ≡ Work.Idle → (s.lives m.terms.node n).work ≡ None
+  pub learned : IsLogOf (replica_of m) (take (s.sessions m.terms.node n).learned s.log)
+  pub promised : (s.sessions m.terms.node n).promised ≤ m.promised
+  pub idle : m.work ≡ Work.Idle → (s.sessions m.terms.node n).work ≡ None

@@ -1,4 +1,4 @@
--- What a member makes of rows that it learns, and of an epoch into which it goes on.
+-- How a member changes by rows that it learns, and by an epoch in which it goes on.
 use Rattle.std.specs.Prelude.{nat_le, ◌≡◌, ◌==◌, not, if◌then◌else◌, ℕ, Bool, true, false, [], Option, Some, None, Result, Ok, Err, replicate}
 use Rattle.bully_member.specs.Member.{MemberState, nobody_yet}
 use Rattle.bully_member.specs.Told.{end_for, to_pause}
@@ -19,7 +19,7 @@ is_of_log (LearnFault.Form TraceCause.OutOfMemory) = false
 is_of_log (LearnFault.Form TraceCause.Read) = false
 is_of_log fault = true
 
--- whether no member can go on behind what was learned: a row isn't learned, or was one that tells no event
+-- whether no member can go on after what was learned: a row isn't learned, or one was learned that has no event
 abbrev pub is_broken : RowReplicaState → Result (Unit {0}) LearnFault → Bool
 is_broken f (Ok done) = not (f.rows == f.replica.world.events)
 is_broken f (Err fault) = is_of_log fault
@@ -29,7 +29,7 @@ abbrev pub ending_behind : Option Ending → Bool → Option Ending
 ending_behind None true = Some Ending.Broken
 ending_behind ending is_broken = ending
 
--- what was learned, by how that ended
+-- the member that has learned this, by how that ended
 abbrev pub after_learning : MemberState → RowReplicaState → Result (Unit {0}) LearnFault → MemberState
 after_learning m f taken = record m { learned = f; ending = ending_behind m.ending (is_broken f taken) }
 
@@ -41,19 +41,19 @@ abbrev pub is_following : Option Asked → Bool
 is_following None = false
 is_following (Some asked) = is_follow asked.request
 
--- behind a log of this epoch of which nothing was learned. The life stays, and has promised nothing of it
+-- the member in this epoch, of whose log it has learned nothing. Its session stays, and has promised nothing there
 abbrev pub in_epoch : MemberState → (now : ℕ) → RowReplicaState → Terms → MemberState
 in_epoch m now f t = record m {
   learned = f;
   terms = t;
   promised = 0;
-  own = record { epoch = 0; place = 0 };
-  presences = [];
+  own = record { epoch = 0; offset = 0 };
+  leases = [];
   arrivals = replicate f.replica.world.setup.nodes nobody_yet;
-  has_strangers = false;
-  is_wished = false;
-  must_look = true;
-  unrest = record { at = now; place = 0 };
+  has_unknown = false;
+  has_request = false;
+  needs_snapshot = true;
+  last_change = record { at = now; offset = 0 };
   is_past = false;
   has_closed = false;
   asked = None;
@@ -62,10 +62,10 @@ in_epoch m now f t = record m {
 abbrev pub followed : MemberState → (now : ℕ) → Header → Terms → MemberState
 followed m now header t =
     if not (is_following m.asked) then m else
-    if nat_le t.epoch m.terms.epoch then to_pause (record m { asked = None; is_past = false; must_look = true }) now else
+    if nat_le t.epoch m.terms.epoch then to_pause (record m { asked = None; is_past = false; needs_snapshot = true }) now else
     in_epoch m now (record { replica = first_replica header; rows = 0 }) t
 
--- refused for the terms' first fault, or for want of memory
+-- refused for the terms' first fault, or because an allocation failed
 abbrev pub RefusesTerms : Option MemberFault → MemberFault → Type 0
 RefusesTerms None why = why ≡ MemberFault.OutOfMemory
 RefusesTerms (Some fault) why = why ≡ fault

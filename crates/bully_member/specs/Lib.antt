@@ -4,6 +4,6 @@ pub mod Member
 pub mod Due
 pub mod Told
 pub mod Learned
-pub mod Settlement
+pub mod Rebalance
 pub mod Keeping
 pub mod Asking

@@ -1,18 +1,18 @@
 ghost use Rattle.std.specs.Prelude.{◌≡◌, [], None, true, false, IfOk, IfErr, replicate};
-ghost use Rattle.bully_member.specs.Member.{IsMember, member_with, new_member, nobody_yet, place_of, replica_of};
+ghost use Rattle.bully_member.specs.Member.{IsMember, member_with, new_member, nobody_yet, offset_of, replica_of};
 ghost use Rattle.bully_member.specs.Opening.{RefusesMember, member_fault};
 ghost use Rattle.bully_member.specs.Times.{sure_left};
 ghost use Rattle.bully_replica.specs.Replica.{first_replica};
 
 mod answers;
 mod learning;
-mod looks;
 mod owning;
 mod rules;
+mod snapshots;
 
 use crate::opening::{MemberFault, TTL_MAX, TTL_MIN, Terms, terms_fault};
 use crate::times::sure_left;
-use crate::values::{Arrival, Asked, Ending, LifeState, Presence, Promise, Unrest, Work};
+use crate::values::{Arrival, Asked, Ending, LastChange, Lease, Promise, SessionState, Work};
 use bully_base::OutOfMemory;
 use bully_replica::{Replica, RowReplica};
 use bully_rows::Header;
@@ -26,16 +26,16 @@ pub struct Member {
     terms: Terms,
     process: u64,
     ttl: u64,
-    life: LifeState,
+    session: SessionState,
     tries: u64,
     promised: u32,
     own: Promise,
-    presences: Vec<Presence>,
+    leases: Vec<Lease>,
     arrivals: Vec<Arrival>, // of each node
-    has_strangers: bool,
-    is_wished: bool,
-    must_look: bool,
-    unrest: Unrest,
+    has_unknown: bool,
+    has_request: bool,
+    needs_snapshot: bool,
+    last_change: LastChange,
     is_past: bool,
     has_closed: bool,
     work: Work,
@@ -55,16 +55,16 @@ impl Model for Member {
       terms = m.terms;
       process = m.process;
       ttl = m.ttl;
-      life = m.life;
+      session = m.session;
       tries = m.tries;
       promised = m.promised;
       own = m.own;
-      presences = m.presences.items;
+      leases = m.leases.items;
       arrivals = m.arrivals.items;
-      has_strangers = m.has_strangers;
-      is_wished = m.is_wished;
-      must_look = m.must_look;
-      unrest = m.unrest;
+      has_unknown = m.has_unknown;
+      has_request = m.has_request;
+      needs_snapshot = m.needs_snapshot;
+      last_change = m.last_change;
       is_past = m.is_past;
       has_closed = m.has_closed;
       work = m.work;
@@ -73,10 +73,10 @@ impl Model for Member {
       asked = m.asked;
     } };
 
-    ghost invariant = { λ m. IsMember m.learned m.terms m.ttl m.presences.items m.arrivals.items };
+    ghost invariant = { λ m. IsMember m.learned m.terms m.ttl m.leases.items m.arrivals.items };
 }
 
-// What a member begins an epoch with: a log of which it has learned nothing, and nobody who was seen.
+// What a member begins an epoch with: it has learned nothing of the log, and has seen no session.
 #[derive(Drop)]
 struct Beginning {
     learned: RowReplica,
@@ -95,17 +95,17 @@ impl Beginning {
     }
 }
 
-// Nobody was seen for a node.
+// No session was seen for a node.
 const NOBODY_YET: Arrival = Arrival {
-    life: None,
+    session: None,
     at: 0,
     stay: 0,
 };
 
 impl Member {
-    /// A member that acts for the node of these terms, of a group whose log has this header. Its process is a number that no other
-    /// process of the group ever has, and the ttl is in nanoseconds. Refused by the first that holds: `BadNode`, `TableLength`,
-    /// `BadRowsMax`, `BadTtl`, `OutOfMemory`.
+    /// A member that acts for the node of these terms, of a group whose log has this header. The process is a number
+    /// that no other process of the group ever has. The ttl is in nanoseconds, from [`TTL_MIN`] to [`TTL_MAX`]. Refused
+    /// as the first of these that holds: `BadNode`, `TableLength`, `BadRowsMax`, `BadTtl`, `OutOfMemory`.
     pub fn new(
         alloc: Global,
         header: Header,
@@ -129,7 +129,7 @@ impl Member {
         }
     }
 
-    // The same behind a log of which nothing was learned, if nothing is wrong with the terms.
+    // The same with a log of which nothing was learned, if nothing is wrong with the terms.
     fn with(alloc: Global, beginning: Beginning, terms: Terms, process: u64, ttl: u64) -> Member
         requires { IsMember beginning.learned terms ttl [] beginning.arrivals.items }
         ensures { result ≡ member_with beginning.learned beginning.arrivals.items terms process ttl }
@@ -139,16 +139,19 @@ impl Member {
             terms,
             process,
             ttl,
-            life: LifeState::Absent,
+            session: SessionState::Absent,
             tries: 0,
             promised: 0,
-            own: Promise { epoch: 0, place: 0 },
-            presences: Vec::new(alloc),
+            own: Promise {
+                epoch: 0,
+                offset: 0,
+            },
+            leases: Vec::new(alloc),
             arrivals: beginning.arrivals,
-            has_strangers: false,
-            is_wished: false,
-            must_look: true,
-            unrest: Unrest { at: 0, place: 0 },
+            has_unknown: false,
+            has_request: false,
+            needs_snapshot: true,
+            last_change: LastChange { at: 0, offset: 0 },
             is_past: false,
             has_closed: false,
             work: Work::Idle,
@@ -158,7 +161,7 @@ impl Member {
         }
     }
 
-    /// What it has learned, and of how many rows.
+    /// What it has learned, and from how many rows.
     pub fn learned(&self) -> &RowReplica
         ensures { result.now ≡ self.now.learned }
     {
@@ -172,42 +175,42 @@ impl Member {
         self.learned.replica()
     }
 
-    /// The end of the log, as far as it was learned: how many rows stand behind the header.
-    pub fn place(&self) -> u32
-        ensures { result ≡ place_of self.now }
+    /// The end of the log, as far as it was learned: the number of rows after the header.
+    pub fn offset(&self) -> u32
+        ensures { result ≡ offset_of self.now }
     {
         self.learned.replica().events()
     }
 
-    /// Which epoch it is in, for which node, and what else that began with.
+    /// Which epoch it is in, for which node, and what else the epoch began with.
     pub fn terms(&self) -> &Terms
         ensures { result.now ≡ self.now.terms }
     {
         &self.terms
     }
 
-    /// Whether its process has the presence of its node.
-    pub fn life(&self) -> LifeState
-        ensures { result ≡ self.now.life }
+    /// Whether its process has the lease of its node.
+    pub fn session(&self) -> SessionState
+        ensures { result ≡ self.now.session }
     {
-        self.life
+        self.session
     }
 
-    /// For how many nanoseconds its presence is sure yet: so long it may work on what it was told to begin.
+    /// For how many nanoseconds its lease is still sure. For that long it may work on what it was told to begin.
     pub fn sure_left(&self, now: u64) -> u64
-        ensures { result ≡ sure_left self.now.life self.now.ttl now }
+        ensures { result ≡ sure_left self.now.session self.now.ttl now }
     {
-        sure_left(self.life, self.ttl, now)
+        sure_left(self.session, self.ttl, now)
     }
 
-    /// Up to which place of this epoch its life has promised to be idle, whether or not the store heard of that.
+    /// Up to which offset of this epoch its session has promised to be idle, whether or not the store knows of that.
     pub fn promised(&self) -> u32
         ensures { result ≡ self.now.promised }
     {
         self.promised
     }
 
-    /// How far its work is.
+    /// The state of its work.
     pub fn work(&self) -> Work
         ensures { result ≡ self.now.work }
     {
@@ -221,10 +224,10 @@ impl Member {
         self.ending
     }
 
-    /// Whether something else was wished for then.
-    pub fn is_wished(&self) -> bool
-        ensures { result ≡ self.now.is_wished }
+    /// Whether its last snapshot found that other settings are requested.
+    pub fn has_request(&self) -> bool
+        ensures { result ≡ self.now.has_request }
     {
-        self.is_wished
+        self.has_request
     }
 }

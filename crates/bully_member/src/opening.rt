@@ -10,8 +10,8 @@ pub const TTL_MIN: u64 = 1_000_000;
 /// The longest ttl, a day, in nanoseconds.
 pub const TTL_MAX: u64 = 86_400_000_000_000;
 
-/// How many events settle a group at most, for each of its nodes.
-pub const SETTLING_MAX: u32 = 11;
+/// The most events that rebalance a group, for each of its nodes.
+pub const REBALANCE_MAX: u32 = 11;
 
 /// What an epoch is for a member.
 #[derive(Drop)]
@@ -22,18 +22,20 @@ pub struct Terms {
     pub node: Node,
     /// How many rows the log may have.
     pub rows_max: u32,
-    /// The last table of the epoch before, if its partitions were as many: an owner that is gone is any node that the group hasn't.
+    /// The last table of the epoch before, if that had as many partitions. An owner that is gone is any node that the
+    /// group doesn't have.
     pub old: Option<Table>,
 }
 
-/// Why no member begins.
+/// Why no member is made.
 #[derive(Clone, Copy, PartialEq, Eq, Debug)]
 pub enum MemberFault {
     /// The node is above the group's last.
     BadNode,
     /// The old table has another number of partitions.
     TableLength,
-    /// The log may not have room for two settlements, or for more events than the group's.
+    /// The bound on the log's rows has no room for two rebalances, 22 rows for each node, or is above the group's bound
+    /// on events.
     BadRowsMax,
     /// The ttl is below [`TTL_MIN`] or above [`TTL_MAX`].
     BadTtl,
@@ -51,7 +53,7 @@ pub fn terms_fault(setup: &Setup, terms: &Terms) -> Option<MemberFault>
     if is_other_length(&terms.old, setup.partitions()) {
         return Some(MemberFault::TableLength);
     }
-    if terms.rows_max < 2 * SETTLING_MAX * u32::from(setup.nodes())
+    if terms.rows_max < 2 * REBALANCE_MAX * u32::from(setup.nodes())
         || setup.events_max() < terms.rows_max
     {
         return Some(MemberFault::BadRowsMax);

@@ -1,56 +1,56 @@
-//! How long things take, by the ttl: whole nanoseconds, rounded down.
+//! Durations that depend on the ttl, in whole nanoseconds, rounded down.
 ghost use Rattle.std.specs.Prelude.{◌≡◌, ◌≤◌};
 ghost use Rattle.bully_base.specs.declared.TheConstants.{NODES_MAX};
-ghost use Rattle.bully_member.specs.Times.{awaiting_rest, first_stay, left, longer_stay, pause_left, paused_rest, remembered_for, renewal_left, stopping_rest, sure, sure_for, sure_left, turn_left};
+ghost use Rattle.bully_member.specs.Times.{awaiting_backoff, first_stay, left, longer_stay, pause_left, paused_backoff, remembered_for, renewal_left, stopping_backoff, sure, sure_for, sure_left, turn_left};
 ghost use Rattle.bully_member.specs.declared.opening.TheConstants.{TTL_MAX};
 
-use crate::values::{LifeState, Work};
+use crate::values::{SessionState, Work};
 
-/// How much of so long a time that began then is left now.
+/// How much is left now of a time of this length that began at `begun`.
 pub fn left(now: u64, length: u64, begun: u64) -> u64
     ensures { result ≡ left now length begun }
 {
     length.saturating_sub(now.saturating_sub(begun))
 }
 
-// For how long a presence is sure from when its last renewal was asked for: the ttl less the margin.
+// For how long a lease is sure after its last renewal was asked for: the ttl less the margin.
 fn sure_for(ttl: u64) -> u64
     ensures { result ≡ sure_for ttl }
 {
     ttl - ttl / 5
 }
 
-/// Whether the presence is sure now.
-pub fn sure(life: LifeState, ttl: u64, now: u64) -> bool
-    ensures { result ≡ sure life ttl now }
+/// Whether the lease is sure now.
+pub fn sure(session: SessionState, ttl: u64, now: u64) -> bool
+    ensures { result ≡ sure session ttl now }
 {
-    match life {
-        LifeState::Present(_, since) => now.saturating_sub(since) < sure_for(ttl),
-        LifeState::Absent | LifeState::Unknown(_) => false,
+    match session {
+        SessionState::Live(_, since) => now.saturating_sub(since) < sure_for(ttl),
+        SessionState::Absent | SessionState::Unknown(_) => false,
     }
 }
 
-/// How long it is sure yet.
-pub fn sure_left(life: LifeState, ttl: u64, now: u64) -> u64
-    ensures { result ≡ sure_left life ttl now }
+/// For how long the lease is still sure.
+pub fn sure_left(session: SessionState, ttl: u64, now: u64) -> u64
+    ensures { result ≡ sure_left session ttl now }
 {
-    match life {
-        LifeState::Present(_, since) => left(now, sure_for(ttl), since),
-        LifeState::Absent | LifeState::Unknown(_) => 0,
+    match session {
+        SessionState::Live(_, since) => left(now, sure_for(ttl), since),
+        SessionState::Absent | SessionState::Unknown(_) => 0,
     }
 }
 
-/// How long until it is to be renewed: a quarter of the ttl from the last renewal.
-pub fn renewal_left(life: LifeState, ttl: u64, now: u64) -> u64
-    ensures { result ≡ renewal_left life ttl now }
+/// How long until the lease has to be renewed: a quarter of the ttl after its last renewal was asked for.
+pub fn renewal_left(session: SessionState, ttl: u64, now: u64) -> u64
+    ensures { result ≡ renewal_left session ttl now }
 {
-    match life {
-        LifeState::Present(_, since) => left(now, ttl / 4, since),
-        LifeState::Absent | LifeState::Unknown(_) => ttl,
+    match session {
+        SessionState::Live(_, since) => left(now, ttl / 4, since),
+        SessionState::Absent | SessionState::Unknown(_) => ttl,
     }
 }
 
-/// How long until something is asked again behind what wasn't answered: a twentieth of the ttl.
+/// How long until the member asks again after a request that wasn't answered: a twentieth of the ttl.
 pub fn pause_left(paused: Option<u64>, ttl: u64, now: u64) -> u64
     ensures { result ≡ pause_left paused ttl now }
 {
@@ -60,51 +60,60 @@ pub fn pause_left(paused: Option<u64>, ttl: u64, now: u64) -> u64
     }
 }
 
-/// How long until it is the turn of a node with so many higher ones present: a fifth of the ttl for each.
-pub fn turn_left(above: u16, ttl: u64, now: u64, unrest: u64) -> u64
+/// How long until it is the turn of a node with this many higher live nodes: a fifth of the ttl for each, after the
+/// last change.
+pub fn turn_left(above: u16, ttl: u64, now: u64, last_change: u64) -> u64
     requires above { above ≤ NODES_MAX }
     requires ttl { ttl ≤ TTL_MAX }
-    ensures { result ≡ turn_left above ttl now unrest }
+    ensures { result ≡ turn_left above ttl now last_change }
 {
-    left(now, ttl / 5 * u64::from(above), unrest)
+    left(now, ttl / 5 * u64::from(above), last_change)
 }
 
-/// While its work stops: up to the next renewal, and to the end of a pause.
-pub fn stopping_rest(life: LifeState, ttl: u64, now: u64, paused: Option<u64>) -> u64
-    ensures { result ≡ stopping_rest life ttl now paused }
+/// How long it backs off while its work stops: until both the next renewal is due and a pause is over.
+pub fn stopping_backoff(session: SessionState, ttl: u64, now: u64, paused: Option<u64>) -> u64
+    ensures { result ≡ stopping_backoff session ttl now paused }
 {
-    renewal_left(life, ttl, now).max(pause_left(paused, ttl, now))
+    renewal_left(session, ttl, now).max(pause_left(paused, ttl, now))
 }
 
-/// While what it asked for isn't answered yet: a ttl at most, and while it works no longer than its presence is sure.
-pub fn awaiting_rest(work: Work, life: LifeState, ttl: u64, now: u64) -> u64
-    ensures { result ≡ awaiting_rest work life ttl now }
+/// How long it backs off while a request isn't answered yet: a ttl; while it works, as long as its lease is sure.
+pub fn awaiting_backoff(work: Work, session: SessionState, ttl: u64, now: u64) -> u64
+    ensures { result ≡ awaiting_backoff work session ttl now }
 {
     match work {
-        Work::Working(_) => sure_left(life, ttl, now),
+        Work::Working(_) => sure_left(session, ttl, now),
         Work::Idle | Work::Lost(_) | Work::Stopping(_) => ttl,
     }
 }
 
-/// Behind what wasn't answered: up to the end of the pause, and while it works no longer than that is sure.
-pub fn paused_rest(work: Work, life: LifeState, ttl: u64, now: u64, paused: Option<u64>) -> u64
-    ensures { result ≡ paused_rest work life ttl now paused }
+/// How long it backs off after a request that wasn't answered: until the pause is over; while it works, no longer than
+/// its lease is sure.
+pub fn paused_backoff(
+    work: Work,
+    session: SessionState,
+    ttl: u64,
+    now: u64,
+    paused: Option<u64>,
+) -> u64
+    ensures { result ≡ paused_backoff work session ttl now paused }
 {
     let pause = pause_left(paused, ttl, now);
     match work {
-        Work::Working(_) => pause.min(sure_left(life, ttl, now)),
+        Work::Working(_) => pause.min(sure_left(session, ttl, now)),
         Work::Idle | Work::Lost(_) | Work::Stopping(_) => pause,
     }
 }
 
-/// For how long a new life that is Down in the log has to stay until it counts: a hundredth of the ttl.
+/// For how long a new session whose node is Down in the log has to stay until it is admitted: a hundredth of the ttl.
 pub fn first_stay(ttl: u64) -> u64
     ensures { result ≡ first_stay ttl }
 {
     ttl / 100
 }
 
-/// The same, if another life was seen for its node not long before: four times as long as that one had to, up to ten ttl.
+/// The same, if another session was seen for its node not long before: four times as long as that one had to stay, up
+/// to ten ttl.
 pub fn longer_stay(stay: u64, ttl: u64) -> u64
     requires { ttl ≤ TTL_MAX }
     ensures { result ≡ longer_stay stay ttl }
@@ -112,7 +121,7 @@ pub fn longer_stay(stay: u64, ttl: u64) -> u64
     stay.min(ttl * 5 / 2) * 4
 }
 
-/// How long a life is remembered.
+/// For how long a session is remembered after it was first seen: 60 ttl.
 pub fn remembered_for(ttl: u64) -> u64
     requires { ttl ≤ TTL_MAX }
     ensures { result ≡ remembered_for ttl }

@@ -1,33 +1,33 @@
 //! What a member is told, knows and asks for.
 //!
-//! Times are whole nanoseconds of one clock that never goes back. A place in a log is how many rows stand behind its header, and
-//! each of them is an event.
+//! Times are whole nanoseconds of one clock that never goes back. An offset in a log is a number of rows after its
+//! header. Each of these rows is an event.
 ghost use Rattle.std.specs.Prelude.{◌≡◌};
 ghost use Rattle.bully_member.specs.Due.{stopping};
 
 use bully_base::Node;
 
-/// Which life of which process: no two lives that ever take a presence are alike.
+/// A session of a process. No two sessions that ever acquire a lease are equal.
 #[derive(Clone, Copy, PartialEq, Eq)]
-pub struct LifeId {
+pub struct SessionId {
     /// A number that no other process of the group ever has.
     pub process: u64,
-    /// How many lives this process asked for up to this one.
+    /// How many sessions this process has asked for, up to and including this one.
     pub number: u64,
 }
 
-/// Up to where a life is idle: it works by no plan before this place of this epoch.
+/// Up to which offset a session is idle: it works by no plan before this offset of this epoch.
 #[derive(Clone, Copy, PartialEq, Eq)]
 pub struct Promise {
     pub epoch: u32,
-    pub place: u32,
+    pub offset: u32,
 }
 
-/// Who is present for a node.
+/// Who holds the lease of a node.
 #[derive(Clone, Copy)]
-pub struct Presence {
+pub struct Lease {
     pub node: Node,
-    pub life: LifeId,
+    pub session: SessionId,
     pub promise: Promise,
 }
 
@@ -38,7 +38,7 @@ pub enum StoreAnswer {
     Done,
     /// It wasn't done, and won't be.
     Refused,
-    /// It may be done later, or never, or was done already.
+    /// It may have been done already, or may be done later, or never.
     Unanswered,
 }
 
@@ -49,80 +49,82 @@ pub enum Ending {
     Left,
     /// The group has no node of its name any more.
     NotThere,
-    /// The log has a row that isn't learned, or that tells no event.
+    /// The log has a row that isn't learned, or that has no event.
     Broken,
 }
 
-/// What is asked of the store. A place is of the member's epoch.
+/// A request to the store. Its offset is one of the member's epoch.
 #[derive(Clone, Copy)]
 pub enum Request {
-    /// The presence of the member's node for this life, idle up to this place, if nobody has it, and the log ends there.
-    Take(LifeId, u32),
-    /// The presence once more, if this life has had it without a gap.
-    Renew(LifeId),
-    /// The end of the presence, if this life has it.
-    Release(LifeId),
-    /// The rows behind all that was learned, who is present, and what is wished for, at one moment.
-    Look,
-    /// The life's promise to be idle up to this place.
-    Promise(LifeId, u32),
-    /// The settlement as rows, if the log ends at this place, and all that are present are idle up to there.
+    /// Acquires the lease of the member's node for this session, which is idle up to this offset: if nobody has the
+    /// lease, and the log ends there.
+    Acquire(SessionId, u32),
+    /// Renews the lease, if this session has had it without a gap.
+    Renew(SessionId),
+    /// Releases the lease, if this session has it.
+    Release(SessionId),
+    /// Reads the rows after all that was learned, who holds a lease, and which settings are requested, at one moment.
+    Snapshot,
+    /// Records the session's promise to be idle up to this offset, if it has the lease.
+    Promise(SessionId, u32),
+    /// Appends the rows of the rebalance, if the log ends at this offset, and all holders of leases are idle up to
+    /// there.
     Append(u32),
-    /// The end of the epoch and the beginning of the next one, in one transaction, on the same conditions.
-    Finish(u32),
-    /// What the current epoch began with.
+    /// Rolls the epoch over: ends it and begins the next one in one transaction, on the conditions of an append.
+    RollOver(u32),
+    /// Reads what the current epoch began with.
     Follow,
 }
 
-/// What ends a wait before its time: other rows, lives or wishes than were seen; or one of these.
+/// What ends a wait early: rows, sessions or requests to resize other than those that were seen; or one of these.
 #[derive(Clone, Copy)]
 pub enum Until {
-    /// No more.
+    /// Nothing else.
     News,
-    /// One that is present is idle up to the end of the log, and wasn't when the member looked last.
+    /// A holder of a lease is idle up to the end of the log, and wasn't when the member last read a snapshot.
     AnyIdle,
-    /// All that are present are.
+    /// All holders of leases are idle up to the end of the log.
     AllIdle,
 }
 
 /// What a member does next.
 #[derive(Clone, Copy)]
 pub enum Step {
-    /// To ask the store, and to tell what became of that.
+    /// Send this request to the store, and tell the member what became of it.
     Ask(Request),
-    /// To begin to work by this token, on what the node owns. Nothing is written first.
+    /// Begin to work by this token, on what the node owns. Nothing is written first.
     Begin(u32),
-    /// To see to it that all work ends, and to tell when it has.
+    /// Stop all work, and tell the member when it has ended.
     Stop,
-    /// To wait, for so many nanoseconds at most, and to tell that it woke.
+    /// Wait for this many nanoseconds at most, and tell the member that the wait is over.
     Wait(u64, Until),
-    /// To do nothing for so many nanoseconds, or until it is told something.
-    Rest(u64),
-    /// Nothing more.
+    /// Do nothing for this many nanoseconds, or until the member is told something.
+    BackOff(u64),
+    /// Do nothing more: the member has ended.
     End(Ending),
 }
 
-/// Whether a process has the presence of its node.
+/// Whether a process has the lease of its node.
 #[derive(Clone, Copy, PartialEq, Eq)]
-pub enum LifeState {
-    /// It hasn't.
+pub enum SessionState {
+    /// It doesn't have it.
     Absent,
-    /// This life may have it: whether it was taken wasn't answered.
-    Unknown(LifeId),
-    /// This life has it, by a renewal that was asked for at that time.
-    Present(LifeId, u64),
+    /// This session may have it: the request to acquire it wasn't answered.
+    Unknown(SessionId),
+    /// This session has it. Its last renewal, or the acquire, was asked for at this time.
+    Live(SessionId, u64),
 }
 
-/// How far the work of a process is.
+/// The state of a process's work.
 #[derive(Clone, Copy, PartialEq, Eq)]
 pub enum Work {
     /// It works on nothing.
     Idle,
     /// It works by this token.
     Working(u32),
-    /// What it began by this token ended outside.
+    /// Its work by this token ended outside the member.
     Lost(u32),
-    /// It was told to stop what it began by this token, and hasn't told yet that it has.
+    /// It was told to stop its work by this token, and hasn't reported yet that the work has ended.
     Stopping(u32),
 }
 
@@ -133,24 +135,25 @@ pub struct Asked {
     pub at: u64,
 }
 
-/// Since when the log's end, who is present with which promise, and what is wished for are as they are.
+/// Since when nothing of this has changed: where the log ends, who holds a lease with which promise, and whether other
+/// settings are requested.
 #[derive(Clone, Copy)]
-pub struct Unrest {
+pub struct LastChange {
     pub at: u64,
-    pub place: u32,
+    pub offset: u32,
 }
 
-/// Since when the life that was seen last for a node was seen, and how long it has to stay until it counts.
+/// When the session that was last seen for a node was seen first, and how long it has to stay until it is admitted.
 #[derive(Clone, Copy)]
 pub struct Arrival {
-    /// None: nobody was ever seen.
-    pub life: Option<LifeId>,
+    /// None if no session was ever seen.
+    pub session: Option<SessionId>,
     pub at: u64,
     pub stay: u64,
 }
 
 impl Work {
-    /// The same, once it was told to stop.
+    /// The same after an order to stop.
     pub fn stopping(self) -> Work
         ensures { result ≡ stopping self }
     {

@@ -18,7 +18,7 @@ use std::io::Write;
 /// Writes the history of a finished group as a trace, in version 1 where that can tell the setup, and else in version 2: a
 /// row for the event of each entry, in order. Where nothing stood before, what is written means that very trace.
 /// Refused as `OutOfMemory` where an allocation fails, and then nothing was written; as `Write` where the writer fails, and
-/// then a prefix of the trace may have been written. The rule: docs/ALGORITHM.md.
+/// then a prefix of the trace may have been written. The rule: docs/FORMATS.md.
 pub fn write_history<W: Write>(
     alloc: Global,
     writer: &mut W,

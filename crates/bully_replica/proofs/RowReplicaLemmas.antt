@@ -51,7 +51,7 @@ follows_more records before mid after fields rest up ((row, told, learns), room,
 abbrev pub HasGivenAll : ReadSoFar → LearnFault → Type 0
 HasGivenAll reader fault = (fault ≡ LearnFault.Form TraceCause.TooManyRows) × (reader.number ≡ ROWS_MAX + 1)
 
--- a row that can't be had, or that isn't learned behind those so far
+-- a row that can't be read, or that isn't learned after those so far
 pub stops_at : (before after : ReadSoFar) (f : RowReplicaState) (left : List Record) (fault : LearnFault) → before.records ≡ Some left → FailsAt before after f fault
     → StopsAt left f fault ⊎ HasGivenAll before fault
 stops_at before after f left fault known (inl (inl read)) = inl (inl read)

@@ -32,12 +32,13 @@ abbrev pub FailsOn : Record → ReplicaState → LearnFault → Type 0
 FailsOn fields r (LearnFault.Form cause) = (cause ≡ TraceCause.OutOfMemory) ⊎ ((cause ≡ TraceCause.BadRow) × (row_in r fields ≡ None))
 FailsOn fields r (LearnFault.Violation violation) = (row : Row) × (row_in r fields ≡ Some row) × (violation_of r.world row ≡ Some violation)
 
--- why these fields aren't learned behind the rows so far: a trace has no more rows, or FailsOn
+-- why these fields aren't learned after the rows so far: a trace has no more rows, or FailsOn
 abbrev pub FailsBehind : Record → RowReplicaState → LearnFault → Type 0
 FailsBehind fields f fault =
     ((f.rows ≡ ROWS_MAX) × (fault ≡ LearnFault.Form TraceCause.TooManyRows)) ⊎ ((f.rows < ROWS_MAX) × FailsOn fields f.replica fault)
 
--- why no row can be had: the reader fails, or there is no memory; or it has given as many as a trace has with its header
+-- why no row can be read: the reader fails, or there is no memory; or it has given as many rows as a trace may have
+-- with its header
 abbrev pub FailsOutside : ReadSoFar → LearnFault → Type 0
 FailsOutside reader fault =
     (fault ≡ LearnFault.Form TraceCause.Read) ⊎ (fault ≡ LearnFault.Form TraceCause.OutOfMemory)
@@ -47,7 +48,7 @@ FailsOutside reader fault =
 abbrev pub FailsAt : ReadSoFar → ReadSoFar → RowReplicaState → LearnFault → Type 0
 FailsAt before after f fault = FailsOutside before fault ⊎ (Takes before.records after.records true after.fields × FailsBehind after.fields f fault)
 
--- of these records the first were learned, as the rows that they mean, behind those before; and the others are left
+-- the first of these records were learned, as the rows that they mean, after those before; and the others are left
 pub record FollowsUpTo (records : List Record) (before after : RowReplicaState) (left : List Record) : Type 0 where
   pub rows : List Row
   pub read : List Record
@@ -64,7 +65,7 @@ StopsAt left f fault =
     (fault ≡ LearnFault.Form TraceCause.Read) ⊎ (fault ≡ LearnFault.Form TraceCause.OutOfMemory)
     ⊎ ((fields : Record) × (rest : List Record) × (left ≡ fields ∷ rest) × FailsBehind fields f fault)
 
--- or a reader that stood here when the replica was at `before` has given as many as a trace has with its header
+-- or a reader that was here when the replica was at `before` has given as many rows as a trace may have with its header
 abbrev pub Stops : ReadSoFar → RowReplicaState → List Record → RowReplicaState → LearnFault → Type 0
 Stops reader before left f fault =
     StopsAt left f fault ⊎ ((fault ≡ LearnFault.Form TraceCause.TooManyRows) × (reader.number + f.rows ≡ before.rows + (ROWS_MAX + 1)))

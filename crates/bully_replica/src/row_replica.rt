@@ -16,10 +16,10 @@ use std::marker::Model;
 /// Why the next row of a log isn't learned.
 #[derive(Clone, Copy, PartialEq, Eq, Debug)]
 pub enum LearnFault {
-    /// It has no form of a row (`BadRow`), comes behind as many rows as a trace has at most (`TooManyRows`), or couldn't be
-    /// read (`Read`, `OutOfMemory`).
+    /// It doesn't have the form of a row (`BadRow`), comes after as many rows as a trace may have (`TooManyRows`), or
+    /// couldn't be read (`Read`, `OutOfMemory`).
     Form(TraceCause),
-    /// This is wrong with it where it stands.
+    /// This is wrong with it at its place in the log.
     Violation(Violation),
 }
 
@@ -54,7 +54,8 @@ impl Model for RowReplica {
 }
 
 impl RowReplica {
-    /// Behind this header, before any row. It reserves all memory that the events will need. Refused if an allocation fails.
+    /// The replica of a log with this header, before any row. It reserves all memory that the events will need. Refused
+    /// if an allocation fails.
     pub fn new(alloc: Global, header: Header) -> Result<RowReplica, OutOfMemory>
         ensures ok { IfOk result (λ f. f ≡ record { replica = first_replica header; rows = 0 }) }
         ensures learned { IfOk result (λ f. HasLearned f.replica []) }
@@ -79,9 +80,9 @@ impl RowReplica {
         self.rows
     }
 
-    /// Learns the rows that the reader still gives, in their order, up to the first that isn't learned, or that can't be read: `TooManyRows`
-    /// behind as many rows as a trace has at most, then `BadRow`, then what is wrong with the row. What was learned before it stays. The rule:
-    /// docs/FORMATS.md.
+    /// Learns the rows that the reader still gives, in their order, up to the first that isn't learned, or that can't
+    /// be read. Refused, in this order, as `TooManyRows`, after as many rows as a trace may have; as `BadRow`; and as
+    /// what is wrong with the row. What was learned before it stays. The rule: docs/FORMATS.md.
     pub fn learn_all<R: Read + Drop>(
         &mut self,
         alloc: Global,
@@ -95,7 +96,7 @@ impl RowReplica {
         ensures within { self.new.rows ≤ ROWS_MAX }
     {
         let taken = feed_each(alloc, reader, self);
-        // Shows the proof what the type keeps.
+        // Shows the proof the invariant of the type.
         let _ = &self.replica;
         taken
     }

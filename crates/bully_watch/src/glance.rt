@@ -20,7 +20,7 @@ pub struct Leader {
     pub node: Option<Node>,
 }
 
-/// Why a glance shows nothing, in the order of refusals. The rule: this project's profile.
+/// Why a glance shows nothing, in the order of refusals.
 #[derive(Clone, Copy, PartialEq, Eq, Debug)]
 pub enum GlanceFault {
     /// The publisher was ended.

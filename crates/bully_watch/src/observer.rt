@@ -37,7 +37,7 @@ impl Model for Observer {
     ghost invariant = { λ o. ((seat_view o.reader.place).is_named ≡ true) × (o.count ≡ length (seat_view o.reader.place).seen) };
 }
 
-/// Why a look gives no view, in the order of refusals. The rule: this project's profile.
+/// Why a look gives no view, in the order of refusals.
 #[derive(Clone, Copy, PartialEq, Eq, Debug)]
 pub enum LookFault {
     /// The publisher was ended.
@@ -61,7 +61,6 @@ impl Observer {
     }
 
     /// From now on it sees no less than was told. What was told is of its own publisher. Takes no memory.
-    /// The rule: this project's profile.
     pub fn learn(&mut self, told: Told)
         requires { told.publisher ≡ self.old.publisher }
         ensures publisher { self.new.publisher ≡ self.old.publisher }
@@ -79,7 +78,7 @@ impl Observer {
 
     /// The view after a prefix of the publisher's history, at least as long as what it saw or learned of before.
     /// It takes no lock and never waits, and has the allocator that the publisher was made with. Refused with `Gone` where
-    /// the publisher was ended, and with `OutOfMemory` where an allocation fails. The rule: this project's profile.
+    /// the publisher was ended, and with `OutOfMemory` where an allocation fails.
     pub fn look(&mut self) -> Result<View, LookFault>
         ensures publisher { self.new.publisher ≡ self.old.publisher }
         ensures goes_on { IsPrefix self.old.entries self.new.entries }
@@ -95,7 +94,6 @@ impl Observer {
 
     /// What a look would show of one node: it sees no less than was seen before, takes no lock and no memory, and never
     /// waits. Refused with `Gone` where the publisher was ended, and with `BadNode` above the group's last node.
-    /// The rule: this project's profile.
     pub fn glance(&mut self, node: Node) -> Result<Glance, GlanceFault>
         ensures publisher { self.new.publisher ≡ self.old.publisher }
         ensures goes_on { IsPrefix self.old.entries self.new.entries }
@@ -110,7 +108,6 @@ impl Observer {
     }
 
     /// Who leads, by the same rule as a glance: the coordinator that all Normal nodes have. Refused with `Gone` alone.
-    /// The rule: this project's profile.
     pub fn leader(&mut self) -> Result<Leader, GlanceFault>
         ensures publisher { self.new.publisher ≡ self.old.publisher }
         ensures goes_on { IsPrefix self.old.entries self.new.entries }

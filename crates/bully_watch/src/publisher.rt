@@ -19,10 +19,10 @@ use std::marker::{Brand, Model};
 use std::sync::Wait;
 use std::sync::ledger::Blank;
 
-/// So many observers may see one publisher. The rule: this project's profile.
+/// So many observers may see one publisher.
 pub(crate) const OBSERVERS_MAX: u16 = 8;
 
-/// So many told prefixes may be neither learned nor dropped. The rule: this project's profile, docs/DECISIONS.md.
+/// So many told prefixes may be neither learned nor dropped. Why: docs/DECISIONS.md.
 pub(crate) const TOLD_MAX: usize = 120;
 
 /// Who shows a group's history to observers. Contracts see it as which publisher it is, the entries that it shows,
@@ -46,7 +46,7 @@ impl Model for Publisher {
     ghost invariant = { λ p. IsPublisher p.name.name p.count (seat_view p.writer.desk.place) p.writer.desk.shown.value.world (drop p.writer.behind p.writer.log.items) };
 }
 
-/// Why no publisher is opened, in the order of refusals. The rule: this project's profile.
+/// Why no publisher is opened, in the order of refusals.
 #[derive(Clone, Copy, PartialEq, Eq, Debug)]
 pub enum OpenFault {
     /// Not 1 to 8 observers.
@@ -58,7 +58,7 @@ pub enum OpenFault {
 impl Publisher {
     /// A publisher of a group with this setup that showed nothing yet, with 1 to 8 observers. Refused with
     /// `BadObservers` for another number, and with `OutOfMemory` where an allocation fails or the kit makes no
-    /// reader. The rule: this project's profile.
+    /// reader. A group of the same setup may then be opened with it.
     pub fn open<R: Wait>(
         rt: &R,
         alloc: Global,
@@ -108,7 +108,7 @@ impl Publisher {
     /// ones alone, and tells the whole. With nothing new it tells once more, so that each observer can learn.
     /// Refused where an allocation fails, and where 120 told prefixes are neither learned nor dropped: learn or
     /// drop one, and publish again. Observers then see what they saw, and a later publish covers all.
-    /// The rule: this project's profile, docs/DECISIONS.md.
+    /// It may wait for looks that began before. Why there is a limit of 120: docs/DECISIONS.md.
     pub fn publish<R: Wait>(&mut self, rt: &R, entries: &[Entry]) -> Result<Told, OutOfMemory>
         requires { MayPublish self.old entries.now }
         ensures publishes { Publishes self.old entries.now self.new result }
@@ -123,7 +123,6 @@ impl Publisher {
     }
 
     /// Ends it. From then on its observers are told that it is gone. Takes no memory.
-    /// The rule: this project's profile.
     pub fn end<R: Wait>(self, rt: &R) {
         let Publisher {
             name: _name,

@@ -1,7 +1,7 @@
 //! Who may work on which partition: laws over lawful lists of events, and over a store that processes share.
 //!
-//! It stands on bully_agree and the crates below it. Whoever has a node's process work relies on one worker for each
-//! partition in one world, on what ends its work, and on the rule of promises.
+//! It builds on bully_agree and the crates below it. A program that has a node's process work relies on three laws: of
+//! the one worker that a partition has in a world, of the events that end a node's work, and of promises.
 #![tactic(auto)]
 
 ghost use Rattle.std.specs.Prelude.{◌≡◌, ◌↔◌, ◌++◌, ℕ, false, List, length};
@@ -16,9 +16,10 @@ ghost use Rattle.bully_world.specs.Lawful.{IsLawful};
 ghost use Rattle.bully_world.specs.Step.{Step};
 ghost use Rattle.bully_world.specs.World.{World, vector};
 
-/// The law of one worker. Whatever lawful list leads to a world, no two nodes that are Normal there have a partition
-/// both by their tasks; and each has it by the list's last plan. Of two worlds, one of a list that begins the other's,
-/// under one token a partition has one worker: a resource that keeps the highest token has one at a time.
+/// The law of one worker. Whatever lawful list leads to a world, no two nodes that are Normal there have the same
+/// partition by their tasks, and each has its partitions by the list's last plan. If one list is a prefix of another,
+/// and both have the same token, a partition has the same worker in both worlds: a resource that keeps the highest
+/// token has one worker at a time.
 pub fn one_worker()
     ensures one { (setup : Setup) (events : List Event) (answers : List Answer) (w : World) (i j k : ℕ)
         → IsLawful setup events answers w → WorksOn w i k → WorksOn w j k → i ≡ j }
@@ -30,8 +31,8 @@ pub fn one_worker()
         → IsLastPlan events p → IsLastPlan (events ++ more) q → p.token ≡ q.token → i ≡ j }
 {}
 
-/// The law of owners. A Normal node stays Normal at a step exactly if that isn't its crash, its own move or the run of a
-/// Halt at it. As long as none of these comes, it keeps its vector, and its task with it, and nobody plans.
+/// The law of owners. A Normal node stays Normal at a step exactly if the step isn't its crash, its own move or the run
+/// of a Halt at it. As long as none of these comes, the node keeps its vector, with its task, and nobody plans.
 pub fn owners_stay()
     ensures exact { (setup : Setup) (events : List Event) (answers : List Answer) (w w' : World) (e : Event) (a : Answer) (i : ℕ)
         → IsLawful setup events answers w → Step setup w e w' a → (vector w i).status ≡ Normal
@@ -42,21 +43,22 @@ pub fn owners_stay()
     ensures last { (events more : List Event) (p : Planned) → has_plan more ≡ false → IsLastPlan events p → IsLastPlan (events ++ more) p }
 {}
 
-/// The law of promises. Whatever is done to a store: of all lives that are present and work at one moment, each has learned the
-/// whole log and is an owner by its last plan, and nothing is appended meanwhile; so all work by one plan, and no two have one
-/// partition. And of all that ever began, a later one has no lower token; by one token a node has one life, and a partition one node
-/// and one life. So a life that works on once its presence is gone has a lower token than whoever begins behind it, if they have a
-/// partition both.
+/// The law of promises. Whatever is done to a store, each session that is live and works has learned the whole log and
+/// is an owner by its last plan, and nothing is appended meanwhile. So all sessions that are live and work at one
+/// moment work by one plan, and no two of them have the same partition. Of all sessions that ever began to work, a
+/// later one has no lower token. With one token a node has one session, and a partition has one node and one session.
+/// So a session that goes on working after its lease is gone has a lower token than any other session that begins later
+/// with one of its partitions.
 ///
-/// What is done is what `Does` allows: the store accepts what its own tests let through, and each member keeps six rules, which have
-/// their names in `specs/Store`: `MayAppend`, `MayTake`, `MayYield`, `MayLearn`, `MayPromise`, `MayBegin`. Nothing else is assumed of
-/// members, of time, or of what comes late.
+/// What may be done is what `Does` allows: the store accepts only what passes its own tests, and each member keeps six
+/// rules, which `specs/Store` defines: `MayAppend`, `MayAcquire`, `MayYield`, `MayLearn`, `MayPromise`, `MayBegin`.
+/// Nothing else is assumed about members, about time, or about what comes late.
 pub fn workers_apart()
     ensures owner { (setup : Setup) (acts : List Act) (s : Store) (i n : ℕ) (p : Planned)
         → Become setup first_store acts s → IsAtWork s i n p
-        → ((s.lives i n).learned ≡ length s.log) × (is : IsOwner setup s.log i p) × GoesBy is.world i p }
-    ensures still { (setup : Setup) (acts : List Act) (s s' : Store) (i n : ℕ) (p : Planned) (place : ℕ) (events : List Event)
-        → Become setup first_store acts s → IsAtWork s i n p → Does setup s (Append place events) s' → ⊥ }
+        → ((s.sessions i n).learned ≡ length s.log) × (is : IsOwner setup s.log i p) × GoesBy is.world i p }
+    ensures still { (setup : Setup) (acts : List Act) (s s' : Store) (i n : ℕ) (p : Planned) (offset : ℕ) (events : List Event)
+        → Become setup first_store acts s → IsAtWork s i n p → Does setup s (Append offset events) s' → ⊥ }
     ensures now { (setup : Setup) (acts : List Act) (s : Store) (i j n m : ℕ) (p q : Planned)
         → Become setup first_store acts s → IsAtWork s i n p → IsAtWork s j m q
         → (p ≡ q) × ((k : ℕ) → GivesTo p.table k i → GivesTo q.table k j → (i ≡ j) × (n ≡ m)) }

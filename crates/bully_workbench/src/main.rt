@@ -25,7 +25,7 @@
 //! `bindings/rust/try` do again what their traces say, and `tests/hostile/memory` refuses a call each of its requests in turn. These calls are of all libraries
 //! but those that need a configuration, words or threads: what those make of refused memory is tried with the program itself.
 //!
-//! It stands on bully_group, bully_agent, bully_settling, bully_annotate and the crates below them. Nothing stands on it.
+//! It stands on bully_group, bully_agent, bully_rebalance, bully_annotate and the crates below them. Nothing stands on it.
 #![tactic(auto)]
 
 mod bench;

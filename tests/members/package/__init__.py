@@ -1,1 +1,1 @@
-"""Tests of the package `bully` but for its binding: stores, guards, members, pages and commands, each by itself."""
+"""Tests of the package `bully` but for its binding: stores, watchdogs, members, pages and commands, each by itself."""

@@ -1,4 +1,4 @@
-"""Tries the package `bully` but for its binding: its stores, guards, members, pages and commands, each by itself.
+"""Tries the package `bully` but for its binding: its stores, watchdogs, members, pages and commands, each by itself.
 
     tests/members/run package LIBRARY_FOLDER [MODULE ..]
 

@@ -5,10 +5,10 @@ import threading
 from collections.abc import Callable
 from typing import Any, cast
 
-from bully import Setup, resizing, settings
+from bully import Setup, operations, settings
 from bully.epochs import Opening
-from bully.logs import Log, NoEpoch
-from bully.running import Member
+from bully.member import Member
+from bully.shared_log import Log, NoEpoch
 from ..waiting import PATIENCE, wait_until
 from .laws import Tests
 
@@ -38,8 +38,8 @@ class Away(Tests):
     """A member that was away while its epoch ended and was taken away, over one of the stores: tests for each of
     them."""
 
-    BY_ITSELF = ('look', 'take', 'append', 'wait', 'renew')  # what a member asks alone in its group
-    BY_A_WISH = ('promise', 'finish', 'opening')  # and once something else is wished for
+    BY_ITSELF = ('snapshot', 'acquire', 'append', 'wait', 'renew')  # what a member asks alone in its group
+    BY_A_REQUEST = ('promise', 'roll_over', 'opening')  # and once other settings are requested
     AWAY = Opening.first('bully,1,2,4', ('b', 'a'))
 
     def created(self) -> Log:
@@ -56,7 +56,7 @@ class Away(Tests):
 
     def test_goes_on(self) -> None:
         """Whatever it was about to ask: it goes on in the current epoch by its name."""
-        for call in (*self.BY_ITSELF, *self.BY_A_WISH):
+        for call in (*self.BY_ITSELF, *self.BY_A_REQUEST):
             with self.subTest(call=call):
                 self.pause(call)
                 self.pass_epoch('c', 'b')
@@ -64,17 +64,17 @@ class Away(Tests):
 
     def test_ends(self) -> None:
         """It ends, if its name isn't there any more."""
-        for call in ('wait', 'finish'):
+        for call in ('wait', 'roll_over'):
             with self.subTest(call=call), self.assertLogs('bully', 'WARNING') as told:
                 self.pause(call)
                 self.pass_epoch('c')
                 self.thread.join()
-                self.assertEqual((self.failures, dict(self.log.look(2, 0).presences)), ([], {}))
+                self.assertEqual((self.failures, dict(self.log.snapshot(2, 0).holders)), ([], {}))
                 self.assertIn('node b: its node is not in the group any more', told.output[-1])
 
     def pause(self, call: str) -> None:
-        """A member of node `b` has begun, and is held at this call now; or is about to ask that once something is
-        wished for."""
+        """A member of node `b` has begun, and is held at this call now; or will be, where it makes the call only once
+        settings are requested."""
         self.log = self.created()
         self.holds = Held(self.handle(self.log))
         self.member = Member(cast(Log, self.holds), 'b', lambda work: None, lambda work: None, ttl=1.0)
@@ -104,7 +104,7 @@ class Away(Tests):
     def pass_epoch(self, *names: str) -> None:
         """The group has these nodes in a later epoch, and the rows of the first one are gone. Then the member goes
         on."""
-        resizing.resize(self.log, settings.Settings(Setup(len(names), 5), names), PATIENCE)
+        operations.resize(self.log, settings.Settings(Setup(len(names), 5), names), PATIENCE)
         wait_until(self.holds.is_held.is_set)
         self.take_away()
         self.assertEqual((self.log.epochs(), self.member.opening.epoch), (range(2, 3), 1))

@@ -1,4 +1,4 @@
-"""What the tests of workers below a guard share."""
+"""What the tests of workers below a watchdog share."""
 from __future__ import annotations
 
 import tempfile
@@ -10,7 +10,7 @@ from typing import cast
 
 from bully import clocks
 from bully.epochs import Opening, Token
-from bully.running import Assignment, Member
+from bully.member import Assignment, Member
 from bully.worker import Workers
 from ..waiting import PATIENCE
 
@@ -43,7 +43,7 @@ class Timely(Workers):
 
 
 class Below(unittest.TestCase):
-    """Tests of workers below a guard."""
+    """Tests of workers below a watchdog."""
 
     talks = False
 

@@ -5,7 +5,7 @@ import tempfile
 import unittest
 from pathlib import Path
 
-from bully.logs import Log
+from bully.shared_log import Log
 from bully.sqlite import SqliteLog
 from ..steps import OPENING
 

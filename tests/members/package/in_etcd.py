@@ -7,10 +7,10 @@ import threading
 from typing import Any
 
 from bully.clocks import SECOND
+from bully.core import Session
 from bully.etcd import EtcdLog
-from bully.gateway import Endpoint
-from bully.logs import Unanswered
-from bully.member import Life
+from bully.etcd_client import Endpoint
+from bully.shared_log import Unanswered
 from ..etcd_servers import Server, WithEtcd
 from ..steps import EMPTY, LONG, A
 
@@ -94,9 +94,9 @@ class InEtcd(WithEtcd):
     """Tests of logs, with what some of them share."""
 
     def begun(self, address: str = '', **more: Any) -> EtcdLog:
-        """A log in which 'a' is present."""
+        """A log in which 'a' is live."""
         log = self.created(address, **more)
-        self.assertTrue(log.take('a', A, EMPTY, LONG))
+        self.assertTrue(log.acquire('a', A, EMPTY, LONG))
         return log
 
     def proxy(self, host: str = '127.0.0.1') -> Proxy:
@@ -104,13 +104,13 @@ class InEtcd(WithEtcd):
         self.addCleanup(proxy.close)
         return proxy
 
-    def renewed(self, log: EtcdLog, life: Life = A, ttl: int = 2 * SECOND) -> bool:
-        """Whether the presence of 'a' is renewed, once that is answered."""
+    def renewed(self, log: EtcdLog, session: Session = A, ttl: int = 2 * SECOND) -> bool:
+        """Whether the lease of 'a' is renewed, once that is answered."""
         while True:
             with contextlib.suppress(Unanswered):
-                return log.renew('a', life, ttl)
+                return log.renew('a', session, ttl)
 
     def leases(self, server: Server | None = None, prefix: str = '') -> dict[str, str | None]:
-        """The leases of lives and promises."""
+        """The leases of etcd, by the keys of sessions and promises that are under them."""
         root = f'{prefix or self.prefix}/presence/'
         return {key[len(root) :]: pair.get('lease') for key, pair in (server or self.server).keys(root).items()}

@@ -15,7 +15,7 @@ from typing import Any, BinaryIO
 from unittest import mock
 
 from bully import command
-from bully.logs import Holder
+from bully.shared_log import Holder
 from places import ROOT, environment
 from ..processes import children, is_running
 from ..waiting import PATIENCE, wait_until
@@ -36,13 +36,13 @@ def call(*words: str) -> tuple[int, str, str]:
     return status, said.getvalue(), told.getvalue()
 
 
-# Workers in shell, whose folder is PLACE: one that stays until it is ended, and one that stays over changes.
-BEGINS = 'env > $PLACE/env; echo $$ > $PLACE/new; mv $PLACE/new $PLACE/begun; exec sleep 1000'
-STARTS = f'sleep 1000 & echo $! > $PLACE/child; {BEGINS}'  # it has begun something else
+# Workers in shell, whose folder is FOLDER: one that stays until it is ended, and one that stays over changes.
+BEGINS = 'env > $FOLDER/env; echo $$ > $FOLDER/new; mv $FOLDER/new $FOLDER/begun; exec sleep 1000'
+STARTS = f'sleep 1000 & echo $! > $FOLDER/child; {BEGINS}'  # it has begun something else
 TALKS = """
-    echo $$ > $PLACE/new; mv $PLACE/new $PLACE/begun
+    echo $$ > $FOLDER/new; mv $FOLDER/new $FOLDER/begun
     while read -r line; do
-        echo "$line" >> $PLACE/told
+        echo "$line" >> $FOLDER/told
         case $line in *stop*) echo stopped >&3;; esac
     done
 """
@@ -51,14 +51,14 @@ TALKS = """
 def started(
     folder: Path, words: Sequence[str], said: BinaryIO | None = None, /, **more: str
 ) -> subprocess.Popen[bytes]:
-    """The process of these words, whose place is this folder, with more in its environment. What it says is for that
+    """The process of these words, with this folder as FOLDER, and more, in its environment. What it says is for that
     file, or one of the folder."""
     with said or open(folder / 'said', 'wb') as file:
-        return subprocess.Popen(words, env=environment(PLACE=str(folder), **more), stderr=file)
+        return subprocess.Popen(words, env=environment(FOLDER=str(folder), **more), stderr=file)
 
 
 class MemberProcess:
-    """`bully-member run` in a process of its own, and what its worker tells by files of a folder."""
+    """`bully-member run` in a process of its own, and what its worker writes into files of a folder."""
 
     def __init__(
         self, folder: Path, words: Sequence[str], worker: Sequence[str], said: BinaryIO | None = None, /, **more: str
@@ -103,11 +103,11 @@ class MemberProcess:
         return self.process.wait(PATIENCE)
 
     def kill(self) -> None:
-        """It ends now, if it hasn't, and then its guard does, with the worker."""
-        guards = children(self.process.pid) if self.process.poll() is None else []
+        """It ends now, if it hasn't, and then its watchdog does, with the worker."""
+        watchdogs = children(self.process.pid) if self.process.poll() is None else []
         self.process.kill()
         self.process.wait(PATIENCE)
-        wait_until(lambda: not any(map(is_running, guards)))
+        wait_until(lambda: not any(map(is_running, watchdogs)))
 
 
 class WithMember(InFolder):
@@ -130,10 +130,10 @@ class WithMember(InFolder):
         return member
 
     def left(self) -> tuple[str, dict[str, Holder]]:
-        """The last row of the current log, and who is present."""
+        """The last row of the current log, and who holds a lease."""
         log = self.opened()
-        found = log.look(log.epochs()[-1], 0)
-        return found.rows[-1], dict(found.presences)
+        found = log.snapshot(log.epochs()[-1], 0)
+        return found.rows[-1], dict(found.holders)
 
     def container(self, port: int) -> tuple[list[str], dict[str, str]]:
         """By which words a container begins such a member, which listens on this port; and what more is in its

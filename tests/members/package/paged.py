@@ -8,7 +8,7 @@ import unittest
 
 from bully import page, view
 from bully.epochs import Opening
-from bully.running import Member
+from bully.member import Member
 from bully.worker import Workers
 from ..steps import HEADER
 from ..waiting import PATIENCE, wait_until

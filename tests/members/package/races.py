@@ -7,23 +7,23 @@ import sys
 import unittest
 from typing import Any
 
-from bully.logs import Log
+from bully.shared_log import Log
 from places import environment
 
 RACER = '''
 import sys
-from bully.logs import LogBusy
-from bully.member import Life, Promise, Until
-from bully.stores import FileStore, EtcdStore
+from bully.shared_log import LogBusy
+from bully.core import Session, Promise, Until
+from bully.store_options import FileStore, EtcdStore
 me, kind, where = sys.argv[1:]
 log = FileStore(where).open(60.0) if kind == 'file' else EtcdStore(where, None, '', '').open(60.0)
 done = refused = 0
 print('there', flush=True)
 sys.stdin.readline()
 while done < 20:
-    place = len(log.look(1, 0).rows)
-    log.promise('a', Life(2**64 - 1, 1), Promise(1, place))
-    if log.append(1, place, [f'{me},{done}'] * 7):
+    offset = len(log.snapshot(1, 0).rows)
+    log.promise('a', Session(2**64 - 1, 1), Promise(1, offset))
+    if log.append(1, offset, [f'{me},{done}'] * 7):
         done += 1
     else:
         refused += 1
@@ -33,7 +33,7 @@ print(refused)
 
 
 def race(test: unittest.TestCase, log: Log, kind: str, where: str) -> None:
-    """Processes append, each as soon as it can. Each append stands once and as a whole, and in the order of its
+    """Processes append, each as soon as it can. Each append is there once and as a whole, and in the order of its
     process."""
     words, refused = [sys.executable, '-W', 'error', '-c', RACER], 0
     pipes: dict[str, Any] = {'stdin': subprocess.PIPE, 'stdout': subprocess.PIPE, 'universal_newlines': True}
@@ -54,7 +54,7 @@ def race(test: unittest.TestCase, log: Log, kind: str, where: str) -> None:
             test.assertEqual(racer.returncode, 0)
             refused += int(said)
     rows = list(log.read(1, 0))
-    appends = [rows[place] for place in range(0, len(rows), 7)]
+    appends = [rows[offset] for offset in range(0, len(rows), 7)]
     test.assertEqual(rows, [row for row in appends for _ in range(7)])
     for number in range(3):
         test.assertEqual(

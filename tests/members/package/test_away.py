@@ -3,8 +3,8 @@ from __future__ import annotations
 
 import unittest
 
-from bully.logs import Log
 from bully.memory import MemoryLog
+from bully.shared_log import Log
 from bully.sqlite import SqliteLog
 from .away_laws import Away
 from .folders import InFolder

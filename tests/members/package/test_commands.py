@@ -10,11 +10,11 @@ from collections.abc import Callable
 from pathlib import Path
 from unittest import mock
 
-from bully import command, configs, stores
+from bully import command, config_file, store_options
 from bully.clocks import SECOND
-from bully.logs import Log
-from bully.member import Life, Promise
-from bully.running import Member
+from bully.core import Promise, Session
+from bully.member import Member
+from bully.shared_log import Log
 from ..steps import HEADER, LONG
 from ..waiting import wait_until
 from .configurations import TOP, toml
@@ -23,7 +23,7 @@ from .member_processes import call
 from .threads import put
 
 
-WISH = "update epochs set wish = json_set(opening, '$.epoch', 2,"
+REQUESTED = "update epochs set wish = json_set(opening, '$.epoch', 2,"
 
 
 class Commands(InFolder):
@@ -60,7 +60,7 @@ class Commands(InFolder):
             self.assertEqual(self.path.stat().st_mode & 0o7777, mode)
             self.assertEqual(self.of_log('status')[2], '')
             self.path.chmod(0o604)
-            self.assertIn(f'{self.path}: of mode 0604, so each user who reaches', self.of_log('status')[2])
+            self.assertIn(f'{self.path}: its mode is 0604, so every user who can reach', self.of_log('status')[2])
             self.path.unlink()
         etcd = ['--log', 'etcd://127.0.0.1:1/group', '--group-access']
         self.assertEqual(call(*init, *etcd), (2, '', 'bully-member: --group-access is for a log in a file\n'))
@@ -79,45 +79,45 @@ class Commands(InFolder):
         self.assertTrue(self.of_log('status')[1].startswith('epoch 2, events 0, token -, coordinator -\n'))
         new.write_bytes(toml({**TOP, 'weights': [1, 2, 3]}))
         self.assertEqual(self.of_log(*resize)[1], 'epoch 3: 3 nodes, 6 partitions\n')
-        self.assertEqual(self.of_log('prune', '--keep', '2'), (0, 'epochs 2 to 3 are there\n', ''))
+        self.assertEqual(self.of_log('prune', '--keep', '2'), (0, 'epochs 2 to 3 are left\n', ''))
         status, said, told = self.of_log('history', '--epoch', '1')
         self.assertEqual(
-            (status, said, told), (4, '', f'bully-member: {self.path}: epoch 1 is not there, but 2 to 3\n')
+            (status, said, told), (4, '', f'bully-member: {self.path}: there is no epoch 1, only 2 to 3\n')
         )
-        self.assertEqual(self.of_log('prune', '--keep', '1'), (0, 'epoch 3 is there\n', ''))
+        self.assertEqual(self.of_log('prune', '--keep', '1'), (0, 'epoch 3 is left\n', ''))
         for words in (['prune', '--keep', '0'], ['prune'], ['history', '--epoch', 'x'], ['resize']):
             self.assertEqual(self.of_log(*words)[0], 2)
 
     def test_begins_later(self) -> None:
-        """A log may begin behind the epochs of another one, so that its tokens are higher."""
+        """A log may begin with a later epoch than those of another one, so that its tokens are higher."""
         self.assertEqual(self.of_log('init', '--config', str(self.config), '--epoch', '7'), (0, '', ''))
         self.assertTrue(self.of_log('status')[1].startswith('epoch 7, events 0, token -, coordinator -\n'))
         put(self.opened(), 'recover,2')
         self.assertEqual(self.of_log('history', '--epoch', '7'), (0, f'{HEADER}\nrecover,2\n', ''))
-        new = self.wished()
+        new = self.requested_settings()
         self.assertEqual(self.of_log('resize', '--config', str(new))[1], 'epoch 8: 3 nodes, 4 partitions\n')
-        self.assertEqual(self.of_log('prune', '--keep', '1'), (0, 'epoch 8 is there\n', ''))
-        with Member(self.opened(), 'b', print, print, settings=configs.settings_in(str(self.config))) as member:
+        self.assertEqual(self.of_log('prune', '--keep', '1'), (0, 'epoch 8 is left\n', ''))
+        with Member(self.opened(), 'b', print, print, settings=config_file.settings_in(str(self.config))) as member:
             self.assertEqual(member.node, 2)
         for epoch in ('0', 'x', '4000000001'):
             self.assertEqual(self.of_log('init', '--config', str(self.config), '--epoch', epoch)[0], 2)
 
     def test_bad_rows(self) -> None:
-        """What is no row, no event, no wish or no opening is told with its place, and by the status that a new try
-        doesn't help."""
+        """What is no row, no event, no request to resize or no opening is reported with its offset, and by the status
+        that a new try doesn't help."""
         cases = (
-            ("insert into log values (1, 1, char(10), 0)", 'what stands at place 1 of epoch 1 is no row'),
-            ("insert into log values (1, 1, 'recover,1' || char(13, 10), 0)", 'stands at place 1 of epoch 1 is no row'),
-            ("insert into log values (1, 1, 'end,bully,1,3,6' || char(10), 0)", 'row 3: A row has no form of a row'),
+            ("insert into log values (1, 1, char(10), 0)", 'the line at offset 1 of epoch 1 is not a row'),
+            ("insert into log values (1, 1, 'recover,1' || char(13, 10), 0)", 'the line at offset 1 of epoch 1 is not a row'),
+            ("insert into log values (1, 1, 'end,bully,1,3,6' || char(10), 0)", "row 3: The row doesn't have the form"),
             ("insert into log values (1, 1, cast(x'ff0a' as text), 0)", 'decode'),
-            ("update epochs set wish = 'x'", 'epoch 2 has no opening'),
-            (f"{WISH} '$.header', 'x')", 'epoch 2 has no opening: x is no header'),
-            (f"{WISH} '$.names', json_array(1, 2, 3))", 'epoch 2 has no opening: names'),
-            ("update epochs set wish = json_set(opening, '$.epoch', 2, '$.limit', 5)", 'epoch 2 has no opening: names'),
-            (f"{WISH} '$.table', json_array(1, 2, 3, 1, 2, 4))", 'epoch 2 has no opening: names'),
-            (f"{WISH} '$.header', 'bully,2,3,6,1 1 0,clear')", 'epoch 2 has no opening: '),
+            ("update epochs set wish = 'x'", 'the opening of epoch 2 can not be read'),
+            (f"{REQUESTED} '$.header', 'x')", 'the opening of epoch 2 can not be read: x is not a header'),
+            (f"{REQUESTED} '$.names', json_array(1, 2, 3))", 'the opening of epoch 2 can not be read: a name of'),
+            ("update epochs set wish = json_set(opening, '$.epoch', 2, '$.limit', 5)", 'the opening of epoch 2 can not be read: a name of'),
+            (f"{REQUESTED} '$.table', json_array(1, 2, 3, 1, 2, 4))", 'the opening of epoch 2 can not be read: a name of'),
+            (f"{REQUESTED} '$.header', 'bully,2,3,6,1 1 0,clear')", 'the opening of epoch 2 can not be read: '),
             ("update epochs set wish = opening", 'epoch 2 has the opening of epoch 1'),
-            ("update epochs set opening = json_set(opening, '$.header', 'bully,1,4,6')", '1,4,6 is told of 3 nodes'),
+            ("update epochs set opening = json_set(opening, '$.header', 'bully,1,4,6')", '1,4,6 has 3 names'),
         )  # fmt: skip
         for number, (asked, told) in enumerate(cases):
             self.path = self.folder / f'{number}.db'
@@ -136,11 +136,12 @@ class Commands(InFolder):
                     self.assertIn(told, why)
 
     def test_repair(self) -> None:
-        """What is damaged is told, and cut once that is wanted and nobody is present. What is lawful stays, and tokens
+        """What is damaged is told, and cut once that is wanted and nobody holds a lease. What is lawful stays, and tokens
         are new."""
-        no_row, missing = 'row 5: A row has no form of a row', 'rows are missing, or something else is between them'
+        no_row = "row 5: The row doesn't have the form of a row"
+        missing = 'rows are missing, or there is something else between them'
         cases = (
-            ("update log set rows = rows || char(10) || 'start,2' || char(10)", 5, ['', 'start,2'], "'' is no row"),
+            ("update log set rows = rows || char(10) || 'start,2' || char(10)", 5, ['', 'start,2'], "'' is not a row"),
             ("update log set rows = rows || 'end,bully,1,3,6' || char(10)", 4, ['end,bully,1,3,6'], no_row),
             ("insert into log values (1, 3, cast(x'ff0a' as text), 0)", 4, ['\ufffd'], no_row),
             ("insert into log values (1, 4, 'x' || char(10), 0)", 5, ['x'], missing),
@@ -152,21 +153,20 @@ class Commands(InFolder):
             with contextlib.closing(sqlite3.connect(self.path, isolation_level=None)) as file:
                 file.execute(asked)
                 file.execute('update epochs set count = ?', (count,))
-            told = f'epoch 1, place 3: {why}; {len(rows)} rows of {count} are cut, and epoch 2 begins\n' + ''.join(
-                f'{row!r}\n' for row in rows
-            )
+            cut = f'{len(rows)} of {count} rows are to be cut, and then epoch 2 starts'
+            told = f'epoch 1, offset 3: {why}; {cut}\n' + ''.join(f'{row!r}\n' for row in rows)
             with self.subTest(asked=asked):
                 for words in ((), ('--cut', '2')):
                     status, said, refused = self.of_log('repair', *words)
                     self.assertEqual((status, said), (1, told))
-                    self.assertIn('nothing is cut: --cut 3 cuts that, once', refused)
+                    self.assertIn('nothing is cut: --cut 3 cuts these rows, once', refused)
                 log = self.opened()
-                self.assertTrue(log.take('c', Life(1, 1), Promise(1, count), 1000 * SECOND))
+                self.assertTrue(log.acquire('c', Session(1, 1), Promise(1, count), 1000 * SECOND))
                 self.assertEqual(
                     self.of_log('repair', '--cut', '3'),
-                    (1, told, 'bully-member: nothing is cut: somebody is present\n'),
+                    (1, told, 'bully-member: nothing is cut: somebody holds a lease\n'),
                 )
-                log.release('c', Life(1, 1))
+                log.release('c', Session(1, 1))
                 self.assertEqual(self.of_log('repair', '--cut', '3'), (0, told, ''))
                 self.assertEqual(
                     self.of_log('history', '--epoch', '1')[1], f'{HEADER}\nrecover,2\nrecover,1\nrecover,3\n'
@@ -174,15 +174,16 @@ class Commands(InFolder):
                 self.assertTrue(self.of_log('status')[1].startswith('epoch 2, events 0, token -'))
                 self.assertEqual(self.of_log('repair'), (0, 'epoch 2: nothing is damaged\n', ''))
 
-    def test_repair_of_a_wish(self) -> None:
-        """What can't be read of a wish or of orders is taken back. A presence that is none isn't taken for one."""
+    def test_repair_of_a_request(self) -> None:
+        """A request to resize or maintenance that can't be read is taken back. A lease that can't be read is
+        refused."""
         self.of_log('init', '--config', str(self.config))
-        self.take(self.opened(), 'a')
+        self.acquire(self.opened(), 'a')
         with contextlib.closing(sqlite3.connect(self.path, isolation_level=None)) as file:
             file.execute("update presence set life = 'x'")
             status, said, why = self.of_log('repair')
             self.assertEqual((status, said), (3, ''))
-            self.assertIn('the presence of a is none', why)
+            self.assertIn('the lease of a can not be read', why)
             file.execute('delete from presence')
         for change in (
             "update epochs set wish = 'x'",
@@ -192,12 +193,12 @@ class Commands(InFolder):
             with contextlib.closing(sqlite3.connect(self.path, isolation_level=None)) as file:
                 file.execute(change)
             self.assertEqual(self.of_log('status')[0], 3)
-            said = 'epoch 1: what was wished for or ordered could not be read, and is taken back\n'
+            said = 'epoch 1: the requested settings or the maintenance could not be read; both are taken back\n'
             self.assertEqual(self.of_log('repair'), (0, said, ''))
             self.assertEqual(self.of_log('status')[0], 1, 'nobody works')
 
     def test_times(self) -> None:
-        """Each row behind the time of its append, of UTC; a trace has none."""
+        """Each row after the time of its append, of UTC; a trace has none."""
         self.of_log('init', '--config', str(self.config))
         with mock.patch.object(time, 'time_ns', lambda: 1_700_000_000_007_000_000):
             put(self.opened(), 'recover,2', 'start,2')
@@ -213,77 +214,77 @@ class Commands(InFolder):
         """It is told, waited for, and refused where nobody would work."""
         self.of_log('init', '--config', str(self.config))
         log = self.opened()
-        lives = self.take(log, 'a', 'b')
+        sessions = self.acquire(log, 'a', 'b')
         late = (1, '', 'bully-member: b is drained, and has not left yet\n')
         self.assertEqual(self.of_log('drain', 'b', '--seconds', '0.01'), late, 'it never leaves')
         status, said, _ = self.of_log('status')
         self.assertRegex(said, '\nb +down +yes, drained +- ')
         self.assertRegex(said, '\na +down +yes +- ')
-        last = 'bully-member: a is the last one that is there and not drained, so nobody would work; --all takes it\n'
-        self.assertEqual(self.of_log('drain', 'a'), (2, '', last))
-        self.assertEqual(log.look(1, 0).orders.drained, {'b'})
-        log.release('b', lives['b'])
+        last = 'a is the last node left that is not drained, so no node would work; use --all to drain it all the same'
+        self.assertEqual(self.of_log('drain', 'a'), (2, '', f'bully-member: {last}\n'))
+        self.assertEqual(log.snapshot(1, 0).maintenance.drained, {'b'})
+        log.release('b', sessions['b'])
         self.assertEqual(self.of_log('drain', 'b'), (0, 'b is drained\n', ''))
         told = json.loads(self.of_log('status', '--json')[1])
         self.assertEqual(
-            [(node['present'], node['drained']) for node in told['nodes']],
+            [(node['live'], node['drained']) for node in told['nodes']],
             [(True, False), (False, True), (False, False)],
         )
         self.assertEqual(self.of_log('drain', 'a', '--all', '--seconds', '0.01')[0], 1)
         self.assertEqual(self.of_log('undrain', 'b'), (0, 'b is not drained\n', ''))
-        self.assertEqual(log.look(1, 0).orders.drained, {'a'})
+        self.assertEqual(log.snapshot(1, 0).maintenance.drained, {'a'})
         for words in (['drain', 'x'], ['undrain', 'x']):
             self.assertEqual(
-                self.of_log(*words), (5, '', 'bully-member: the group has no node x in epoch 1, but a, b, c\n')
+                self.of_log(*words), (5, '', 'bully-member: the group has no node x in epoch 1, only a, b, c\n')
             )
         self.assertEqual((self.of_log('drain')[0], self.of_log('pause', 'a')[0]), (2, 2))
 
     def test_pause(self) -> None:
         self.of_log('init', '--config', str(self.config))
         log = self.opened()
-        lives = self.take(log, 'a', 'b')
+        sessions = self.acquire(log, 'a', 'b')
         for _ in range(2):
             self.assertEqual(self.of_log('pause'), (0, 'the group is paused\n', ''))
-        self.assertEqual(log.look(1, 0).orders.lives, lives)
-        self.assertIn('coordinator -; paused: who works goes on, and nobody settles\n', self.of_log('status')[1])
+        self.assertEqual(log.snapshot(1, 0).maintenance.sessions, sessions)
+        paused = 'coordinator -; paused: members that work continue, and nobody rebalances\n'
+        self.assertIn(paused, self.of_log('status')[1])
         self.assertEqual(json.loads(self.of_log('status', '--json')[1])['paused'], True)
         self.assertEqual(
             self.of_log('drain', 'b'), (0, 'b is drained, and leaves once the group is not paused any more\n', '')
         )
-        new = self.wished()
-        paused = 'bully-member: the group is paused, so no epoch ends; bully-member resume has it go on\n'
+        new = self.requested_settings()
+        paused = 'bully-member: the group is paused, so no epoch ends; bully-member resume ends the pause\n'
         self.assertEqual(self.of_log('resize', '--config', str(new)), (1, '', paused))
         for _ in range(2):
             self.assertEqual(self.of_log('resume'), (0, 'the group is not paused\n', ''))
-        self.assertEqual((log.look(1, 0).orders.lives, log.look(1, 0).wish), (None, None))
+        self.assertEqual((log.snapshot(1, 0).maintenance.sessions, log.snapshot(1, 0).requested), (None, None))
 
-    def take(self, log: Log, *names: str) -> dict[str, Life]:
-        """These are present, for long, and work."""
-        epoch, lives = log.epochs()[-1], {name: Life(7, number) for number, name in enumerate(names, 1)}
-        place = len(log.read(epoch, 0))
-        self.assertTrue(all(log.take(name, life, Promise(epoch, place), LONG) for name, life in lives.items()))
-        return lives
+    def acquire(self, log: Log, *names: str) -> dict[str, Session]:
+        """These nodes are live for long, and work."""
+        epoch, sessions = log.epochs()[-1], {name: Session(7, number) for number, name in enumerate(names, 1)}
+        offset = len(log.read(epoch, 0))
+        self.assertTrue(all(log.acquire(name, session, Promise(epoch, offset), LONG) for name, session in sessions.items()))
+        return sessions
 
     def test_a_mistyped_resize(self) -> None:
-        """One by which all that are present would end is refused, unless that is meant."""
+        """A resize by which all live nodes would end is refused, unless it is meant."""
         self.of_log('init', '--config', str(self.config))
         log, new = self.opened(), self.folder / 'new.toml'
         new.write_bytes(toml({**TOP, 'names': ['A', 'B', 'C']}))
         resize = ['resize', '--config', str(new), '--seconds', '0.01']
-        lives = self.take(log, 'a', 'b')
+        sessions = self.acquire(log, 'a', 'b')
         status, _, said = self.of_log(*resize)
-        self.assertEqual((status, log.look(1, 0).wish), (3, None))
-        self.assertEqual(
-            said, f'bully-member: {new}: none of those present (a, b) is in it, so all would end; --all-new takes it\n'
-        )
+        self.assertEqual((status, log.snapshot(1, 0).requested), (3, None))
+        why = 'it has none of the nodes that are live (a, b), so all would end; --all-new allows it'
+        self.assertEqual(said, f'bully-member: {new}: {why}\n')
         self.assertEqual(
             (self.of_log(*resize, '--all-new')[0], log.epochs()[-1]), (1, 1), 'these never promise anything'
         )
-        self.assertEqual(getattr(log.look(1, 0).wish, 'names'), ('A', 'B', 'C'))
-        self.assertEqual(self.of_log('resize', '--cancel'), (0, 'epoch 1: nothing else is wished for\n', ''))
-        self.assertIsNone(log.look(1, 0).wish)
-        for name, life in lives.items():
-            log.release(name, life)
+        self.assertEqual(getattr(log.snapshot(1, 0).requested, 'names'), ('A', 'B', 'C'))
+        self.assertEqual(self.of_log('resize', '--cancel'), (0, 'epoch 1: no other settings are requested\n', ''))
+        self.assertIsNone(log.snapshot(1, 0).requested)
+        for name, session in sessions.items():
+            log.release(name, session)
         self.assertEqual(self.of_log(*resize)[0], 0, 'nobody would end')
         self.assertEqual(log.opening().names, ('A', 'B', 'C'))
         for words in (['resize'], [*resize, '--cancel']):
@@ -295,8 +296,8 @@ class Commands(InFolder):
         log, new = self.opened(), self.folder / 'new.toml'
         new.write_bytes(toml({**TOP, 'names': ['A', 'B', 'C']}))
         resize = ('resize', '--config', str(new), '--seconds')
-        taken = self.take(log, 'resize 7')
-        waits = 'bully-member: epoch 1 has not ended yet, but waits for resize 7\n'
+        taken = self.acquire(log, 'resize 7')
+        waits = 'bully-member: epoch 1 has not ended yet; it waits for resize 7\n'
         self.assertEqual(self.of_log(*resize, '0.01'), (1, '', waits))
         log.release('resize 7', taken['resize 7'])
         self.assertEqual(self.of_log(*resize, '30'), (0, 'epoch 2: 3 nodes, 6 partitions\n', ''))
@@ -307,7 +308,7 @@ class Commands(InFolder):
         self.of_log('init', '--config', str(self.config))
         log = self.opened()
         self.assertEqual(
-            self.of_log('switchover', '--node', 'a'), (1, '', 'bully-member: a is not present, so it would not lead\n')
+            self.of_log('switchover', '--node', 'a'), (1, '', 'bully-member: a is not live, so it could not lead\n')
         )
         names = [Member(self.opened(), name, lambda work: None, lambda work: None, ttl=10.0) for name in 'abc']
         threads = [threading.Thread(target=member.run) for member in names]
@@ -344,20 +345,20 @@ class Commands(InFolder):
         self.addCleanup(member.leave)
         wait_until(member.assignment)
         status, said, _ = self.of_log('status', '--json')
-        self.assertEqual((status, json.loads(said)['at_rest']), (0, True))
+        self.assertEqual((status, json.loads(said)['stable']), (0, True))
         log, end = self.opened(), Promise(1, len(self.opened().read(1, 0)))
         for number in (1, 2):  # a process that comes again and again
-            self.assertTrue(log.take('c', Life(8, number), end, LONG))
+            self.assertTrue(log.acquire('c', Session(8, number), end, LONG))
             status, said, _ = self.of_log('status')
             self.assertEqual(status, 0, said)
             self.assertRegex(said, 'coordinator b\n')
-            log.release('c', Life(8, number))
-        self.assertEqual(self.of_log('resize', '--config', str(self.wished()), '--seconds', '0.01')[0], 1)
+            log.release('c', Session(8, number))
+        self.assertEqual(self.of_log('resize', '--config', str(self.requested_settings()), '--seconds', '0.01')[0], 1)
         status, said, _ = self.of_log('status')
         self.assertEqual(status, 1)
         self.assertRegex(said, 'coordinator b; not idle yet: b for [0-9.]+ s\n')
 
-    def wished(self) -> Path:
+    def requested_settings(self) -> Path:
         """A configuration of other settings."""
         new = self.folder / 'new.toml'
         new.write_bytes(toml({**TOP, 'partitions': 4}))
@@ -368,9 +369,9 @@ class Commands(InFolder):
         self.of_log('init', '--config', str(self.config), '--ttl', '3')
         words = ['run', '--log', f'sqlite:{self.path}', '--node', 'a', '--ttl', '2', '--', 'true']
         self.assertEqual(call(*words), (2, '', 'bully-member: --ttl is 2, and the log has 3 for all members\n'))
-        new = self.wished()
+        new = self.requested_settings()
         self.assertEqual(self.of_log('resize', '--config', str(new))[0], 0)
-        store = stores.FileStore(str(self.path))
+        store = store_options.FileStore(str(self.path))
         self.assertEqual(
             (command.ttl_of(store, None), command.ttl_of(store, 3.0), self.opened().opening().epoch), (3.0, 3.0, 2)
         )
@@ -382,7 +383,7 @@ class Commands(InFolder):
         new.write_bytes(toml({**TOP, 'nodes': 2, 'names': ['c', 'd']}))
         log = self.opened()
         for path, node, told in (
-            (new, 'd', 'the log is of another group: bully,1,3,6 of a, b, c'),
+            (new, 'd', 'the log belongs to another group: bully,1,3,6 of a, b, c'),
             (None, 'd', 'the group has no node d'),
         ):
             words = [
@@ -395,10 +396,10 @@ class Commands(InFolder):
         self.of_log('resize', '--config', str(new))
         log.prune(2)
         for path, name in ((self.config, 'c'), (new, 'd')):
-            with Member(self.opened(), name, print, print, settings=configs.settings_in(str(path))) as member:
+            with Member(self.opened(), name, print, print, settings=config_file.settings_in(str(path))) as member:
                 self.assertEqual(member.node, ('c', 'd').index(name) + 1)
         words = ['run', '--log', f'sqlite:{self.path}', '--config', str(self.config), '--node', 'a', '--', 'true']
-        self.assertEqual(call(*words), (5, '', 'bully-member: the group has no node a in epoch 2, but c, d\n'))
+        self.assertEqual(call(*words), (5, '', 'bully-member: the group has no node a in epoch 2, only c, d\n'))
 
     def test_refused(self) -> None:
         config, log = str(self.config), f'sqlite:{self.path}'
@@ -437,6 +438,5 @@ class Commands(InFolder):
         status, _, told = call(
             'run', '--log', f'sqlite:{self.path}', '--config', str(self.config), '--node', 'b', '--', 'true'
         )
-        self.assertEqual(
-            (status, told), (3, f'bully-member: {self.config}: a name has a zero character, which no environment holds\n')
-        )
+        why = 'a name has a zero character, which no environment variable can hold'
+        self.assertEqual((status, told), (3, f'bully-member: {self.config}: {why}\n'))

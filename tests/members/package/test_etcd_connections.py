@@ -9,16 +9,16 @@ from collections.abc import Callable
 from typing import Any
 
 from bully.clocks import SECOND
+from bully.core import Promise, Session, Until
 from bully.etcd import EtcdLog
-from bully.gateway import Denied, read_address
-from bully.logs import Holder, LogError, Unanswered
-from bully.member import Life, Promise, Until
+from bully.etcd_client import Denied, read_address
+from bully.shared_log import Holder, LogError, Unanswered
 from ..etcd_servers import Servers, WithCertificates, add_users, alone, begin_alone, coded, free_ports
-from ..steps import EMPTY, LONG, OPENING, A, B, add, present
+from ..steps import EMPTY, LONG, OPENING, A, B, add, live
 from ..waiting import PATIENCE, wait_until
 from .in_etcd import InEtcd
 
-TTL = 5  # seconds that presences last which thirty members renew in turn
+TTL = 5  # seconds that leases last which thirty members renew in turn
 
 
 def setUpModule() -> None:
@@ -43,8 +43,8 @@ class Endpoints(InEtcd):
                 log = self.opened(f'etcd://{first},{self.alive}/{self.prefix}', 4.0)
                 self.assertLess(time.monotonic(), begun + 4.0)
                 end = add(log, ['recover,1'])
-                self.assertEqual(set(present(log)), {'a'})
-                log.wait(1, end.place - 1, {'a': A}, Until.NEWS, PATIENCE)
+                self.assertEqual(set(live(log)), {'a'})
+                log.wait(1, end.offset - 1, {'a': A}, Until.NEWS, PATIENCE)
 
     def test_none(self) -> None:
         for all_of_them in ((self.dead,), (self.mute,), (self.dead, self.mute), ('nowhere.invalid',)):
@@ -95,12 +95,12 @@ class Killed(InEtcd):
     def test_one(self) -> None:
         servers = self.servers()
         log, other, server = self.begun(servers.address('x')), self.opened(servers.address('x')), servers.each[0]
-        log.look(1, 0)
+        log.snapshot(1, 0)
         log.wait(1, 0, {'a': A}, Until.NEWS, 0.1)
         server.kill()
         calls: list[Callable[[], object]] = [
             lambda: log.read(1, 0), lambda: log.append(1, 0, ['recover,1']), lambda: log.renew('a', A, LONG),
-            lambda: log.look(1, 0), lambda: log.promise('a', A, EMPTY),
+            lambda: log.snapshot(1, 0), lambda: log.promise('a', A, EMPTY),
             lambda: log.wait(1, 0, {'a': A}, Until.NEWS, 1.0),
         ]  # fmt: skip
         for call in calls:
@@ -111,7 +111,7 @@ class Killed(InEtcd):
         self.assertTrue(self.renewed(log, ttl=LONG))
         self.assertTrue(other.append(1, 0, ['recover,1']), 'its connection is a new one')
         log.wait(1, 0, {'a': A}, Until.NEWS, PATIENCE)
-        self.assertEqual((list(log.read(1, 0)), set(present(log))), (['recover,1'], {'a'}))
+        self.assertEqual((list(log.read(1, 0)), set(live(log))), (['recover,1'], {'a'}))
 
     def test_no_quorum(self) -> None:
         servers = self.servers(3)
@@ -119,7 +119,7 @@ class Killed(InEtcd):
         for server in servers.each[1:]:
             server.kill()
         calls: list[Callable[[], object]] = [
-            lambda: log.read(1, 0), lambda: log.append(1, 0, ['recover,1']), lambda: log.take('b', B, EMPTY, LONG),
+            lambda: log.read(1, 0), lambda: log.append(1, 0, ['recover,1']), lambda: log.acquire('b', B, EMPTY, LONG),
         ]  # fmt: skip
         for call in calls:
             with self.assertRaises(Unanswered):
@@ -130,14 +130,14 @@ class Killed(InEtcd):
         self.assertIn(len(log.read(1, 0)), (1, 2), 'the append may have been done by now')
 
     def test_leader(self) -> None:
-        """A presence and a promise are kept while another leader is found, and the log goes on."""
+        """A lease and a promise are kept while another leader is found, and the log goes on."""
         servers = self.servers(3)
         leader = servers.leader()
         servers.each.sort(key=lambda server: server is not leader)
         log, other = self.created(servers.address('x'), patience=1.0), self.opened(servers.address('x'), 1.0)
-        self.assertTrue(log.take('a', A, EMPTY, 3 * SECOND))
+        self.assertTrue(log.acquire('a', A, EMPTY, 3 * SECOND))
         self.assertTrue(log.promise('a', A, Promise(0, 7)))
-        log.look(1, 0)
+        log.snapshot(1, 0)
         log.wait(1, 0, {'a': A}, Until.NEWS, 0.1)
         before = self.leases(prefix='x', server=servers.each[1])
         leader.kill()
@@ -145,7 +145,7 @@ class Killed(InEtcd):
             self.assertTrue(self.renewed(log, ttl=3 * SECOND))
         wait_until(lambda: self.appended(other))
         log.wait(1, 0, {'a': A}, Until.NEWS, PATIENCE)
-        self.assertEqual((log.read(1, 0)[0], present(log)), ('recover,1', {'a': Holder(A, EMPTY)}))
+        self.assertEqual((log.read(1, 0)[0], live(log)), ('recover,1', {'a': Holder(A, EMPTY)}))
         after = self.leases(prefix='x', server=servers.each[1])
         self.assertEqual(
             (len(set(after.values())), set(after) == set(before), after == before), (1, True, False), 'both have moved'
@@ -157,11 +157,11 @@ class Killed(InEtcd):
         leader = servers.leader()
         servers.each.sort(key=lambda server: server is leader)
         log, other = self.created(servers.address('x'), patience=1.0), self.opened(servers.address('x', leader))
-        self.assertTrue(other.take('a', A, EMPTY, LONG))
-        log.look(1, 0)
+        self.assertTrue(other.acquire('a', A, EMPTY, LONG))
+        log.snapshot(1, 0)
         log.wait(1, 0, {'a': A}, Until.NEWS, 0.1)
         servers.each[0].pause()
-        self.assertEqual(set(present(log)), {'a'})
+        self.assertEqual(set(live(log)), {'a'})
         self.assertTrue(other.append(1, 0, ['recover,1']))
         begun = time.monotonic()
         log.wait(1, 0, {'a': A}, Until.NEWS, PATIENCE)
@@ -173,10 +173,10 @@ class Killed(InEtcd):
         return False
 
     def test_all_paused(self) -> None:
-        """A presence that is renewed behind a pause was never away."""
+        """A lease that is renewed after a pause was held all the time."""
         servers = self.servers(3)
         log = self.created(servers.address('x'), patience=0.5)
-        self.assertTrue(log.take('a', A, EMPTY, 2 * SECOND))
+        self.assertTrue(log.acquire('a', A, EMPTY, 2 * SECOND))
         made = self.made(servers)
         for server in servers.each:
             server.pause()
@@ -189,40 +189,40 @@ class Killed(InEtcd):
         self.assertEqual(self.made(servers), made if is_renewed else None)
 
     def made(self, servers: Servers) -> str | None:
-        """The revision in which the presence was taken, if it is held."""
+        """The revision at which the lease was acquired, if it is held."""
         wait_until(servers.are_up)
         found = servers.each[0].keys('x/presence/life/a').get('x/presence/life/a')
         return str(found['create_revision']) if found else None
 
     def test_leader_of_before(self) -> None:
-        """One that was paused, and doesn't know that another life holds the presence: what is asked of it late is
-        nothing to that one."""
+        """A session whose server was paused, and that doesn't know that another session holds the lease: what it asks
+        for late does nothing to that one."""
         servers = self.servers(3)
         self.created(servers.address('x'))
         for number in range(3):
-            leader, old, new = servers.leader(), Life(1, number), Life(2, number)
+            leader, old, new = servers.leader(), Session(1, number), Session(2, number)
             log = self.opened(servers.address('x', leader))
             other = self.opened(servers.address('x', *(server for server in servers.each if server is not leader)), 1.0)
-            self.assertTrue(log.take('a', old, EMPTY, SECOND))
+            self.assertTrue(log.acquire('a', old, EMPTY, SECOND))
             leader.pause()
             late = threading.Thread(target=lambda: self.asked_late(log, old))
             late.start()
-            wait_until(lambda: self.taken(other, new))
+            wait_until(lambda: self.acquired(other, new))
             leader.resume()
             late.join()
             self.assertFalse(self.renewed(log, old, SECOND))
             wait_until(servers.are_up)
-            self.assertEqual(present(other), {'a': Holder(new, EMPTY)})
+            self.assertEqual(live(other), {'a': Holder(new, EMPTY)})
             other.release('a', new)
 
-    def asked_late(self, log: EtcdLog, life: Life) -> None:
+    def asked_late(self, log: EtcdLog, session: Session) -> None:
         """A promise, whatever becomes of it."""
         with contextlib.suppress(Unanswered):
-            log.promise('a', life, Promise(1, 500))
+            log.promise('a', session, Promise(1, 500))
 
-    def taken(self, log: EtcdLog, life: Life) -> bool:
+    def acquired(self, log: EtcdLog, session: Session) -> bool:
         with contextlib.suppress(Unanswered):
-            return log.take('a', life, EMPTY, LONG) or log.renew('a', life, LONG)
+            return log.acquire('a', session, EMPTY, LONG) or log.renew('a', session, LONG)
         return False
 
     def test_renewal_at_a_leader_of_before(self) -> None:
@@ -234,7 +234,7 @@ class Killed(InEtcd):
             log = self.opened(servers.address('x', leader))
             others = [server for server in servers.each if server is not leader]
             other = self.opened(servers.address('x', *others), 1.0)
-            self.assertTrue(log.take('a', A, EMPTY, 4 * SECOND))
+            self.assertTrue(log.acquire('a', A, EMPTY, 4 * SECOND))
             leader.pause()
             wait_until(lambda: any(servers.leads(server) for server in others))
             time.sleep(1.5)
@@ -242,14 +242,14 @@ class Killed(InEtcd):
             begun = time.monotonic()
             with contextlib.suppress(Unanswered):
                 if log.renew('a', A, 4 * SECOND):
-                    wait_until(lambda: not self.is_present(other))
+                    wait_until(lambda: not self.is_live(other))
                     self.assertGreaterEqual(time.monotonic(), begun + 4.0)
             wait_until(servers.are_up)
             other.release('a', A)
 
-    def is_present(self, log: EtcdLog) -> bool:
+    def is_live(self, log: EtcdLog) -> bool:
         try:
-            return bool(present(log))
+            return bool(live(log))
         except Unanswered:
             return True
 
@@ -259,7 +259,7 @@ class Killed(InEtcd):
         leader = servers.leader()
         alone, other = (server for server in servers.each if server is not leader)
         log = self.begun(servers.address('x', alone))
-        log.look(1, 0)
+        log.snapshot(1, 0)
         log.wait(1, 0, {'a': A}, Until.NEWS, 0.1)
         self.assertLess(log._broken, 0, 'there is a watch')
         for server in (leader, other):
@@ -279,29 +279,29 @@ class Killed(InEtcd):
         servers = self.servers(3)
         self.created(servers.address('x'))
         for number in range(3):
-            leader, life = servers.leader(), Life(1, number)
+            leader, session = servers.leader(), Session(1, number)
             address = servers.address('x', *(server for server in servers.each if server is not leader))
             members = {str(node): self.opened(address, 1.0) for node in range(1, 31)}
             for name, log in members.items():
-                self.assertTrue(log.take(name, life, EMPTY, TTL * SECOND))
-                self.assertTrue(log.promise(name, life, Promise(1, 8)))
-            self.renew_for(members, life, 1.0)
+                self.assertTrue(log.acquire(name, session, EMPTY, TTL * SECOND))
+                self.assertTrue(log.promise(name, session, Promise(1, 8)))
+            self.renew_for(members, session, 1.0)
             leader.pause()
-            self.renew_for(members, life, 2.0 * TTL)
+            self.renew_for(members, session, 2.0 * TTL)
             leader.resume()
-            self.renew_for(members, life, 2.0)
+            self.renew_for(members, session, 2.0)
             wait_until(servers.are_up)
-            self.assertEqual(present(members['1']), {name: Holder(life, Promise(1, 8)) for name in members})
+            self.assertEqual(live(members['1']), {name: Holder(session, Promise(1, 8)) for name in members})
             for name, log in members.items():
-                log.release(name, life)
+                log.release(name, session)
 
-    def renew_for(self, members: dict[str, EtcdLog], life: Life, seconds: float) -> None:
-        """The presences are renewed over and over, and are never found to be gone."""
+    def renew_for(self, members: dict[str, EtcdLog], session: Session, seconds: float) -> None:
+        """The leases are renewed over and over, and are never found to be gone."""
         end = time.monotonic() + seconds
         while time.monotonic() < end:
             for name, log in members.items():
                 with contextlib.suppress(Unanswered):
-                    self.assertTrue(log.renew(name, life, TTL * SECOND))
+                    self.assertTrue(log.renew(name, session, TTL * SECOND))
 
     def test_full(self) -> None:
         """An etcd that is full may have done what it refuses, the first time."""
@@ -369,10 +369,10 @@ class Users(InEtcd):
     def test_reader(self) -> None:
         self.begun(**self.words('member')).append(1, 0, ['recover,1'])
         log = self.opened(**self.words('reader'))
-        self.assertEqual((list(log.read(1, 0)), set(present(log))), (['recover,1'], {'a'}))
+        self.assertEqual((list(log.read(1, 0)), set(live(log))), (['recover,1'], {'a'}))
         log.wait(1, 0, {'a': A}, Until.NEWS, PATIENCE)
         calls: list[Callable[[], object]] = [
-            lambda: log.append(1, 1, ['recover,2']), lambda: log.take('b', B, Promise(1, 1), LONG),
+            lambda: log.append(1, 1, ['recover,2']), lambda: log.acquire('b', B, Promise(1, 1), LONG),
             lambda: log.release('a', A), lambda: log.promise('a', A, Promise(1, 1)),
         ]  # fmt: skip
         for call in calls:
@@ -383,15 +383,15 @@ class Users(InEtcd):
         log, other = self.created(**self.words('member')), self.opened(**self.words('member'))
         end = EMPTY
         for _ in range(2):
-            self.assertTrue(log.take('a', A, end, LONG))
+            self.assertTrue(log.acquire('a', A, end, LONG))
             self.assertTrue(log.renew('a', A, LONG))
-            log.look(1, 0)
-            later = threading.Timer(0.1, lambda: other.append(1, end.place, ['recover,1']))
+            log.snapshot(1, 0)
+            later = threading.Timer(0.1, lambda: other.append(1, end.offset, ['recover,1']))
             later.start()
-            log.wait(1, end.place, {'a': A}, Until.NEWS, PATIENCE)
+            log.wait(1, end.offset, {'a': A}, Until.NEWS, PATIENCE)
             later.join()
-            end = Promise(1, end.place + 1)
-            self.assertEqual((len(log.read(1, 0)), set(present(log))), (end.place, {'a'}))
+            end = Promise(1, end.offset + 1)
+            self.assertEqual((len(log.read(1, 0)), set(live(log))), (end.offset, {'a'}))
             self.assertTrue(log.renew('a', A, LONG))
             log.release('a', A)
             self.servers_of_users.each[0].kill()
@@ -415,12 +415,12 @@ class Certificates(InEtcd, WithCertificates):
         address, tls = servers.address('x', kind='etcds'), self.tls()
         log, other = self.begun(address, tls=tls), self.opened(address, tls=tls)
         self.assertTrue(log.renew('a', A, LONG))
-        log.look(1, 0)
+        log.snapshot(1, 0)
         later = threading.Timer(0.1, lambda: other.append(1, 0, ['recover,1' * 100] * 20))
         later.start()
         log.wait(1, 0, {'a': A}, Until.NEWS, PATIENCE)
         later.join()
-        self.assertEqual((len(log.read(1, 0)), set(present(log))), (20, {'a'}))
+        self.assertEqual((len(log.read(1, 0)), set(live(log))), (20, {'a'}))
 
         self.refused(lambda: EtcdLog(address, 5.0), 'TLS: .*certificate')
         self.refused(lambda: EtcdLog(address, 5.0, self.tls('other')), 'TLS: .*certificate')

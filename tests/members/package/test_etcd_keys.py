@@ -15,19 +15,19 @@ from pathlib import Path
 from typing import Any
 from unittest import mock
 
-from bully import etcd, gateway
+from bully import etcd, etcd_client
 from bully.clocks import SECOND
+from bully.core import Promise, Session, Until
 from bully.epochs import Opening
 from bully.etcd import EtcdLog
-from bully.gateway import Address, Client, Endpoint, range_at, read_address
-from bully.logs import DamagedLog, ForeignLog, LogError, LogExists, NoEpoch, NoLog, Unanswered
-from bully.member import Life, Promise, Until
-from bully.orders import Orders
-from bully.repairing import damage_of, repair
-from bully.stores import EtcdStore
+from bully.etcd_client import Address, Client, Endpoint, range_at, read_address
+from bully.maintenance import Maintenance
+from bully.repair import damage_of, repair
+from bully.shared_log import DamagedLog, ForeignLog, LogError, LogExists, NoEpoch, NoLog, Unanswered
+from bully.store_options import EtcdStore
 from places import environment
 from ..etcd_servers import OLDER, Json, begin_alone, coded, decoded, older_row, prune_in_part, put_older
-from ..steps import EMPTY, LONG, OPENING, A, B, add, be_idle, present
+from ..steps import EMPTY, LONG, OPENING, A, B, add, be_idle, live
 from ..waiting import PATIENCE, wait_until
 from .in_etcd import InEtcd
 
@@ -36,8 +36,8 @@ SILENT_NAMES = '''
 import socket, threading, time
 silent = socket.socket(socket.AF_INET, socket.SOCK_DGRAM)
 silent.bind(('127.0.0.1', 53))
-from bully.gateway import Client, read_address
-from bully.logs import Unanswered
+from bully.etcd_client import Client, read_address
+from bully.shared_log import Unanswered
 client = Client(read_address('etcd://nowhere.test,elsewhere.test/x'), 0.5, None, '', '')
 begun = time.monotonic()
 for _ in range(3):
@@ -58,19 +58,19 @@ def setUpModule() -> None:
 
 
 class Keys(InEtcd):
-    """What stands in etcd."""
+    """What is in etcd."""
 
     def test_keys(self) -> None:
         log = self.created()
-        self.assertTrue(log.take('größer', Life(17, 3), EMPTY, 2 * SECOND))
+        self.assertTrue(log.acquire('größer', Session(17, 3), EMPTY, 2 * SECOND))
         with mock.patch.object(time, 'time_ns', lambda: 1_700_000_000_007_000_000):
             self.assertTrue(log.append(1, 0, ['recover,1', 'größer']))
-        self.assertTrue(log.order(Orders(frozenset(['größer', 'a']), {'größer': Life(17, 3)}), Orders()))
-        wish = Opening(2, 'bully,1,2,4', ('a', 'b'), 500)
-        self.assertTrue(log.ask(wish, 1))
+        self.assertTrue(log.set_maintenance(Maintenance(frozenset(['größer', 'a']), {'größer': Session(17, 3)}), Maintenance()))
+        requested = Opening(2, 'bully,1,2,4', ('a', 'b'), 500)
+        self.assertTrue(log.ask(requested, 1))
         wanted = {
             'opening/0000000001': OPENING.text().replace('{"epoch"', '{"form": 3, "epoch"'), 'first': '0000000001',
-            'place': '0000000001/0000000002', 'log/0000000001/0000000000': 'recover,1\ngrößer\n', 'next': wish.text(),
+            'place': '0000000001/0000000002', 'log/0000000001/0000000000': 'recover,1\ngrößer\n', 'next': requested.text(),
             'presence/life/größer': '17.3', 'presence/promise/größer': '0000000001/0000000000',
             'time/0000000001/0000000000': '1700000000007',
             'orders': '{"drained": ["a", "größer"], "paused": {"größer": [17, 3]}}',
@@ -89,28 +89,28 @@ class Keys(InEtcd):
         log = self.created()
         for number, (ttl, seconds) in enumerate([(0.01, '1'), (1.0, '1'), (1.01, '2'), (7, '7'), (86400.0, '86400')]):
             with self.subTest(ttl=ttl):
-                self.assertTrue(log.take(str(number), A, EMPTY, int(ttl * SECOND)))
+                self.assertTrue(log.acquire(str(number), A, EMPTY, int(ttl * SECOND)))
                 lease = self.leases()[f'life/{number}']
                 self.assertEqual(self.server.ask('/v3/lease/timetolive', {'ID': lease})['grantedTTL'], seconds)
 
     def test_shorter_lease(self) -> None:
         log = self.created()
         with mock.patch.object(Client, 'ask', self.granting(Client.ask, '4')), self.assertRaises(LogError) as caught:
-            log.take('a', A, EMPTY, 4 * SECOND + 1)
+            log.acquire('a', A, EMPTY, 4 * SECOND + 1)
         self.assertNotIsInstance(caught.exception, Unanswered)
-        self.assertEqual(present(log), {})
+        self.assertEqual(live(log), {})
 
     def granting(self, ask: Callable[..., Json], seconds: str) -> Callable[..., Json]:
         """The answers of etcd, but for the seconds of a lease."""
 
         def answer(client: Client, path: str, told: Json, repeats: bool = False) -> Json:
             answer = ask(client, path, told, repeats)
-            return {**answer, 'TTL': seconds} if path == gateway.LEASE_GRANT else answer
+            return {**answer, 'TTL': seconds} if path == etcd_client.LEASE_GRANT else answer
 
         return answer
 
     def test_many_rows_at_once(self) -> None:
-        """A settlement of the largest group is one append."""
+        """A rebalance of the largest group is one append."""
         log = self.begun()
         rows = ['return,1024'] * 11_000 + [f'plan,1024,{" ".join(["1024"] * 4096)}']
         self.assertTrue(log.append(1, 0, rows))
@@ -130,8 +130,8 @@ class Keys(InEtcd):
         """What is refused grants none."""
         log, other = self.begun(), self.opened()
         with mock.patch.object(Client, 'ask', self.granting(Client.ask, '0')):
-            self.assertFalse(other.take('a', B, EMPTY, LONG))
-            self.assertFalse(other.take('b', B, Promise(1, 1), LONG))
+            self.assertFalse(other.acquire('a', B, EMPTY, LONG))
+            self.assertFalse(other.acquire('b', B, Promise(1, 1), LONG))
             self.assertFalse(other.renew('b', B, LONG))
             self.assertTrue(log.renew('a', A, LONG))
 
@@ -141,35 +141,35 @@ class Prefixes(InEtcd):
 
     ODD = (
         'x', 'x0', 'x-', 'xy', 'x/y', 'x.y', '/x', 'x//y', '..', ' x ', 'größer', '%2F', 'a?b#c', 'a=b&c', '"', "'\\",
-        '*', 'x,y', 'etcd://x/y', '0', 'logs', 'x/logs', 'presences', 'x\ny', '\U0001f600', 'x' * 1000,
+        '*', 'x,y', 'etcd://x/y', '0', 'logs', 'x/logs', 'holders', 'x\ny', '\U0001f600', 'x' * 1000,
     )  # fmt: skip
 
     def test_odd(self) -> None:
         """Logs whose prefixes are odd or alike don't meet."""
         logs = [self.created(f'{self.address}/{prefix}') for prefix in self.ODD]
         for number, log in enumerate(logs):
-            self.assertTrue(log.take(str(number), A, EMPTY, LONG))
+            self.assertTrue(log.acquire(str(number), A, EMPTY, LONG))
             self.assertTrue(log.append(1, 0, [f'recover,{number}']))
         for number, prefix in enumerate(self.ODD):
             log = self.opened(f'{self.address}/{prefix}/')
-            self.assertEqual((list(log.read(1, 0)), set(present(log))), ([f'recover,{number}'], {str(number)}))
+            self.assertEqual((list(log.read(1, 0)), set(live(log))), ([f'recover,{number}'], {str(number)}))
 
     def test_below_another(self) -> None:
         """What happens in a log below another one's prefix is no news of that one."""
         log = self.created()
         for part in ('b', 'next', 'place', 'first', 'oz'):
             below = self.created(f'{self.address}/{part}')
-            lives = log.look(1, 0).lives
+            sessions = log.snapshot(1, 0).sessions
             later = threading.Thread(
-                target=lambda: [below.take('a', A, EMPTY, LONG), below.append(1, 0, ['recover,1'])]
+                target=lambda: [below.acquire('a', A, EMPTY, LONG), below.append(1, 0, ['recover,1'])]
             )
             later.start()
             begun = time.monotonic()
-            log.wait(1, 0, lives, Until.ALL_IDLE, 0.5)
+            log.wait(1, 0, sessions, Until.ALL_IDLE, 0.5)
             self.assertGreaterEqual(time.monotonic(), begun + 0.5)
             later.join()
-            self.assertEqual((list(log.read(1, 0)), present(log), log.epochs()), ([], {}, range(1, 2)))
-            self.assertEqual((list(below.read(1, 0)), set(present(below))), (['recover,1'], {'a'}))
+            self.assertEqual((list(log.read(1, 0)), live(log), log.epochs()), ([], {}, range(1, 2)))
+            self.assertEqual((list(below.read(1, 0)), set(live(below))), (['recover,1'], {'a'}))
 
     def test_above_another(self) -> None:
         """No log is made where another one is below its prefix."""
@@ -245,11 +245,11 @@ class Contents(InEtcd):
 
     def test_at_one_moment(self) -> None:
         """Of two that make a log one does."""
-        looked = Client.transact
+        transact = Client.transact
 
-        def other_makes_it(client: Client, *asked: Any) -> gateway.Answer:
-            answer = looked(client, *asked)
-            with mock.patch.object(Client, 'transact', looked):
+        def other_makes_it(client: Client, *asked: Any) -> etcd_client.Answer:
+            answer = transact(client, *asked)
+            with mock.patch.object(Client, 'transact', transact):
                 self.created(opening=Opening.first('bully,1,1,1')) if not self.server.keys(self.prefix) else None
             return answer
 
@@ -272,8 +272,8 @@ class Contents(InEtcd):
                 )
                 self.server.delete(f'{self.prefix}/{key}')
 
-    def key(self, place: int, end: str = '') -> str:
-        return f'{self.prefix}/log/0000000001/{place:010}{end}'
+    def key(self, offset: int, end: str = '') -> str:
+        return f'{self.prefix}/log/0000000001/{offset:010}{end}'
 
     def test_holes(self) -> None:
         log = self.begun()
@@ -282,17 +282,17 @@ class Contents(InEtcd):
         rows = list(log.read(1, 0))
         for page in (3, 100):
             with mock.patch.object(etcd, 'PAGE', page):
-                for place in range(0, 40, 2):
-                    kept = self.server.keys(self.key(place))[self.key(place)]['value']
-                    self.server.delete(self.key(place))
-                    for first in (0, max(0, place - 1), place, place + 1):
+                for offset in range(0, 40, 2):
+                    kept = self.server.keys(self.key(offset))[self.key(offset)]['value']
+                    self.server.delete(self.key(offset))
+                    for first in (0, max(0, offset - 1), offset, offset + 1):
                         self.refused(DamagedLog, lambda: log.read(1, first))
-                        self.refused(DamagedLog, lambda: log.look(1, first))
-                    self.assertEqual(list(log.read(1, place + 2)), rows[place + 2 :])
-                    self.server.put(self.key(place, '0'), 'start,1\nstart,1\n')
-                    self.refused(DamagedLog, lambda: log.read(1, place))
-                    self.server.delete(self.key(place, '0'))
-                    self.server.put(self.key(place), decoded(kept))
+                        self.refused(DamagedLog, lambda: log.snapshot(1, first))
+                    self.assertEqual(list(log.read(1, offset + 2)), rows[offset + 2 :])
+                    self.server.put(self.key(offset, '0'), 'start,1\nstart,1\n')
+                    self.refused(DamagedLog, lambda: log.read(1, offset))
+                    self.server.delete(self.key(offset, '0'))
+                    self.server.put(self.key(offset), decoded(kept))
                 self.assertEqual(list(log.read(1, 0)), rows)
 
     def test_a_part_is_taken_away(self) -> None:
@@ -302,15 +302,15 @@ class Contents(InEtcd):
         for number in range(5):
             add(log, [f'start,{number}'] * 2)
         here = be_idle(log, ('a', A))
-        self.assertTrue(log.finish(1, here.place, OPENING.after(None)))
+        self.assertTrue(log.roll_over(1, here.offset, OPENING.after(None)))
         prune_in_part(other, 2)
-        self.assertEqual(list(self.server.keys(f'{self.prefix}/log/')), [self.key(place) for place in (4, 6, 8)])
-        for place in (0, 2, 3, 4, 5, 10):
-            with self.subTest(place=place):
-                found = log.look(1, place)
-                self.assertEqual((found.epoch, list(found.rows), set(found.presences)), (2, [], {'a'}))
-                with self.assertRaisesRegex(NoEpoch, 'epoch 1 is not there, but 2'):
-                    log.read(1, place)
+        self.assertEqual(list(self.server.keys(f'{self.prefix}/log/')), [self.key(offset) for offset in (4, 6, 8)])
+        for offset in (0, 2, 3, 4, 5, 10):
+            with self.subTest(offset=offset):
+                found = log.snapshot(1, offset)
+                self.assertEqual((found.epoch, list(found.rows), set(found.holders)), (2, [], {'a'}))
+                with self.assertRaisesRegex(NoEpoch, 'there is no epoch 1, only 2'):
+                    log.read(1, offset)
         other.prune(2)
         self.assertEqual(self.server.keys(f'{self.prefix}/log/'), {}, 'the next one takes the rest away')
 
@@ -323,7 +323,7 @@ class Contents(InEtcd):
         self.server.ask('/v3/kv/put', {'key': coded(self.key(0)), 'value': b64encode(b'\xff\n\n').decode()})
         self.refused(DamagedLog, lambda: log.read(1, 0))
 
-    def test_no_presences(self) -> None:
+    def test_bad_leases(self) -> None:
         cases = (
             ('life/b', '1.2'), ('life/a', 'x'), ('life/a', '1'), ('promise/a', ''), ('promise/a', '1'),
             ('promise/b', 'x'),
@@ -332,24 +332,24 @@ class Contents(InEtcd):
             with self.subTest(key=key, value=value):
                 log = self.begun(f'{self.address}/{number}')
                 self.server.put(f'{self.prefix}/{number}/presence/{key}', value)
-                self.refused(DamagedLog, lambda: log.look(1, 0))
+                self.refused(DamagedLog, lambda: log.snapshot(1, 0))
 
     def test_no_end(self) -> None:
         log = self.begun()
         for value in ('', 'x', '1'):
             self.server.put(f'{self.prefix}/place', value)
-            for call in (log.epochs, lambda: log.look(1, 0), lambda: log.read(1, 0)):
+            for call in (log.epochs, lambda: log.snapshot(1, 0), lambda: log.read(1, 0)):
                 self.refused(DamagedLog, call)
 
     def calls(self, log: EtcdLog) -> list[Callable[[], object]]:
         """Each call of a log."""
         return [
-            lambda: log.read(1, 0), lambda: log.look(1, 0), lambda: log.append(1, 0, ['recover,2']),
-            lambda: log.renew('a', A, LONG), lambda: log.take('b', B, EMPTY, LONG), lambda: log.release('a', A),
+            lambda: log.read(1, 0), lambda: log.snapshot(1, 0), lambda: log.append(1, 0, ['recover,2']),
+            lambda: log.renew('a', A, LONG), lambda: log.acquire('b', B, EMPTY, LONG), lambda: log.release('a', A),
             lambda: log.promise('a', A, Promise(1, 1)), log.epochs, log.opening,
             lambda: log.ask(OPENING.after(None), 1), lambda: log.cancel(1),
-            lambda: log.finish(1, 0, OPENING.after(None)), lambda: log.wait(1, 0, {'a': A}, Until.NEWS, PATIENCE),
-            lambda: log.order(Orders(), None), lambda: log.times(1),
+            lambda: log.roll_over(1, 0, OPENING.after(None)), lambda: log.wait(1, 0, {'a': A}, Until.NEWS, PATIENCE),
+            lambda: log.set_maintenance(Maintenance(), None), lambda: log.times(1),
         ]  # fmt: skip
 
     def test_removed(self) -> None:
@@ -368,22 +368,22 @@ class Contents(InEtcd):
         self.assertEqual(len(self.opened().read(1, 0)), 1)
 
     def test_repaired(self) -> None:
-        """What isn't lawful is cut, also within an append, while nobody is present; and the next epoch begins."""
+        """What isn't lawful is cut, also within an append, while nobody holds a lease; and the next epoch begins."""
         log = self.begun()
         for rows in (['recover,1', 'recover,2'], ['recover,3', 'x', 'recover,1'], ['start,1']):
             add(log, rows)
         damage = damage_of(log)
         assert damage is not None
-        self.assertEqual((damage.end, damage.place, damage.rows), (Promise(1, 6), 3, ['x', 'recover,1', 'start,1']))
-        self.assertFalse(repair(log, damage), 'a is present')
+        self.assertEqual((damage.end, damage.offset, damage.rows), (Promise(1, 6), 3, ['x', 'recover,1', 'start,1']))
+        self.assertFalse(repair(log, damage), 'a is live')
         log.release('a', A)
         self.assertTrue(log.ask(OPENING.after(None), 1))
         self.assertTrue(repair(log, damage))
         self.assertFalse(repair(log, damage))
         self.assertEqual((list(log.read(1, 0)), log.epochs()), (['recover,1', 'recover,2', 'recover,3'], range(1, 3)))
-        self.assertEqual((list(log.look(2, 0).rows), log.look(2, 0).wish, damage_of(log)), ([], None, None))
+        self.assertEqual((list(log.snapshot(2, 0).rows), log.snapshot(2, 0).requested, damage_of(log)), ([], None, None))
         self.assertEqual(
-            list(log.times(1)), [0, 2], 'when the last one was done that stays in part, and none behind that'
+            list(log.times(1)), [0, 2], 'when the last one was done that stays in part, and none after that'
         )
 
     def test_repaired_keys(self) -> None:
@@ -399,15 +399,15 @@ class Contents(InEtcd):
                 damage = damage_of(log)
                 assert damage is not None
                 self.assertEqual(
-                    (damage.place, damage.why), (count, 'rows are missing, or something else is between them')
+                    (damage.offset, damage.why), (count, 'rows are missing, or there is something else between them')
                 )
                 self.assertTrue(repair(log, damage))
                 self.assertEqual((log.epochs(), damage_of(log)), (range(1, 3), None))
                 self.assertEqual(list(log.read(1, 0)), ['recover,1', 'recover,2', 'recover,3'][:count])
 
     def refused_rows(self, log: EtcdLog) -> None:
-        with self.assertRaisesRegex(DamagedLog, 'something else is between them'):
-            log.look(1, 0)
+        with self.assertRaisesRegex(DamagedLog, 'there is something else between them'):
+            log.snapshot(1, 0)
 
     def test_restored(self) -> None:
         """An etcd that was restored from a snapshot, or wiped and its log made anew, isn't taken for what it was."""
@@ -415,11 +415,11 @@ class Contents(InEtcd):
             servers = self.servers()
             server, address, kept = servers.each[0], servers.address('x'), str(servers.each[0].folder / 'kept')
             log = self.begun(address)
-            self.etcdctl('--endpoints', str(server.place.client), 'snapshot', 'save', kept)
+            self.etcdctl('--endpoints', str(server.address.client), 'snapshot', 'save', kept)
             add(log, ['recover,1', 'recover,2'])
             server.kill()
             shutil.rmtree(server.folder / server.name)
-            peer, folder = f'http://{server.place.peer}', str(server.folder / server.name)
+            peer, folder = f'http://{server.address.peer}', str(server.folder / server.name)
             if way == 'restored':
                 told = ('--initial-cluster', f'{server.name}={peer}', '--initial-advertise-peer-urls', peer)
                 self.etcdctl('snapshot', 'restore', kept, '--name', server.name, *told, '--data-dir', folder)
@@ -427,20 +427,21 @@ class Contents(InEtcd):
             wait_until(server.is_up)
             if way == 'restored':
                 reads: list[Callable[[], object]] = [
-                    lambda: log.look(1, 0),
+                    lambda: log.snapshot(1, 0),
                     log.epochs,
                     lambda: log.renew('a', A, LONG),
                 ]
-                self.refuse(reads, DamagedLog, 'it went back, as one does that is restored')
+                self.refuse(reads, DamagedLog, 'it went back, as after a restore from a backup')
             else:
                 self.created(address)
             for _ in range(20):  # so that its revision is higher than it was
                 server.put('x', 'y')
             if way == 'restored':
-                beyond: list[Callable[[], object]] = [lambda: log.look(1, 2), lambda: log.append(1, 2, ['recover,1'])]
-                self.refuse(beyond, DamagedLog, 'read up to place 2 of epoch 1, and ends at 0 of 1')
+                beyond: list[Callable[[], object]] = [lambda: log.snapshot(1, 2), lambda: log.append(1, 2, ['recover,1'])]
+                ends = 'read up to offset 2 of epoch 1, and now ends at offset 0 of epoch 1'
+                self.refuse(beyond, DamagedLog, ends)
             else:
-                self.refuse(self.calls(log), ForeignLog, 'another log is in its place')
+                self.refuse(self.calls(log), ForeignLog, 'there is another log in its place')
 
     def refuse(self, calls: list[Callable[[], object]], fault: type[LogError], why: str) -> None:
         for number, call in enumerate(calls):
@@ -465,11 +466,11 @@ class Contents(InEtcd):
             self.refused(Unanswered, lambda: log.read(1, 0))
 
     def compacting(self, times: int) -> Callable[..., Json]:
-        """The answers of an etcd that is compacted so often behind the first part of a read."""
+        """The answers of an etcd that is compacted so often after the first part of a read."""
         ask, self.left = Client.ask, times
 
         def answer(client: Client, path: str, told: Json, repeats: bool = False) -> Json:
-            if path == gateway.KV_RANGE and self.left:
+            if path == etcd_client.KV_RANGE and self.left:
                 self.left -= 1
                 self.server.put('x', 'y')
                 self.server.compact()
@@ -481,7 +482,7 @@ class Contents(InEtcd):
         log, other = self.begun(), self.opened()
         watch, asked = Client.watch, []
 
-        def from_start(client: Client, told: Json) -> gateway.Subscription:
+        def from_start(client: Client, told: Json) -> etcd_client.Subscription:
             asked.append(told)
             return watch(client, {**told, 'start_revision': '1'})
 
@@ -507,7 +508,7 @@ class OlderForm(InEtcd):
         self.store = EtcdStore(self.address, None, '', '')
 
     def test_refused(self) -> None:
-        with self.assertRaisesRegex(ForeignLog, 'older version, and not of form 3; history writes it'):
+        with self.assertRaisesRegex(ForeignLog, 'older version, not of form 3; history writes it'):
             self.store.open()
         with self.assertRaises(LogExists):
             self.store.create(OPENING)
@@ -529,7 +530,7 @@ class OlderForm(InEtcd):
         log = self.begun()
         add(log, ['recover,1', 'start,1'])
         be_idle(log, ('a', A))
-        self.assertTrue(log.finish(1, 2, OPENING.after(None)))
+        self.assertTrue(log.roll_over(1, 2, OPENING.after(None)))
         self.assertEqual(
             (self.store.history(1), self.store.history()), (['bully,1,3,6', 'recover,1', 'start,1'], ['bully,1,3,6'])
         )

@@ -9,9 +9,9 @@ from bully import etcd
 from bully.clocks import SECOND
 from bully.epochs import Opening
 from bully.etcd import EtcdLog
-from bully.logs import Log, NoEpoch
+from bully.shared_log import Log, NoEpoch
 from ..etcd_servers import NUMBERS, alone, begin_alone
-from ..steps import OPENING, A, add, be_idle, present
+from ..steps import OPENING, A, add, be_idle, live
 from ..waiting import wait_until
 from .epoch_laws import EpochLaws
 from .in_etcd import InEtcd
@@ -56,14 +56,14 @@ class OverEtcd(Laid, Laws, Waits):
         time.sleep(time_ / SECOND)
 
     def pass_end(self, log: Log) -> None:
-        wait_until(lambda: not present(log))
+        wait_until(lambda: not live(log))
 
     def test_processes(self) -> None:
         race(self, self.begun(), 'etcd', self.address)
 
 
 class ManyOverEtcd(Laid, Waits):
-    """The same waits, where so many are present that promises are told only where they are waited for."""
+    """The same waits, where so many nodes are live that promises are reported only where they are waited for."""
 
     SHORT = SECOND
 
@@ -90,7 +90,7 @@ class EpochsOverEtcd(Laid, EpochLaws):
         for epoch in (1, 2, 3):
             opening = opening.next(None, ())
             here = be_idle(log, ('a', A), here=add(log, ['start,1']))
-            self.assertTrue(log.finish(epoch, here.place, opening))
+            self.assertTrue(log.roll_over(epoch, here.offset, opening))
         with mock.patch.object(other, 'epochs', return_value=log.epochs()):
             log.prune(3)
             other.prune(2)

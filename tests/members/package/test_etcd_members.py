@@ -11,10 +11,10 @@ from collections.abc import Sequence
 from typing import Any
 from unittest import mock
 
-from bully import check, command, history, stores
+from bully import check, command, history, store_options
 from bully.epochs import Opening, Token
 from bully.etcd import EtcdLog
-from bully.logs import Log
+from bully.shared_log import Log
 from places import ROOT
 from ..etcd_servers import (
     NUMBERS, OLDER, Server, WithCertificates, WithEtcd, add_users, alone, begin_alone, prune_in_part, put_older,
@@ -83,7 +83,7 @@ class OverEtcd(WithEtcd, WithFolder):
         return member
 
     def begin_work(self, node: str, *more: str) -> MemberProcess:
-        """A member of this node, whose worker tells what it works on."""
+        """A member of this node, whose worker reports what it works on."""
         return self.begin(node, [*WORKER, str(self.work)], *more)
 
     def worked(self) -> dict[int, tuple[int, str]]:
@@ -95,8 +95,8 @@ class OverEtcd(WithEtcd, WithFolder):
             partition: (int(lines[-1].split()[0]), lines[-1].split()[1]) for partition, lines in found.items() if lines
         }
 
-    def share(self, behind: int, partitions: int, *names: str) -> int:
-        """These nodes, and no others, work on so many partitions by one token behind that one, once they do. The
+    def share(self, after: int, partitions: int, *names: str) -> int:
+        """These nodes, and no others, work on so many partitions by one token after that one, once they do. The
         token."""
         tokens: set[int] = set()
 
@@ -107,7 +107,7 @@ class OverEtcd(WithEtcd, WithFolder):
             return (
                 len(worked) == partitions
                 and len(tokens) == 1
-                and min(tokens) > behind
+                and min(tokens) > after
                 and {name for _, name in worked.values()} == set(names)
             )
 
@@ -125,11 +125,11 @@ class OverEtcd(WithEtcd, WithFolder):
             )
 
     def end(self, *members: MemberProcess) -> None:
-        """They leave in order, one by one, and nobody is present any more."""
+        """They leave in order, one by one, and nobody holds a lease any more."""
         for member in members:
             self.assertEqual(member.end(), 0, member.said)
         log = self.opened(patience=SLOW)
-        self.assertEqual(dict(log.look(log.epochs()[-1], 0).presences), {})
+        self.assertEqual(dict(log.snapshot(log.epochs()[-1], 0).holders), {})
 
 
 class Commands(OverEtcd):
@@ -138,12 +138,12 @@ class Commands(OverEtcd):
     def test_life_of_a_log(self) -> None:
         self.assertEqual(
             self.of_log('status'),
-            (4, '', f'bully-member: {self.address}: there is none; bully-member init makes a log\n'),
+            (4, '', f'bully-member: {self.address}: there is no log; bully-member init makes one\n'),
         )
         self.assertEqual(call('init', '--log', self.address, '--config', self.config), (0, '', ''))
         self.assertEqual(
             self.of_log('init', '--config', self.config),
-            (7, '', f'bully-member: {self.address}: there is a log already\n'),
+            (7, '', f'bully-member: {self.address}: there already is a log\n'),
         )
         put(self.opened(), 'recover,2')
         self.assertEqual(self.of_log('history'), (0, f'{HEADER}\nrecover,2\n', ''))
@@ -158,16 +158,16 @@ class Commands(OverEtcd):
             self.assertEqual(self.of_log('resize', '--config', new), (0, 'epoch 2: 2 nodes, 4 partitions\n', ''))
         self.assertEqual(self.of_log('history', '--epoch', '1'), (0, f'{HEADER}\nrecover,2\n', ''))
         self.assertEqual(self.of_log('history'), (0, 'bully,1,2,4\n', ''))
-        self.assertEqual(self.of_log('prune', '--keep', '1'), (0, 'epoch 2 is there\n', ''))
+        self.assertEqual(self.of_log('prune', '--keep', '1'), (0, 'epoch 2 is left\n', ''))
         self.assertEqual(self.server.keys(f'{self.prefix}/log/'), {})
-        gone = f'bully-member: {self.address}: epoch 1 is not there, but 2\n'
+        gone = f'bully-member: {self.address}: there is no epoch 1, only 2\n'
         self.assertEqual(self.of_log('history', '--epoch', '1'), (4, '', gone))
 
     def test_bad_words(self) -> None:
         certificates = [word for name in ('cacert', 'cert', 'key') for word in (f'--{name}', str(self.folder / 'none'))]
         secure = self.address.replace('etcd:', 'etcds:')
         for words, status, why in (
-            (['etcd://x'], 2, 'has to be'), (['etcd:x'], 2, 'has to be'), (['etcd://127.0.0.1:1/log'], 2, '`log`'),
+            (['etcd://x'], 2, 'must be'), (['etcd:x'], 2, 'must be'), (['etcd://127.0.0.1:1/log'], 2, '`log`'),
             ([self.address, '--cacert', 'x'], 2, 'etcds://'),
             ([self.address, '--cert', 'x', '--key', 'y'], 2, 'etcds://'), ([secure, '--cert', 'x'], 2, '--key'),
             ([secure, *certificates], 4, 'none'), (['sqlite:x', '--user', 'x'], 2, '--user'),
@@ -184,15 +184,15 @@ class Commands(OverEtcd):
         """Of the environment, in which it doesn't stay, or of the first line of a file."""
         options = command.parser().parse_args(['status', '--log', self.address, '--user', 'x'])
         with mock.patch.dict(os.environ, {PASSWORD: ' a b '}):
-            store = stores.store_of(options)
+            store = store_options.store_of(options)
             self.assertNotIn(PASSWORD, os.environ)
-        assert isinstance(store, stores.EtcdStore)
+        assert isinstance(store, store_options.EtcdStore)
         self.assertEqual(store.password, ' a b ')
         (self.folder / 'password').write_text(' c d \r\nmore')
         (self.folder / 'password').chmod(0o600)
         options.password_file = str(self.folder / 'password')
-        store = stores.store_of(options)
-        assert isinstance(store, stores.EtcdStore)
+        store = store_options.store_of(options)
+        assert isinstance(store, store_options.EtcdStore)
         self.assertEqual((store.user, store.password), ('x', ' c d '))
         self.assertNotIn('c d', repr(store))
 
@@ -200,7 +200,7 @@ class Commands(OverEtcd):
         """Its history is written, and all else is refused."""
         put_older(self.server, self.prefix)
         before = self.server.keys(self.prefix)
-        form = 'a log by an older version, and not of form 3; history writes it as a trace, and init makes another log'
+        form = 'a log of an older version, not of form 3; history writes it as a trace, and init makes a new log'
         for words in (
             ['status'],
             ['resize', '--config', self.config],
@@ -211,7 +211,7 @@ class Commands(OverEtcd):
                 self.assertEqual(self.of_log(*words), (6, '', f'bully-member: {self.address}: {form}\n'))
         self.assertEqual(
             self.of_log('init', '--config', self.config),
-            (7, '', f'bully-member: {self.address}: there is a log already\n'),
+            (7, '', f'bully-member: {self.address}: there already is a log\n'),
         )
         for epoch, rows in OLDER.items():
             self.assertEqual(
@@ -238,7 +238,7 @@ class Runs(OverEtcd):
         log, token = self.opened(), Token(int(told['BULLY_TOKEN']))
         rows = list(log.read(1, 0))
         self.assertEqual((token.epoch, rows[token.events - 1]), (1, 'plan,2,2 2 2 2 2 2'))
-        self.assertEqual(set(log.look(1, 0).presences), {'b'})
+        self.assertEqual(set(log.snapshot(1, 0).holders), {'b'})
         self.end(member)
         self.assertFalse(is_running(worker))
         self.assertEqual(log.read(1, 0)[-1], 'crash,2')
@@ -316,7 +316,7 @@ class Runs(OverEtcd):
                 self.end(member)
 
     def test_away(self) -> None:
-        """While no server answers its work ends before its presence may, and goes on once one does."""
+        """While no server answers its work ends before its lease may end, and goes on once one does."""
         server = self.server_of_its_own()
         self.make()
         member = self.begin_work('b')
@@ -345,10 +345,10 @@ class Runs(OverEtcd):
         return servers.each[0]
 
     def worker_of(self, member: MemberProcess) -> int:
-        """The worker below the member's guard, once there is one."""
-        (guard,) = children(member.process.pid)
-        wait_until(lambda: children(guard))
-        return children(guard)[0]
+        """The worker below the member's watchdog, once there is one."""
+        (watchdog,) = children(member.process.pid)
+        wait_until(lambda: children(watchdog))
+        return children(watchdog)[0]
 
 
 class Certificates(OverEtcd, WithCertificates):
@@ -425,7 +425,7 @@ class Groups(OverEtcd):
         new = self.configured('new.toml', nodes=3, names=['c', 'x', 'a'], partitions=12)
         self.assertEqual(self.of_log('resize', '--config', new), (0, 'epoch 2: 3 nodes, 12 partitions\n', ''))
         self.judge(1)
-        self.assertEqual(self.of_log('prune', '--keep', '1')[:2], (0, 'epoch 2 is there\n'))
+        self.assertEqual(self.of_log('prune', '--keep', '1')[:2], (0, 'epoch 2 is left\n'))
         leaver = members.pop('b')
         self.assertEqual(leaver.wait(), 5)
         self.assertIn('node b: its node is not in the group any more', leaver.said)
@@ -433,7 +433,7 @@ class Groups(OverEtcd):
         self.assertEqual(Token(token).epoch, 2)
         paused.send_signal(signal.SIGCONT)
         self.share(token, 12, 'a', 'c')
-        self.assertIn('node a: goes on in epoch 2 as number 3', members['a'].said)
+        self.assertIn('node a: continues in epoch 2 as number 3', members['a'].said)
         self.end(*members.values())
         self.judge(2)
 
@@ -462,11 +462,11 @@ class AwayOverEtcd(WithEtcd, Away):
         """It goes on, too, if more rows than it knows were there, and a part of them is left."""
         self.is_in_part = True
         self.pause('wait')
-        wait_until(lambda: not self.log.look(1, 0).presences)
-        place = len(self.log.read(1, 0))
+        wait_until(lambda: not self.log.snapshot(1, 0).holders)
+        offset = len(self.log.read(1, 0))
         for row in ('crash,1', 'recover,2', 'crash,2'):
             put(self.log, row)
         self.pass_epoch('c', 'b')
         left = self.server.keys(f'{self.address.split("/", 3)[3]}/log/0000000001/')
-        self.assertEqual([int(key[-10:]) for key in left], [place + 1, place + 2])
+        self.assertEqual([int(key[-10:]) for key in left], [offset + 1, offset + 2])
         self.see_it_work()

@@ -8,14 +8,14 @@ import time
 from collections.abc import Callable
 from unittest import mock
 
-from bully import etcd, gateway
+from bully import etcd, etcd_client
+from bully.core import Promise, Session, Until
 from bully.etcd import EtcdLog
-from bully.gateway import Client
-from bully.logs import DamagedLog, NoLog, Unanswered
-from bully.member import Life, Promise, Until
-from bully.orders import Orders
+from bully.etcd_client import Client
+from bully.maintenance import Maintenance
+from bully.shared_log import DamagedLog, NoLog, Unanswered
 from ..etcd_servers import Json, begin_alone, coded, decoded
-from ..steps import EMPTY, LONG, OPENING, A, B, add, present
+from ..steps import EMPTY, LONG, OPENING, A, B, add, live
 from ..waiting import PATIENCE
 from .in_etcd import TXN, InEtcd
 
@@ -33,10 +33,10 @@ class Watching(InEtcd):
         self.direct = self.begun()
         self.log = self.opened(self.between.address(self.prefix))
 
-    def wait(self, place: int, seconds: float | None = None, until: Until = Until.NEWS) -> float:
+    def wait(self, offset: int, seconds: float | None = None, until: Until = Until.NEWS) -> float:
         """How long it took."""
         begun = time.monotonic()
-        self.log.wait(1, place, {'a': A}, until, PATIENCE if seconds is None else seconds)
+        self.log.wait(1, offset, {'a': A}, until, PATIENCE if seconds is None else seconds)
         return time.monotonic() - begun
 
     def test_a_watch_that_breaks(self) -> None:
@@ -56,41 +56,42 @@ class Watching(InEtcd):
         later.join()
 
     def test_old_events(self) -> None:
-        """What a watch tells late of what a look has found already is no news, nor does it bring back what is gone."""
-        self.assertTrue(self.direct.take('b', B, EMPTY, LONG))
+        """What a watch reports late of what a snapshot has found already is no news, nor does it bring back what is
+        gone."""
+        self.assertTrue(self.direct.acquire('b', B, EMPTY, LONG))
         found = self.server.keys(f'{self.prefix}/presence/')
         self.direct.release('b', B)
-        self.log.look(1, 0)
+        self.log.snapshot(1, 0)
         for key, pair in found.items():
             self.log._news.see({'kv': {**pair, 'key': coded(key)}})
-        self.assertEqual((set(self.log._news.presences()), self.log._news.is_fresh), ({'a'}, True))
+        self.assertEqual((set(self.log._news.holders()), self.log._news.is_fresh), ({'a'}, True))
 
     def test_begin_of_a_watch(self) -> None:
-        """What comes between the look and the watch is seen."""
+        """What comes between the snapshot and the watch is seen."""
         watch = Client.watch
         self.assertTrue(self.direct.append(1, 0, ['recover,1']))
         acts: list[tuple[Callable[[], object], Until]] = [
             (lambda: self.direct.promise('a', A, Promise(1, 1)), Until.ALL_IDLE),
             (lambda: self.direct.append(1, 1, ['recover,1']), Until.NEWS),
             (lambda: self.direct.ask(OPENING.after(None), 1), Until.NEWS),
-            (lambda: self.direct.order(Orders(frozenset('b')), None), Until.NEWS),
-            (lambda: self.direct.take('b', B, Promise(1, 2), LONG), Until.NEWS),
+            (lambda: self.direct.set_maintenance(Maintenance(frozenset('b')), None), Until.NEWS),
+            (lambda: self.direct.acquire('b', B, Promise(1, 2), LONG), Until.NEWS),
         ]  # fmt: skip
         for act, until in acts:
             self.log._end_watch()
-            place, done = len(self.log.look(1, 0).rows), []
+            offset, done = len(self.log.snapshot(1, 0).rows), []
 
-            def begin(client: Client, told: Json) -> gateway.Subscription:
+            def begin(client: Client, told: Json) -> etcd_client.Subscription:
                 done.append(act())
                 return watch(client, told)
 
             with mock.patch.object(Client, 'watch', begin):
-                self.assertLess(self.wait(place, until=until), PATIENCE)
+                self.assertLess(self.wait(offset, until=until), PATIENCE)
             self.assertEqual(done, [True])
 
-    def test_rest(self) -> None:
-        """Nothing is asked while nothing happens, also over many waits; and one look is enough for the first one."""
-        self.log.look(1, 0)
+    def test_nothing_happens(self) -> None:
+        """Nothing is asked meanwhile, also over many waits; and one snapshot is enough for the first wait."""
+        self.log.snapshot(1, 0)
         asked = self.between.requests
         self.wait(0, 0.1)
         self.assertEqual(self.between.requests, asked + 1, 'the watch')
@@ -99,10 +100,10 @@ class Watching(InEtcd):
         self.assertEqual(self.between.requests, asked + 1)
 
     def test_promises_among_many(self) -> None:
-        """They are told only where they are waited for: a watch is begun anew for that, without a look."""
+        """They are reported only where they are waited for: a watch is begun anew for that, without a snapshot."""
         self.assertTrue(self.direct.promise('a', A, Promise(1, 5)))
         with mock.patch.object(etcd, 'FEW', 0):
-            self.log.look(1, 0)
+            self.log.snapshot(1, 0)
             self.wait(0, 0.1)
             asked, seen = self.between.requests, self.seen()
             self.assertTrue(self.direct.promise('a', A, Promise(1, 7)))
@@ -128,40 +129,40 @@ class Watching(InEtcd):
         self.addCleanup(patch.stop)
         return found
 
-    def test_looks(self) -> None:
-        """Each finds all, whatever it has read before, and whatever a watch told meanwhile."""
+    def test_snapshots(self) -> None:
+        """Each finds all, whatever it has read before, and whatever a watch reported meanwhile."""
         choice, names = random.Random(1), 'abcdef'
         for few in (0, 64):
             with mock.patch.object(etcd, 'FEW', few):
                 for number in range(100):
-                    name, life, here = choice.choice(names), Life(number, 1), Promise(1, 0)
-                    there = present(self.direct)
+                    name, session, here = choice.choice(names), Session(number, 1), Promise(1, 0)
+                    there = live(self.direct)
                     for _ in range(choice.randrange(3)):
-                        self.direct.release(name, there[name].life) if name in there else self.direct.take(
-                            name, life, here, LONG
+                        self.direct.release(name, there[name].session) if name in there else self.direct.acquire(
+                            name, session, here, LONG
                         )
                     if there and choice.random() < 0.5:
                         other = choice.choice(sorted(there))
-                        self.direct.promise(other, there[other].life, Promise(1, number))
+                        self.direct.promise(other, there[other].session, Promise(1, number))
                     if choice.random() < 0.3:
                         self.log.wait(1, 0, there_of(self.log), choice.choice(list(Until)), 0.02)
-                    self.assertEqual(present(self.log), present(self.opened()), number)
+                    self.assertEqual(live(self.log), live(self.opened()), number)
 
-    def test_what_a_look_reads(self) -> None:
-        """Of presences those alone that are newer than the last look, but for the first one."""
+    def test_what_a_snapshot_reads(self) -> None:
+        """Only leases that are newer than the last snapshot, but for the first one."""
         for number in range(20):
-            self.assertTrue(self.direct.take(str(number), A, EMPTY, LONG))
+            self.assertTrue(self.direct.acquire(str(number), A, EMPTY, LONG))
         read: list[int] = []
-        pairs_of = gateway.pairs_of
+        pairs_of = etcd_client.pairs_of
 
-        def count(found: Json) -> list[gateway.Pair]:
+        def count(found: Json) -> list[etcd_client.Pair]:
             pairs = pairs_of(found)
             read.append(sum(b'/presence/' in pair.key for pair in pairs))
             return pairs
 
         acts: list[Callable[[], object]] = [
             lambda: None, lambda: None, lambda: self.direct.promise('7', A, Promise(1, 1)),
-            lambda: self.direct.take('x', A, EMPTY, LONG), lambda: self.direct.renew('x', A, 2 * LONG),
+            lambda: self.direct.acquire('x', A, EMPTY, LONG), lambda: self.direct.renew('x', A, 2 * LONG),
             lambda: self.direct.release('x', A), lambda: None,
         ]  # fmt: skip
         counts = []
@@ -169,36 +170,36 @@ class Watching(InEtcd):
             for act in acts:
                 act()
                 read.clear()
-                self.log.look(1, 0)
+                self.log.snapshot(1, 0)
                 counts.append(sum(read))
         self.assertEqual(counts, [42, 0, 1, 2, 2, 42, 0])
 
     def test_damage(self) -> None:
-        """Whatever isn't as it has to be is left for a look to find."""
+        """Whatever isn't as it has to be is left for a snapshot to find."""
         for key in ('presence/life/b', 'presence/promise/a', 'place'):
-            self.log.look(1, 0)
+            self.log.snapshot(1, 0)
             before = self.server.keys(f'{self.prefix}/{key}').get(f'{self.prefix}/{key}')
             later = threading.Timer(0.1, lambda: self.server.put(f'{self.prefix}/{key}', 'x'))
             later.start()
             self.assertLess(self.wait(0, until=Until.ALL_IDLE if key == 'place' else Until.NEWS), PATIENCE)
             later.join()
             with self.assertRaises(DamagedLog):
-                self.log.look(1, 0)
+                self.log.snapshot(1, 0)
             if before:
                 self.server.put(f'{self.prefix}/{key}', decoded(before['value']))
             else:
                 self.server.delete(f'{self.prefix}/{key}')
 
     def test_removed(self) -> None:
-        self.log.look(1, 0)
+        self.log.snapshot(1, 0)
         later = threading.Timer(0.1, lambda: self.server.delete(f'{self.prefix}/', f'{self.prefix}0'))
         later.start()
         self.assertLess(self.wait(0), PATIENCE)
         later.join()
         with self.assertRaisesRegex(NoLog, 'removed'):
-            self.log.look(1, 0)
+            self.log.snapshot(1, 0)
 
 
-def there_of(log: EtcdLog) -> dict[str, Life]:
-    """The lives that a look finds."""
-    return log.look(1, 0).lives
+def there_of(log: EtcdLog) -> dict[str, Session]:
+    """The sessions that a snapshot finds."""
+    return log.snapshot(1, 0).sessions

@@ -15,16 +15,16 @@ from types import SimpleNamespace
 from typing import cast
 from unittest import mock
 
-from bully import failing, ordering, resizing, service, settings, view
+from bully import operations, settings, systemd, view, work_failures
 from bully.clocks import seconds_of_boot
-from bully.failing import AWAY_MAX, REST_MAX, Failures, Health
+from bully.core import Session
 from bully.group import Setup
-from bully.logs import Found, Holder, Log
-from bully.member import Life
+from bully.maintenance import Maintenance
+from bully.member import Assignment, Member
 from bully.memory import MemoryLog
-from bully.orders import Orders
-from bully.running import Assignment, Member
+from bully.shared_log import Holder, Log, Snapshot
 from bully.sqlite import SqliteLog
+from bully.work_failures import AWAY_MAX, BACKOFF_MAX, Failures, Health
 from bully.worker import Workers
 from .. import waiting
 from ..processes import children, is_running
@@ -50,11 +50,11 @@ class Counts(unittest.TestCase):
     def setUp(self) -> None:
         self.failures = Failures(3, 10.0)
 
-    def test_rests(self) -> None:
+    def test_backoff(self) -> None:
         """A fifth of the ttl, and each time twice as long, up to a minute."""
-        rests = [self.failures.failed(100.0 * number) for number in range(7)]
-        self.assertEqual(rests, [2.0, 4.0, 8.0, 16.0, 32.0, REST_MAX, REST_MAX])
-        self.assertEqual([self.failures.rest_seconds(now) for now in (600.0, 650.0, 700.0)], [60.0, 10.0, 0.0])
+        backoffs = [self.failures.failed(100.0 * number) for number in range(7)]
+        self.assertEqual(backoffs, [2.0, 4.0, 8.0, 16.0, 32.0, BACKOFF_MAX, BACKOFF_MAX])
+        self.assertEqual([self.failures.backoff_seconds(now) for now in (600.0, 650.0, 700.0)], [60.0, 10.0, 0.0])
 
     def test_health(self) -> None:
         """It isn't known before it has worked for a ttl, or failed. Work that was stopped counts in all its parts."""
@@ -86,12 +86,12 @@ class Counts(unittest.TestCase):
         self.assertIs(never.health(0.0), Health.FAILING)
 
     def test_long_work(self) -> None:
-        """Behind five ttls of work a failure is the first one again, and behind less it isn't."""
-        for worked, count, rest in ((49.9, 2, 4.0), (50.0, 1, 2.0), (10.0, 2, 4.0), (0.0, 3, 8.0)):
+        """After five ttls of work a failure is the first one again, and after less it isn't."""
+        for worked, count, backoff in ((49.9, 2, 4.0), (50.0, 1, 2.0), (10.0, 2, 4.0), (0.0, 3, 8.0)):
             if not self.failures.count:
                 self.failures.failed(0.0)
             self.failures.began(1000.0)
-            self.assertEqual((self.failures.failed(1000.0 + worked), self.failures.count), (rest, count))
+            self.assertEqual((self.failures.failed(1000.0 + worked), self.failures.count), (backoff, count))
 
     def test_away(self) -> None:
         """A minute at first, by this ttl two, and each time twice as long, up to an hour. If it comes back one failure
@@ -101,7 +101,7 @@ class Counts(unittest.TestCase):
         for seconds in (120.0, 240.0, 480.0, 960.0, 1920.0, AWAY_MAX, AWAY_MAX):
             self.assertEqual(self.failures.go_away(), seconds)
             self.failures.come_back()
-            self.assertEqual((self.failures.health(1.0), self.failures.rest_seconds(0.0)), (Health.FAILING, 0.0))
+            self.assertEqual((self.failures.health(1.0), self.failures.backoff_seconds(0.0)), (Health.FAILING, 0.0))
             self.failures.failed(0.0)
             self.assertIs(self.failures.health(1.0), Health.HOPELESS)
         self.failures.began(0.0)
@@ -116,17 +116,17 @@ class Returns(unittest.TestCase):
         self.failures = Failures(1, 10.0)
         self.log = mock.create_autospec(Log)
         self.log.give_up.return_value = True
-        self.giving = failing.GivingUp(self.log, 'a', 10.0, self.failures)
+        self.giving = work_failures.GivingUp(self.log, 'a', 10.0, self.failures)
         self.now = 100.0
-        patch = mock.patch.object(failing, 'seconds_of_boot', lambda: self.now)
+        patch = mock.patch.object(work_failures, 'seconds_of_boot', lambda: self.now)
         patch.start()
         self.addCleanup(patch.stop)
 
-    def found(self, notes: dict[str, bool], *there: tuple[str, Life], drained: str = '') -> Found:
-        presences = {name: Holder(life, EMPTY) for name, life in there}
-        return Found(1, (), presences, None, Orders(frozenset(drained)), notes)
+    def found(self, notes: dict[str, bool], *there: tuple[str, Session], drained: str = '') -> Snapshot:
+        holders = {name: Holder(session, EMPTY) for name, session in there}
+        return Snapshot(1, (), holders, None, Maintenance(frozenset(drained)), notes)
 
-    def asked(self, found: Found, now: float, leads: bool = False) -> bool | None:
+    def asked(self, found: Snapshot, now: float, leads: bool = False) -> bool | None:
         """Whether it gives up by what is asked at that time, if anything is."""
         self.now = now
         self.giving.see(found)
@@ -134,7 +134,7 @@ class Returns(unittest.TestCase):
         return None if asked is None else asked()
 
     def test_heirs(self) -> None:
-        """One that has been there for a ttl by one life, and doesn't fail, isn't drained, and is of the group."""
+        """One that has been live for a ttl by one session, and doesn't fail, isn't drained, and is of the group."""
         well, noted = ('b', B), {'a': False}
         self.failures.failed(100.0)
         self.assertIs(self.asked(self.found({}, well), 100.0), False)
@@ -146,14 +146,14 @@ class Returns(unittest.TestCase):
         ):  # fmt: skip
             self.giving.see(self.found(noted, well, ('x', B)))
             self.assertIsNone(self.asked(found, 300.0))
-        self.assertIsNone(self.asked(self.found(noted, ('b', C)), 300.0), 'it is another life')
+        self.assertIsNone(self.asked(self.found(noted, ('b', C)), 300.0), 'it is another session')
         self.assertIsNone(self.asked(self.found(noted, ('b', C)), 309.9))
         self.log.give_up.assert_not_called()
         self.assertIs(self.asked(self.found(noted, ('b', C)), 310.0), True)
         self.log.give_up.assert_called_once_with('a', 'b', C)
 
     def test_how_often(self) -> None:
-        """It asks once in a quarter of the ttl, whatever a look finds. Who leads takes away what is noted of others
+        """It asks once in a quarter of the ttl, whatever a snapshot finds. Who leads takes away what is noted of others
         that the group hasn't."""
         self.failures.failed(100.0)
         asked = [self.asked(self.found({}), 100.0 + number) for number in range(6)]
@@ -163,7 +163,7 @@ class Returns(unittest.TestCase):
         self.log.note.assert_called_with('x', None)
 
     def test_comes_back(self) -> None:
-        """Behind its time; or once nobody else is there, or none has worked well for five ttls."""
+        """After its time; or once nobody else is there, or none has worked well for five ttls."""
         gone, well = {'a': True}, ('b', B)
         cases = [
             ([self.found(gone, well)], [(219.9, False), (220.0, True)]),
@@ -172,15 +172,15 @@ class Returns(unittest.TestCase):
             ([self.found(gone, well), *[self.found({**gone, 'b': False}, well)] * 2],
              [(120.0, False), (169.9, False), (170.0, True)]),
         ]  # fmt: skip
-        for looks, wanted in cases:
-            with self.subTest(looks=looks):
+        for snapshots, wanted in cases:
+            with self.subTest(snapshots=snapshots):
                 self.setUp()
                 self.failures.failed(self.now)
                 self.assertEqual(self.giving.go_away(), 120.0)
                 for number, (now, comes_back) in enumerate(wanted):
                     self.now = now
-                    told = self.giving.comes_back(looks[min(number, len(looks) - 1)], 'abc')
-                    self.assertEqual((told, self.failures.rest_seconds(101.0) > 0), (comes_back, not comes_back))
+                    told = self.giving.comes_back(snapshots[min(number, len(snapshots) - 1)], 'abc')
+                    self.assertEqual((told, self.failures.backoff_seconds(101.0) > 0), (comes_back, not comes_back))
 
 
 class Services(unittest.TestCase):
@@ -189,11 +189,11 @@ class Services(unittest.TestCase):
     def test_how_it_stands(self) -> None:
         work, workers = assigned(2, 0, 5), Workers(['true'], 'a', 0.0)
         member = SimpleNamespace(assignment=lambda: work, is_drained=False, gave_up=False)
-        told = service.Service(cast(Member, member), workers)
+        told = systemd.Service(cast(Member, member), workers)
         self.assertEqual(told._stands(), 'works on 2 partitions by token 40000002')
         workers._assignment = work
         workers._failures.failed(seconds_of_boot())
-        self.assertRegex(told._stands(), '^owns 2 partitions by token 40000002; its worker failed, and rests for [01]')
+        self.assertRegex(told._stands(), '^owns 2 partitions by token 40000002; its worker failed, and backs off for [01]')
         member.assignment, member.gave_up = lambda: None, True
         self.assertEqual(told._stands(), 'gave up: its worker fails')
 
@@ -211,13 +211,13 @@ class Work:
 
     def start(self, work: Assignment) -> None:
         now = seconds_of_boot()
-        rest = self.failures.rest_seconds(now)
-        if not rest:
+        backoff = self.failures.backoff_seconds(now)
+        if not backoff:
             self.begun += 1
             self.failures.began(now)
-            rest = self.failures.failed(now) if self.fails else 0.0
-        if rest:
-            later = threading.Timer(rest, self.member.lose, [work])
+            backoff = self.failures.failed(now) if self.fails else 0.0
+        if backoff:
+            later = threading.Timer(backoff, self.member.lose, [work])
             later.daemon = True
             later.start()
 
@@ -278,8 +278,8 @@ class GivesUp(Threads):
         self.assertEqual((fails.begun, self.failing(), fails.member.is_drained), (3, {'2': True}, False))
         group = self.shown.show()
         wanted = True, False, 'no, gave up, its worker fails'
-        self.assertEqual((group.is_at_rest, group.is_well, group.nodes[1].told_present), wanted)
-        told = 'node 2: its worker keeps failing: it gives up what it owns, and tries again in 6.0 s'
+        self.assertEqual((group.is_stable, group.is_well, group.nodes[1].told_live), wanted)
+        told = 'node 2: its worker keeps failing; it gives up what it owns, and tries again in 6.0 s'
         self.assertEqual([line for line in self.said.output if told in line], [f'WARNING:bully:{told}'])
         wait_until(lambda: fails.begun == 4)
         wait_until(lambda: fails.member.gave_up and self.owners() == {'1'})
@@ -291,7 +291,7 @@ class GivesUp(Threads):
 
     def test_all_fail(self) -> None:
         """Each keeps what it owns, since nobody else could work on it: nothing is appended for that."""
-        self.ttl = 2.0  # that no presence ends
+        self.ttl = 2.0  # so that no lease ends
         both = [self.begin_member(node, True) for node in (1, 2)]
         wait_until(lambda: self.log.failing == {'1': False, '2': False} and self.owners() == {'1', '2'})
         rows = len(self.log.rows)
@@ -334,7 +334,7 @@ class GivesUp(Threads):
         self.assertEqual((len(self.log.rows), self.log.failing), (rows, dict.fromkeys('123', False)))
 
     def test_who_has_just_come(self) -> None:
-        """Nothing is given up for a node that hasn't been there for a ttl by one life."""
+        """Nothing is given up for a node that hasn't been live for a ttl by one session."""
         fails = self.begin_member(3, True, 1)
         wait_until(lambda: fails.begun == 1)
         begun = seconds_of_boot()
@@ -344,17 +344,17 @@ class GivesUp(Threads):
 
     def test_in_a_pause(self) -> None:
         """Nobody would take over, so nothing is given up before its end."""
-        self.ttl = 2.0  # that no presence ends
+        self.ttl = 2.0  # that no lease ends
         self.begin_member(1, False)
         fails = self.begin_member(3, False, 1)
         wait_until(lambda: self.owners() == {'1', '3'})
-        ordering.pause(self.log)
+        operations.pause(self.log)
         self.fail_from_now_on(fails)
         wait_until(lambda: self.log.failing == {'3': False})
         count = fails.begun
         wait_until(lambda: fails.begun > count + 3)
         self.assertEqual((fails.member.gave_up, self.owners()), (False, {'1', '3'}))
-        ordering.resume(self.log)
+        operations.resume(self.log)
         wait_until(lambda: fails.member.gave_up and self.owners() == {'1'})
 
     def test_it_is_told_to_try_again(self) -> None:
@@ -362,10 +362,10 @@ class GivesUp(Threads):
         self.begin_member(1, False)
         fails = self.begin_member(3, True, 1)
         wait_until(lambda: fails.member.gave_up and self.owners() == {'1'})
-        ordering.drain(self.log, '3', False)
+        operations.drain(self.log, '3', False)
         wait_until(lambda: fails.member.is_drained)
         fails.fails, begun = False, seconds_of_boot()
-        ordering.undrain(self.log, '3')
+        operations.undrain(self.log, '3')
         wait_until(lambda: self.owners() == {'1', '3'})
         self.assertLess(seconds_of_boot(), begun + 12 * TTL)
         self.assertEqual((fails.member.gave_up, fails.member.is_drained), (False, False))
@@ -389,7 +389,7 @@ class GivesUp(Threads):
         wait_until(lambda: self.owners() == {'1'})
         self.log.note('2', True)
         self.assertEqual((self.failing(), self.shown.show().is_well), ({'2': True}, False))
-        resizing.resize(self.log, settings.Settings(Setup(2, 6), ('1', '3')), PATIENCE)
+        operations.resize(self.log, settings.Settings(Setup(2, 6), ('1', '3')), PATIENCE)
         wait_until(lambda: self.log.failing == {})
         wait_until(lambda: self.shown.show().is_well)
 
@@ -411,13 +411,13 @@ class GivesUp(Threads):
         first = self.begin_member(1, True)
         wait_until(lambda: self.log.failing == {'1': False})
         second, _, thread = self.begin(self.log, 1, TTL, failures=Failures(3))
-        wait_until(lambda: any('another process is present' in line for line in self.said.output))
+        wait_until(lambda: any('another process is live' in line for line in self.said.output))
         second.leave()
         thread.join(PATIENCE)
         self.assertEqual((self.log.failing, thread.is_alive(), first.member.gave_up), ({'1': False}, False, False))
 
     def test_a_late_note(self) -> None:
-        """What was noted before, and comes behind, is no order to try again: it is noted anew that the node gave up."""
+        """What was noted before, and comes after, is no order to try again: it is noted anew that the node gave up."""
         self.begin_member(1, False)
         fails = self.begin_member(3, True, 1)
         wait_until(lambda: fails.member.gave_up and self.owners() == {'1'})
@@ -482,7 +482,7 @@ class InProcesses(InFolder):
         wanted = ['bully_worker_failing{node="a"} 0', 'bully_worker_failing{node="b"} 1', 'bully_gave_up{node="b"} 1']
         self.assertEqual([line for line in wanted if line not in metrics], [])
         self.assertEqual(fails.said.count(f'bully: {worker}: No such file or directory'), 3)
-        said = 'node b: its worker keeps failing: it gives up what it owns, and tries again in 12.0 s'
+        said = 'node b: its worker keeps failing; it gives up what it owns, and tries again in 12.0 s'
         self.assertIn(said, fails.said)
         worker.write_text(f'#!/bin/sh\n{BEGINS}\n')
         worker.chmod(0o755)
@@ -492,23 +492,23 @@ class InProcesses(InFolder):
         self.assertEqual((fails.end(), well.end()), (0, 0))
 
     def test_a_worker_that_fails_late(self) -> None:
-        """More than a ttl behind its begin: it is begun again by the same member with the same token, and the other
-        node's works on. Nothing is appended, and no presence is another one."""
+        """More than a ttl after its start: it is begun again by the same member with the same token, and the other
+        node's works on. Nothing is appended, and no lease changes."""
         members = [self.begin(node, ['sh', '-c', BEGINS]) for node in 'ab']
         wait_until(lambda: [len(self.partitions(member).split()) for member in members] == [6, 6])
         wait_until(lambda: self.status() == (0, []))
         other, worker = (children(children(member.process.pid)[0])[0] for member in members)
         begun, log, fails = seconds_of_boot(), self.opened(), members[1]
         wait_until(lambda: seconds_of_boot() > begun + 2.0)
-        before, token = log.look(1, 0), fails.environment()['BULLY_TOKEN']
+        before, token = log.snapshot(1, 0), fails.environment()['BULLY_TOKEN']
         os.kill(worker, signal.SIGKILL)
         wait_until(lambda: self.status() == (1, ['b']))
         wait_until(lambda: self.status() == (0, []))
-        after = log.look(1, 0)
-        self.assertEqual((list(after.rows), after.lives), (list(before.rows), before.lives))
+        after = log.snapshot(1, 0)
+        self.assertEqual((list(after.rows), after.sessions), (list(before.rows), before.sessions))
         self.assertEqual((fails.environment()['BULLY_TOKEN'], is_running(other)), (token, True))
         self.assertNotEqual(fails.worker(), worker)
-        self.assertIn('the worker failed, with status -9, and is begun again in 0.2 s', fails.said)
+        self.assertIn('the worker failed, with status -9, and is started again in 0.2 s', fails.said)
         self.assertEqual([member.end() for member in members], [0, 0])
 
 
@@ -522,9 +522,9 @@ class OlderLogs(InFolder):
             tables = {name for name, in file.execute('select name from sqlite_master')}
         self.assertNotIn('failing', tables)
         log, other = self.opened(), self.opened()
-        self.assertEqual(log.look(1, 0).failing, {})
-        self.assertTrue(log.take('a', A, EMPTY, LONG))
+        self.assertEqual(log.snapshot(1, 0).failing, {})
+        self.assertTrue(log.acquire('a', A, EMPTY, LONG))
         self.assertTrue(other.give_up('b', 'a', A))
-        self.assertEqual((log.look(1, 0).failing, other.look(1, 0).failing), ({'b': True}, {'b': True}))
+        self.assertEqual((log.snapshot(1, 0).failing, other.snapshot(1, 0).failing), ({'b': True}, {'b': True}))
         log.note('b', None)
-        self.assertEqual(other.look(1, 0).failing, {})
+        self.assertEqual(other.snapshot(1, 0).failing, {})

@@ -12,25 +12,25 @@ from collections.abc import Callable
 from pathlib import Path
 from unittest import mock
 
-from bully import boots, files, sqlite
+from bully import boots, sqlite, sqlite_file
 from bully.clocks import SECOND, nanoseconds_of_boot
+from bully.core import Promise, Until
 from bully.epochs import Opening
-from bully.logs import (
+from bully.shared_log import (
     DamagedLog, DiskFull, ForeignLog, Holder, LogBusy, LogError, LogExists, NoEpoch, NoLog, OtherLog, ReadOnlyLog,
 )  # fmt: skip
-from bully.member import Promise, Until
 from bully.sqlite import SqliteLog
-from bully.stores import FileStore
+from bully.store_options import FileStore
 from bully.worker import Workers
 from places import environment
-from ..steps import EMPTY, LONG, OPENING, A, B, Clock, add, present
+from ..steps import EMPTY, LONG, OPENING, A, B, Clock, add, live
 from ..waiting import PATIENCE
 from .folders import WithLogs
 
-# Opens a log, and tells what came of it.
+# Opens a log, and says what came of it.
 OPENS = '''
 import sys
-from bully.logs import LogError
+from bully.shared_log import LogError
 from bully.sqlite import SqliteLog
 try:
     SqliteLog(sys.argv[1]).close()
@@ -39,29 +39,29 @@ except LogError as fault:
     print(fault)
 '''
 
-# Takes a presence for so many seconds, and tells what came of it; maybe as a version before time namespaces did.
+# Acquires a lease for so many seconds, and says what came of it; maybe as a version before time namespaces did.
 TAKES = '''
 import sys
 from bully import boots, sqlite
 from bully.clocks import SECOND
-from bully.logs import LogError
-from bully.member import Life, Promise
+from bully.shared_log import LogError
+from bully.core import Session, Promise
 from bully.sqlite import SqliteLog
 if 'older' in sys.argv:
     sqlite.boot_name = lambda: boots.machine_boot(boots.boot_name())
 try:
-    print(SqliteLog(sys.argv[1]).take('b', Life(1, 1), Promise(1, 0), int(sys.argv[2]) * SECOND))
+    print(SqliteLog(sys.argv[1]).acquire('b', Session(1, 1), Promise(1, 0), int(sys.argv[2]) * SECOND))
 except LogError as fault:
     print(fault)
 '''
 
-# Looks who is present, and tells what came of it.
-LOOKS = '''
+# Reads who holds a lease, and says what came of it.
+HOLDERS = '''
 import sys
-from bully.logs import LogError
+from bully.shared_log import LogError
 from bully.sqlite import SqliteLog
 try:
-    print(*SqliteLog(sys.argv[1], reads=True).look(1, 0).presences)
+    print(*SqliteLog(sys.argv[1], reads=True).snapshot(1, 0).holders)
 except LogError as fault:
     print(fault)
 '''
@@ -81,7 +81,7 @@ fcntl.lockf(file, fcntl.LOCK_SH, *map(int, sys.argv[2:]))
 print('locked', flush=True)
 sys.stdin.read()
 '''
-OTHER_CLOCK = 'another time namespace holds presences: its members have to share one, /proc/self/ns/time'
+OTHER_CLOCK = 'another time namespace holds leases: all members must share one, /proc/self/ns/time'
 
 
 def in_clocks(test: unittest.TestCase, offset: int, *words: str) -> str:
@@ -111,9 +111,9 @@ class Files(WithLogs):
         self.assertIn(str(self.path), str(caught.exception))
 
     def begun(self) -> SqliteLog:
-        """A log in which 'a' is present."""
+        """A log in which 'a' is live."""
         log = self.created()
-        self.assertTrue(log.take('a', A, EMPTY, LONG))
+        self.assertTrue(log.acquire('a', A, EMPTY, LONG))
         return log
 
     def test_none(self) -> None:
@@ -141,7 +141,7 @@ class Files(WithLogs):
                 other.execute(f'pragma user_version = {form}')
             other.close()
             with self.subTest(form=form):
-                self.refused(ForeignLog, f'a log of form {form}, by {word} version, and not of form 3')
+                self.refused(ForeignLog, f'a log of form {form}, by {word} version, not of form 3')
 
     def test_exists(self) -> None:
         self.created()
@@ -167,11 +167,11 @@ class Files(WithLogs):
         for rows in (['recover,1', 'start,1'], ['recover,2'], ['recover,3']):
             add(log, rows)
         self.change('delete from log where place = 2')
-        for place in (0, 1, 2):
+        for offset in (0, 1, 2):
             with self.assertRaises(DamagedLog):
-                log.read(1, place)
+                log.read(1, offset)
             with self.assertRaises(DamagedLog):
-                log.look(1, place)
+                log.snapshot(1, offset)
         self.assertEqual(list(log.read(1, 3)), ['recover,3'])
         self.change('delete from log where place = 3')
         with self.assertRaises(DamagedLog):
@@ -198,7 +198,7 @@ class Files(WithLogs):
             self.skipTest('only root can be somebody else')
         words = f'''
 import bully.sqlite, encodings.ascii, os
-from bully.logs import LogError
+from bully.shared_log import LogError
 os.setuid(65534)
 try:
     bully.sqlite.SqliteLog({str(self.path)!r})
@@ -209,7 +209,7 @@ except LogError as fault:
         ran = subprocess.run(
             [sys.executable, '-c', words], env=environment(), stdout=subprocess.PIPE, text=True, check=True
         )
-        self.assertRegex(ran.stdout, f'^ReadOnlyLog {self.path}: .*: it is of mode 0600, of user 0$')
+        self.assertRegex(ran.stdout, f'^ReadOnlyLog {self.path}: .*: its mode is 0600, and its owner is user 0$')
 
     def test_full_disk(self) -> None:
         log = self.begun()
@@ -231,15 +231,15 @@ except LogError as fault:
         log, other = self.opened(0.05), self.opened()
         other._file.execute('begin immediate')
         calls: list[Callable[[], object]] = [
-            lambda: log.append(1, 0, ['recover,1']), lambda: log.take('b', B, EMPTY, LONG),
+            lambda: log.append(1, 0, ['recover,1']), lambda: log.acquire('b', B, EMPTY, LONG),
             lambda: log.renew('a', A, LONG), lambda: log.promise('a', A, Promise(1, 1)), lambda: log.release('a', A),
-            lambda: log.ask(OPENING.after(None), 1), lambda: log.finish(1, 0, OPENING.after(None)),
+            lambda: log.ask(OPENING.after(None), 1), lambda: log.roll_over(1, 0, OPENING.after(None)),
         ]  # fmt: skip
         for call in calls:
             with self.assertRaisesRegex(LogBusy, f'by process {os.getpid()}'):
                 call()
         reader = self.closing(SqliteLog(self.path, 0.05, reads=True))
-        self.assertEqual((list(reader.read(1, 0)), present(reader)), ([], {'a': Holder(A, EMPTY)}))
+        self.assertEqual((list(reader.read(1, 0)), live(reader)), ([], {'a': Holder(A, EMPTY)}))
         other._file.execute('rollback')
         self.assertTrue(log.append(1, 0, ['recover,1']))
 
@@ -251,7 +251,7 @@ except LogError as fault:
         for end in ('-wal', '-shm'):
             Path(f'{self.path}{end}').unlink()
         SqliteLog.create(self.path, OPENING).close()
-        calls: list[Callable[[], object]] = [lambda: log.renew('a', A, LONG), lambda: log.take('b', B, EMPTY, LONG)]
+        calls: list[Callable[[], object]] = [lambda: log.renew('a', A, LONG), lambda: log.acquire('b', B, EMPTY, LONG)]
         for call in calls:
             with self.assertRaises(ForeignLog):
                 call()
@@ -267,12 +267,12 @@ except LogError as fault:
             for end in ends:
                 Path(f'{self.path}{end}').unlink()
             calls: list[Callable[[], object]] = [
-                lambda: log.renew('a', A, LONG), lambda: log.take('b', B, EMPTY, LONG),
-                lambda: log.append(1, 1, ['recover,2']), lambda: log.look(1, 1),
+                lambda: log.renew('a', A, LONG), lambda: log.acquire('b', B, EMPTY, LONG),
+                lambda: log.append(1, 1, ['recover,2']), lambda: log.snapshot(1, 1),
                 lambda: log.promise('a', A, Promise(1, 1)), lambda: log.wait(1, 1, {'a': A}, Until.NEWS, PATIENCE),
             ]  # fmt: skip
             for call in calls:
-                with self.subTest(ends=ends), self.assertRaisesRegex(OtherLog, 'its -wal or its -shm was taken away'):
+                with self.subTest(ends=ends), self.assertRaisesRegex(OtherLog, 'its -wal or its -shm was removed'):
                     call()
 
     def test_beside_a_link(self) -> None:
@@ -287,7 +287,7 @@ except LogError as fault:
                 log.renew('a', A, LONG)
         for end in ('-wal', '-shm'):
             Path(f'{self.path}{end}').unlink()
-        with self.assertRaisesRegex(OtherLog, 'its -wal or its -shm was taken away'):
+        with self.assertRaisesRegex(OtherLog, 'its -wal or its -shm was removed'):
             log.renew('a', A, LONG)
 
     def test_other_names(self) -> None:
@@ -295,7 +295,7 @@ except LogError as fault:
         self.created().close()
         other = self.folder / 'other.db'
         os.link(self.path, other)
-        self.refused(ForeignLog, 'a hard link, by which others would have another log of what is written: other.db$')
+        self.refused(ForeignLog, 'a hard link, so others would have another -wal and -shm beside it: other.db$')
         elsewhere = self.folder / 'elsewhere'
         elsewhere.mkdir()
         other.rename(elsewhere / 'other.db')
@@ -313,24 +313,24 @@ except LogError as fault:
         for path in (self.path, link):
             left = Path(f'{self.path}.0123456789abcdef.new')
             os.link(self.path, left)
-            self.closing(SqliteLog(path)).look(1, 0)
+            self.closing(SqliteLog(path)).snapshot(1, 0)
             self.assertEqual((left.exists(), self.path.stat().st_nlink), (False, 1))
 
     def test_shared_file_systems(self) -> None:
         """Those of more than one machine are refused, in words, by the list of mounts; others are taken."""
         mounts = '29 1 254:0 / / rw,relatime - ext4 /dev/root rw\n9 29 0:33 / /m rw shared:5 master:1 - %s h:/m rw\n'
-        self.assertEqual(files.kind_of('mnt_id:\t29', mounts % 'nfs4'), 'ext4')
-        self.assertEqual(files.kind_of('mnt_id:\t2', mounts % 'nfs4'), '')
+        self.assertEqual(sqlite_file.kind_of('mnt_id:\t29', mounts % 'nfs4'), 'ext4')
+        self.assertEqual(sqlite_file.kind_of('mnt_id:\t2', mounts % 'nfs4'), '')
         for kind in ('nfs', 'nfs4', 'cifs', '9p', 'virtiofs', 'fuse.sshfs', 'ceph'):
-            self.assertEqual(files.kind_of('mnt_id:\t9', mounts % kind), kind)
+            self.assertEqual(sqlite_file.kind_of('mnt_id:\t9', mounts % kind), kind)
             log = self.created()
-            with self.subTest(kind=kind), mock.patch.object(files, 'kind_of', lambda *_: kind):
+            with self.subTest(kind=kind), mock.patch.object(sqlite_file, 'kind_of', lambda *_: kind):
                 self.refused(ForeignLog, f'on a file system of more than one machine, {kind}, .* or a log in etcd')
                 with self.assertRaisesRegex(ForeignLog, 'of more than one machine'):
                     SqliteLog.create(self.folder / 'other.db', OPENING)
             log.close()
         for kind in ('ext4', 'xfs', 'btrfs', 'tmpfs', 'overlay', 'zfs', 'fuseblk', ''):
-            with mock.patch.object(files, 'kind_of', lambda *_: kind):
+            with mock.patch.object(sqlite_file, 'kind_of', lambda *_: kind):
                 self.closing(SqliteLog(self.path))
 
     def test_without_a_wal(self) -> None:
@@ -350,7 +350,7 @@ except LogError as fault:
     def test_modes(self) -> None:
         """A file is its owner's alone, and so is what is beside it, whatever the mask; or its group's, too. That of a
         file which is there stays."""
-        made: dict[int, int] = {files.OWNER_ALONE: 0o600, files.ITS_GROUP: 0o660}
+        made: dict[int, int] = {sqlite_file.OWNER_ALONE: 0o600, sqlite_file.ITS_GROUP: 0o660}
         before = os.umask(0)
         self.addCleanup(os.umask, before)
         for mask in (0, 0o022, 0o077):
@@ -358,18 +358,18 @@ except LogError as fault:
                 os.umask(mask)
                 self.paths.append(self.folder / f'{mask}-{mode}.db')
                 log = self.closing(SqliteLog.create(self.path, OPENING, mode))
-                self.assertTrue(log.take('a', A, EMPTY, LONG))
+                self.assertTrue(log.acquire('a', A, EMPTY, LONG))
                 self.assertEqual(self.modes(), [wanted] * 3)
                 log.close()
                 self.path.chmod(0o640)
                 self.assertTrue(self.opened().renew('a', A, LONG))
                 self.assertEqual(self.modes(), [0o640] * 3)
-        self.assertEqual(files.told_readers(str(self.path)), '')
+        self.assertEqual(sqlite_file.told_readers(str(self.path)), '')
         for end in ('-shm', ''):
             Path(f'{self.path}{end}').chmod(0o644)
-            why = 'so each user who reaches its folder may read it, and who may read it can stop the group'
-            told = f'{self.path}{end}: of mode 0644, {why}; chmod o= {self.path}*'
-            self.assertEqual(files.told_readers(str(self.path)), told)
+            why = 'so every user who can reach its folder may read it, and whoever may read it can stop the group'
+            told = f'{self.path}{end}: its mode is 0644, {why}; chmod o= {self.path}*'
+            self.assertEqual(sqlite_file.told_readers(str(self.path)), told)
 
     def modes(self) -> list[int]:
         """Those of the file, and of what is beside it."""
@@ -380,7 +380,7 @@ except LogError as fault:
         shared = FileStore(str(self.path), is_shared=True)
         for mode in (0o700, 0o770, 0o2750):
             self.folder.chmod(mode)
-            with self.assertRaisesRegex(ReadOnlyLog, f'does not give its group what is made there.*{self.folder}$'):
+            with self.assertRaisesRegex(ReadOnlyLog, f'does not give new files its group.*{self.folder}$'):
                 shared.create(OPENING)
         self.folder.chmod(0o2770)
         shared.create(OPENING).close()
@@ -435,34 +435,34 @@ except LogError as fault:
         self.change('update presence set since = since + 3600 * 1000000000')
         with mock.patch.object(sqlite, 'boot_name', lambda: 'another'):
             later = self.opened()
-        self.assertEqual(present(later), {})
+        self.assertEqual(live(later), {})
         self.assertFalse(later.append(1, 0, ['recover,1']))
         self.assertFalse(later.renew('a', A, LONG))
         self.assertFalse(later.promise('a', A, Promise(1, 5)))
-        self.assertTrue(later.take('a', B, EMPTY, 5 * SECOND))
+        self.assertTrue(later.acquire('a', B, EMPTY, 5 * SECOND))
         self.assertTrue(later.renew('a', B, LONG))
 
     def test_two_boots(self) -> None:
         """A machine has one boot at a time: of two over one file the earlier one is refused, also when it comes again.
-        By one clock the later one waits until no presence of the earlier one may be held."""
+        By one clock the later one waits until no lease of the earlier one may be held."""
         log, clock = self.begun(), Clock()
         with mock.patch.object(sqlite, 'boot_name', lambda: 'another'):
             later = self.opened()
         for ttl in (2 * LONG, SECOND):
-            with self.assertRaisesRegex(LogBusy, 'another boot may still hold presences'):
-                later.take('b', B, EMPTY, ttl)
+            with self.assertRaisesRegex(LogBusy, 'another boot may still hold leases'):
+                later.acquire('b', B, EMPTY, ttl)
             self.assertTrue(log.renew('a', A, LONG))
-        self.assertFalse(later.cut(EMPTY, 0, '', OPENING.next(None, ())), 'somebody is present')
+        self.assertFalse(later.cut(EMPTY, 0, '', OPENING.next(None, ())), 'somebody holds a lease')
         clock.now = nanoseconds_of_boot() + 2 * LONG
         with mock.patch.object(sqlite, 'nanoseconds_of_boot', clock):
-            self.assertTrue(later.take('b', B, EMPTY, LONG))
+            self.assertTrue(later.acquire('b', B, EMPTY, LONG))
         calls: list[Callable[[], object]] = [
-            lambda: log.renew('a', A, LONG), lambda: log.append(1, 0, ['recover,1']), lambda: log.look(1, 0),
-            lambda: SqliteLog(self.path), lambda: log.take('a', A, EMPTY, LONG),
+            lambda: log.renew('a', A, LONG), lambda: log.append(1, 0, ['recover,1']), lambda: log.snapshot(1, 0),
+            lambda: SqliteLog(self.path), lambda: log.acquire('a', A, EMPTY, LONG),
             lambda: log.wait(1, 0, {'a': A}, Until.NEWS, PATIENCE), lambda: log.ask(OPENING.after(None), 1),
         ]  # fmt: skip
         for call in calls:
-            with self.assertRaisesRegex(ForeignLog, 'another boot uses it behind this one'):
+            with self.assertRaisesRegex(ForeignLog, 'another boot has used it after this one'):
                 call()
         self.assertTrue(later.renew('b', B, LONG))
 
@@ -474,19 +474,20 @@ except LogError as fault:
         for seconds in ('2000', '5'):
             self.assertEqual(
                 in_mounts(self, seen, TAKES, str(self.path), seconds),
-                f'{self.path}: another boot may still hold presences\n',
+                f'{self.path}: another boot may still hold leases\n',
             )
         log.release('a', A)
         self.assertEqual(in_mounts(self, seen, TAKES, str(self.path), '5'), 'True\n')
-        with self.assertRaisesRegex(ForeignLog, 'another boot uses it behind this one'):
+        with self.assertRaisesRegex(ForeignLog, 'another boot has used it after this one'):
             log.renew('a', A, LONG)
 
     def test_time_namespaces(self) -> None:
-        """Who counts by another clock is refused while presences are held, whichever is ahead, and if none is, too; and
-        who was there goes on. It may come once nobody is present; then the first one is refused, and may come again."""
+        """A member that counts by another clock is refused while leases are held, whichever clock is ahead, and if none
+        is, too; and the members that were there go on. It may come once nobody holds a lease; then the first one is
+        refused, and may come again."""
         log = self.begun()
         for offset in (100_000, -10, 0):
-            for script in (TAKES, LOOKS):
+            for script in (TAKES, HOLDERS):
                 with self.subTest(offset=offset):
                     said = in_clocks(self, offset, script, str(self.path), '5')
                     self.assertEqual(said, f'{self.path}: {OTHER_CLOCK}\n')
@@ -497,20 +498,20 @@ except LogError as fault:
         self.change("delete from log", 'update epochs set count = 0')  # so that the end is where that script takes one
         self.assertEqual(in_clocks(self, 100_000, TAKES, str(self.path), '1000'), 'True\n')
         calls: list[Callable[[], object]] = [
-            lambda: log.take('a', A, EMPTY, LONG), lambda: log.look(1, 0), lambda: self.opened().look(1, 0),
+            lambda: log.acquire('a', A, EMPTY, LONG), lambda: log.snapshot(1, 0), lambda: self.opened().snapshot(1, 0),
             lambda: log.wait(1, 0, {}, Until.NEWS, PATIENCE),
         ]  # fmt: skip
         for call in calls:
             with self.assertRaisesRegex(ForeignLog, OTHER_CLOCK):
                 call()
         self.change('update presence set until = since + 1')  # as if it hadn't been renewed
-        self.assertTrue(log.take('a', A, EMPTY, LONG))
-        self.assertEqual(present(log), {'a': Holder(A, EMPTY)})
+        self.assertTrue(log.acquire('a', A, EMPTY, LONG))
+        self.assertEqual(live(log), {'a': Holder(A, EMPTY)})
         self.assertEqual(in_clocks(self, 100_000, TAKES, str(self.path), '5'), f'{self.path}: {OTHER_CLOCK}\n')
 
     def test_time_namespace_of_an_older_version(self) -> None:
         """What a version left that told no namespace counts by the machine's clock, and by that of whoever comes: so it
-        keeps others out of its own namespace, too. That version is refused behind a newer one."""
+        keeps others out of its own namespace, too. That version is refused after a newer one."""
         self.created().close()
         both = f'{TAKES}\nsys.argv.remove("older")\nsqlite.boot_name = boots.boot_name\n{TAKES}'
         said = in_clocks(self, 100_000, both, str(self.path), '1000', 'older')
@@ -531,7 +532,7 @@ except LogError as fault:
         self.assertEqual(there, Path('/proc/sys/kernel/random/boot_id').read_text().strip())
 
     def test_children_by_another_clock(self) -> None:
-        """A guard would count by another clock than its member."""
+        """A watchdog would count by another clock than its member."""
         self.created().close()
         if os.getuid() != 0 or not os.path.exists('/proc/self/ns/time'):
             self.skipTest('there are no time namespaces, or only root can make one')
@@ -539,48 +540,48 @@ except LogError as fault:
         said = subprocess.run(ran, env=environment(), stdout=subprocess.PIPE, text=True, check=True).stdout
         self.assertRegex(said, 'this process is in one time namespace and its children in another')
 
-    def test_a_guard_by_another_clock(self) -> None:
+    def test_a_watchdog_by_another_clock(self) -> None:
         """It isn't begun, whatever the store is."""
         begun = mock.patch.object(subprocess, 'Popen', side_effect=AssertionError('it has begun'))
         with begun, mock.patch.object(boots, 'namespace_of', str):
-            with self.assertRaisesRegex(ForeignLog, 'a guard of it would count by another clock'):
+            with self.assertRaisesRegex(ForeignLog, 'its watchdog would count by another clock'):
                 Workers(['true'], 'a', 1.0).begin(mock.Mock())
 
     def test_first_of_a_boot(self) -> None:
-        """Another member takes the first presence of this boot between any two statements of a call."""
+        """Another member acquires the first lease of this boot between any two statements of a call."""
         calls: dict[str, Callable[[SqliteLog], object]] = {
             'epochs': SqliteLog.epochs, 'opening': SqliteLog.opening,
-            'wait': lambda log: log.wait(1, 0, {}, Until.NEWS, 0.001), 'look': lambda log: log.look(1, 0),
+            'wait': lambda log: log.wait(1, 0, {}, Until.NEWS, 0.001), 'snapshot': lambda log: log.snapshot(1, 0),
         }  # fmt: skip
         for name, call in calls.items():
-            taken = 0
+            acquired = 0
             for count in range(1, 10):
                 with self.subTest(call=name, count=count):
-                    taken += self.take_at(count, call)
-            self.assertGreater(taken, 0, name)
+                    acquired += self.acquire_at(count, call)
+            self.assertGreater(acquired, 0, name)
 
-    def take_at(self, count: int, call: Callable[[SqliteLog], object]) -> bool:
-        """Calls, and at so many statements of that another takes a presence. Whether it came to so many."""
+    def acquire_at(self, count: int, call: Callable[[SqliteLog], object]) -> bool:
+        """Calls, and at so many statements of that another acquires a lease. Whether it came to so many."""
         log, other, seen = self.created(), self.opened(), 0
 
         def see(asked: str) -> None:
             nonlocal seen
             seen += 1
             if seen == count:
-                self.assertTrue(other.take('b', B, EMPTY, LONG))
+                self.assertTrue(other.acquire('b', B, EMPTY, LONG))
 
         log._file.set_trace_callback(see)
         call(log)
         log._file.set_trace_callback(None)
-        self.assertEqual('b' in present(log), seen >= count)
+        self.assertEqual('b' in live(log), seen >= count)
         return seen >= count
 
-    def test_bad_presence(self) -> None:
+    def test_bad_lease(self) -> None:
         for number, asked in enumerate(("life = 'x'", "life = '1.x'", "epoch = 'x'", "until = 'x'")):
             log = self.begun()
             self.change(f'update presence set {asked}')
-            with self.subTest(number=number), self.assertRaisesRegex(DamagedLog, 'the presence of a is none'):
-                log.look(1, 0)
+            with self.subTest(number=number), self.assertRaisesRegex(DamagedLog, 'the lease of a can not be read'):
+                log.snapshot(1, 0)
 
     def test_another_log(self) -> None:
         """One that was written into the same file has another name."""
@@ -589,10 +590,10 @@ except LogError as fault:
         calls: list[Callable[[], object]] = [
             lambda: log.renew('a', A, LONG),
             lambda: log.append(1, 0, ['recover,1']),
-            lambda: log.look(1, 0),
+            lambda: log.snapshot(1, 0),
         ]
         for call in calls:
-            with self.assertRaisesRegex(ForeignLog, 'another log is in its place'):
+            with self.assertRaisesRegex(ForeignLog, 'there is another log in its place'):
                 call()
 
     def test_restored(self) -> None:
@@ -603,17 +604,16 @@ except LogError as fault:
             file.backup(backup)
             add(log, ['recover,1', 'start,1'])
             reader = self.opened()
-            self.assertEqual(len(reader.look(1, 2).rows), 0)
+            self.assertEqual(len(reader.snapshot(1, 2).rows), 0)
             backup.backup(file)
         calls: list[Callable[[], object]] = [
-            lambda: reader.look(1, 2),
+            lambda: reader.snapshot(1, 2),
             lambda: log.append(1, 2, ['recover,2']),
             lambda: log.read(1, 2),
         ]
+        ends = 'read up to offset 2 of epoch 1, and now ends at offset 0 of epoch 1: its store has lost rows'
         for call in calls:
-            with self.assertRaisesRegex(
-                DamagedLog, 'read up to place 2 of epoch 1, and ends at 0 of 1: its store went back'
-            ):
+            with self.assertRaisesRegex(DamagedLog, ends):
                 call()
 
     def test_a_name_reaches_the_disk(self) -> None:
@@ -628,13 +628,13 @@ except LogError as fault:
         self.assertEqual(synced, [(str(self.folder.resolve()), True)])
 
     def test_what_reaches_the_disk(self) -> None:
-        """What is appended does; presences and promises need not."""
+        """What is appended does; leases and promises need not."""
         log = self.begun()
         self.assertEqual(log._one('pragma synchronous'), 1)
         told: list[str] = []
         log._file.set_trace_callback(told.append)
         calls: list[Callable[[], object]] = [
-            lambda: log.renew('a', A, LONG), lambda: log.promise('a', A, EMPTY), lambda: log.look(1, 0),
+            lambda: log.renew('a', A, LONG), lambda: log.promise('a', A, EMPTY), lambda: log.snapshot(1, 0),
             lambda: log.append(1, 0, ['x']),
         ]  # fmt: skip
         for number, call in enumerate(calls):
@@ -677,7 +677,7 @@ class OlderForm(WithLogs):
     def test_refused(self) -> None:
         for reads in (False, True):
             with self.assertRaisesRegex(
-                ForeignLog, 'a log of form 2, by an older version, and not of form 3; history writes it'
+                ForeignLog, 'a log of form 2, by an older version, not of form 3; history writes it'
             ):
                 self.store.open(reads=reads)
         with self.assertRaises(LogExists):
@@ -703,10 +703,10 @@ class OlderForm(WithLogs):
             self.store.history()
         self.store.create(OPENING).close()
         log = self.opened()
-        self.assertTrue(log.take('a', A, EMPTY, LONG))
+        self.assertTrue(log.acquire('a', A, EMPTY, LONG))
         end = add(log, ['recover,1', 'start,1'])
         self.assertTrue(log.promise('a', A, end))
-        self.assertTrue(log.finish(1, 2, OPENING.after(None)))
+        self.assertTrue(log.roll_over(1, 2, OPENING.after(None)))
         self.assertEqual(
             (self.store.history(1), self.store.history()), (['bully,1,3,6', 'recover,1', 'start,1'], ['bully,1,3,6'])
         )

@@ -15,7 +15,7 @@ from pathlib import Path
 from typing import NamedTuple
 
 from bully.epochs import Opening
-from bully.orders import Orders
+from bully.maintenance import Maintenance
 from bully.sqlite import SqliteLog
 from places import environment
 from .configurations import TOP, toml
@@ -34,23 +34,23 @@ OPENS = re.compile(r'O_CREAT|O_TRUNC')
 CALL = re.compile(r'([a-z0-9_]+)\((.*)')
 AT_ONCE = 4  # processes
 
-# The command, whose own presence is soon over, and which prunes one append at a time.
+# The command, whose own lease is soon over, and which prunes one append at a time.
 RUNS = """
 import sys
-from bully import command, resizing, sqlite
-resizing.OWN_TTL, sqlite.PRUNED_AT_ONCE = 100_000_000, 1
+from bully import command, operations, sqlite
+operations.OWN_TTL, sqlite.PRUNED_AT_ONCE = 100_000_000, 1
 sys.exit(command.main(sys.argv[1:]))
 """
 
 
 class State(NamedTuple):
-    """How a log stands."""
+    """The state of a log."""
 
     epochs: range
     opening: Opening
     rows: Sequence[str]
-    wish: Opening | None
-    orders: Orders
+    requested: Opening | None
+    maintenance: Maintenance
     kept: int  # appends of all epochs
 
 
@@ -80,11 +80,11 @@ def moments_of(trace: str) -> Iterator[Moment]:
 
 
 def state_of(path: Path) -> State:
-    """How the log stands, as whoever opens it finds."""
+    """The state of the log, as whoever opens it finds it."""
     with contextlib.closing(SqliteLog(path, reads=True)) as log, contextlib.closing(sqlite3.connect(path)) as file:
-        epoch, found = log.epochs()[-1], log.look(0, 0)
+        epoch, found = log.epochs()[-1], log.snapshot(0, 0)
         kept = file.execute('select count(*) from log').fetchone()[0]
-        return State(log.epochs(), log.opening(), list(log.read(epoch, 0)), found.wish, found.orders, kept)
+        return State(log.epochs(), log.opening(), list(log.read(epoch, 0)), found.requested, found.maintenance, kept)
 
 
 class Kills(WithFolder):
@@ -126,8 +126,8 @@ class Kills(WithFolder):
         return copy
 
     def kill_at_each(self, *words: str, refused: int = 0) -> None:
-        """Wherever the command is killed, it does the same behind that as if it hadn't been; or, by that status, it
-        says that all is done."""
+        """Wherever the command is killed, it does the same after that as if it hadn't been; or, by that status, it says
+        that all is done."""
         words = (*words, '--log', 'sqlite:group.db')
         whole, trace = self.copy('whole'), self.folder / 'trace'
         ran = traced(['-e', f'trace={",".join(WRITES)}', '-o', str(trace)], words, whole)

@@ -1,4 +1,4 @@
-"""Tests of configurations, and of what a member tells over HTTP."""
+"""Tests of configurations, and of what a member shows over HTTP."""
 from __future__ import annotations
 
 import contextlib
@@ -13,10 +13,10 @@ from unittest import mock
 
 from bully import page
 from bully.clocks import seconds_of_boot
+from bully.core import Promise, Session
 from bully.epochs import Token
-from bully.logs import DamagedLog, Found, Holder, Unanswered
-from bully.member import Life, Promise
-from bully.orders import Orders
+from bully.maintenance import Maintenance
+from bully.shared_log import DamagedLog, Holder, Snapshot, Unanswered
 from ..steps import LONG
 from ..waiting import PATIENCE, wait_until
 from .paged import Paged
@@ -24,7 +24,7 @@ from .threads import Troubled, put
 
 
 class Pages(Paged):
-    """What a member tells over HTTP."""
+    """What a member shows over HTTP."""
 
     def test_before(self) -> None:
         self.assertEqual(self.get('/healthz')[0], 503)
@@ -39,7 +39,7 @@ class Pages(Paged):
         self.begin()
         told = json.loads(self.get('/group')[2])
         self.assertEqual((told['coordinator'], set(told['owners'])), (self.NAMES[1], {self.NAMES[1]}))
-        self.assertEqual([node['present'] for node in told['nodes']], [False, True, False])
+        self.assertEqual([node['live'] for node in told['nodes']], [False, True, False])
         self.assertEqual([(row['row'], row['text']) for row in told['last']], list(enumerate(self.log.rows, 2))[-20:])
         assigned = json.loads(self.get('/assignment')[2])
         self.assertEqual(
@@ -47,13 +47,13 @@ class Pages(Paged):
             (self.NAMES[1], list(range(6)), told['token']),
         )
         self.assertTrue(0 < assigned['sure_seconds'] <= 1.6)
-        self.assertEqual(self.get('/healthz')[::2], (200, 'present\n'))
+        self.assertEqual(self.get('/healthz')[::2], (200, 'live\n'))
 
-    def test_orders(self) -> None:
+    def test_maintenance(self) -> None:
         """That the group is paused, and which nodes are drained."""
         self.begin()
-        for orders, paused, drained in ((Orders(), 0, 0), (Orders(frozenset('c'), {}), 1, 1)):
-            self.assertTrue(self.log.order(orders, None))
+        for maintenance, paused, drained in ((Maintenance(), 0, 0), (Maintenance(frozenset('c'), {}), 1, 1)):
+            self.assertTrue(self.log.set_maintenance(maintenance, None))
             wait_until(lambda: json.loads(self.get('/group')[2])['paused'] == bool(paused))
             self.assertEqual(
                 [node['drained'] for node in json.loads(self.get('/group')[2])['nodes']], [False, False, bool(drained)]
@@ -62,9 +62,9 @@ class Pages(Paged):
             self.assertEqual(
                 (f'\nbully_paused {paused}\n' in text, f'\nbully_drained{{node="c"}} {drained}\n' in text), (True, True)
             )
-            is_told = '; paused: who works goes on' in shown, '<td>no, drained<td>' in shown
+            is_told = '; paused: members that work continue' in shown, '<td>no, drained<td>' in shown
             self.assertEqual(is_told, (bool(paused), bool(drained)))
-        self.assertEqual(self.get('/healthz')[2], 'present\n')
+        self.assertEqual(self.get('/healthz')[2], 'live\n')
 
     def test_long_poll(self) -> None:
         answers: list[int] = []
@@ -83,22 +83,22 @@ class Pages(Paged):
             told = json.loads(self.get('/group?after=2')[2])
             answers.append((told['epoch'], told['events']))
 
-        looked: list[int] = []
+        snapshot_read: list[int] = []
 
-        def look(epoch: int, place: int) -> Found:
-            looked.append(place)
-            return Troubled.look(self.log, epoch, place)
+        def snapshot(epoch: int, offset: int) -> Snapshot:
+            snapshot_read.append(offset)
+            return Troubled.snapshot(self.log, epoch, offset)
 
         put(self.log, 'recover,1', 'crash,1')
-        setattr(self.log, 'look', look)
+        setattr(self.log, 'snapshot', snapshot)
         thread = threading.Thread(target=poll)
         thread.start()
-        wait_until(lambda: len(looked) > 1)  # so it waits
-        life, here = Life(1, 1), Promise(1, 2)
+        wait_until(lambda: len(snapshot_read) > 1)  # so it waits
+        session, here = Session(1, 1), Promise(1, 2)
         self.assertTrue(
-            self.log.take('stranger', life, here, LONG) and self.log.finish(1, 2, self.log.opening().next(None, ()))
+            self.log.acquire('unknown', session, here, LONG) and self.log.roll_over(1, 2, self.log.opening().next(None, ()))
         )
-        self.log.release('stranger', life)
+        self.log.release('unknown', session)
         thread.join()
         self.assertEqual(answers, [(2, 0)])
         self.assertEqual(json.loads(self.get('/group?after=2&epoch=1')[2])['epoch'], 2)
@@ -118,7 +118,7 @@ class Pages(Paged):
         with contextlib.ExitStack() as opened:
             opened.enter_context(mock.patch.object(page.PageHandler, 'timeout', 10 * PATIENCE))
             clients = [opened.enter_context(self.client()) for _ in range(1000)]
-            self.assertEqual(self.get('/healthz')[::2], (503, 'not present\n'))
+            self.assertEqual(self.get('/healthz')[::2], (503, 'not live\n'))
             self.assertEqual([client.recv(1) for client in clients[:900]], [b''] * 900)
             wait_until(lambda: threading.active_count() <= threads + page.CONNECTIONS_MAX)
             self.assertEqual(self.get('/group')[0], 200)
@@ -147,14 +147,14 @@ class Pages(Paged):
         return b''
 
     def test_many_polls(self) -> None:
-        """There is a bound of them, and all others are answered. They look no more often than one does."""
-        looked: list[int] = []
+        """There is a bound of them, and all others are answered. They read snapshots no more often than one does."""
+        snapshot_read: list[int] = []
 
-        def look(epoch: int, place: int) -> Found:
-            looked.append(place)
-            return Troubled.look(self.log, epoch, place)
+        def snapshot(epoch: int, offset: int) -> Snapshot:
+            snapshot_read.append(offset)
+            return Troubled.snapshot(self.log, epoch, offset)
 
-        setattr(self.log, 'look', look)
+        setattr(self.log, 'snapshot', snapshot)
         statuses: list[int] = []
         threads = [
             threading.Thread(target=lambda: statuses.append(self.get('/group?after=0')[0]))
@@ -164,10 +164,10 @@ class Pages(Paged):
             thread.start()
         wait_until(lambda: vars(self.page._answers)['_polls']._value == 0)
         self.assertEqual(self.get('/group?after=0')[0], 503)
-        begun, before = seconds_of_boot(), len(looked)
-        wait_until(lambda: len(looked) > before + 5)
-        self.assertLessEqual(len(looked) - before, (seconds_of_boot() - begun) / page.LOOK_SECONDS + 1)
-        self.assertEqual((self.get('/healthz')[2], self.get('/metrics')[0], statuses), ('not present\n', 200, []))
+        begun, before = seconds_of_boot(), len(snapshot_read)
+        wait_until(lambda: len(snapshot_read) > before + 5)
+        self.assertLessEqual(len(snapshot_read) - before, (seconds_of_boot() - begun) / page.SNAPSHOT_SECONDS + 1)
+        self.assertEqual((self.get('/healthz')[2], self.get('/metrics')[0], statuses), ('not live\n', 200, []))
         put(self.log, 'recover,1')
         for thread in threads:
             thread.join()
@@ -177,18 +177,18 @@ class Pages(Paged):
         """Health, and what is measured of the member, are told all the same."""
         self.make(100.0)
         self.begin()
-        wait_until(lambda: f'bully_node_present{page.labels(self.NAMES[1])} 1' in self.get('/metrics')[2])
+        wait_until(lambda: f'bully_node_live{page.labels(self.NAMES[1])} 1' in self.get('/metrics')[2])
         self.log.is_silent = True
         self.addCleanup(setattr, self.log, 'is_silent', False)
         wait_until(lambda: self.get('/group')[0] == 503)
-        self.assertEqual(self.get('/healthz')[::2], (200, 'present\n'))
+        self.assertEqual(self.get('/healthz')[::2], (200, 'live\n'))
         told = dict(line.rsplit(' ', 1) for line in self.get('/metrics')[2].splitlines() if not line.startswith('#'))
         self.assertGreater(float(told[f'bully_sure_seconds{page.labels(self.NAMES[1])}']), 60.0)
 
     def test_the_last_known(self) -> None:
         """A store that is silent before anybody asked: what was known last is measured all the same, and how old it is
         and that the store is silent are, too."""
-        self.assertTrue(self.log.order(Orders(frozenset('c'), None), None))
+        self.assertTrue(self.log.set_maintenance(Maintenance(frozenset('c'), None), None))
         self.make(1000.0, self.log)
         self.log.is_silent = True
         first = self.measured()
@@ -202,17 +202,17 @@ class Pages(Paged):
             self.assertGreaterEqual(self.measured()['bully_group_age_seconds'], 5.0)
 
     def test_a_store_that_hangs(self) -> None:
-        """Who asks while a look hangs waits for a bounded time."""
+        """A client that asks while a snapshot hangs waits for a bounded time."""
         hangs, goes_on = threading.Event(), threading.Event()
 
-        def look(epoch: int, place: int) -> Found:
+        def snapshot(epoch: int, offset: int) -> Snapshot:
             hangs.set()
             goes_on.wait()
-            return Troubled.look(self.log, epoch, place)
+            return Troubled.snapshot(self.log, epoch, offset)
 
         self.addCleanup(goes_on.set)
-        with mock.patch.object(page, 'LOOK_MAX', 0.1):
-            setattr(self.log, 'look', look)
+        with mock.patch.object(page, 'SNAPSHOT_MAX', 0.1):
+            setattr(self.log, 'snapshot', snapshot)
             first = threading.Thread(target=self.get, args=['/group'])
             first.start()
             hangs.wait()
@@ -223,15 +223,15 @@ class Pages(Paged):
             first.join()
         self.assertEqual(self.status('/group'), 200)
 
-    def test_what_strangers_hear(self) -> None:
+    def test_what_others_hear(self) -> None:
         """The servers of a store, or its files, are named to the member's own log alone, once."""
         cases = (
             (Unanswered('10.0.0.1:2379: timed out'), 'the store does not answer\n'),
             (DamagedLog('/srv/group.db: no row'), 'the log can not be read\n'),
         )
         for failure, told in cases:
-            with self.subTest(failure), mock.patch.object(page, 'LOOK_SECONDS', 0.0):
-                with mock.patch.object(self.log, 'look', side_effect=failure), self.assertLogs('bully') as logged:
+            with self.subTest(failure), mock.patch.object(page, 'SNAPSHOT_SECONDS', 0.0):
+                with mock.patch.object(self.log, 'snapshot', side_effect=failure), self.assertLogs('bully') as logged:
                     for target in ('/', '/group', '/assignment', '/group?after=7'):
                         self.assertEqual(self.get(target), (503, 'text/plain; charset=utf-8', told))
                     self.assertNotIn(str(failure), self.get('/metrics')[2])
@@ -244,19 +244,19 @@ class Pages(Paged):
         self.addCleanup(self.workers.close)
         self.assertEqual(self.get('/healthz')[0], 200)
         self.workers._survivors, self.workers._stop_begun = [os.getpid()], seconds_of_boot() - 10.0
-        self.assertEqual(self.get('/healthz')[::2], (503, 'its worker does not end\n'))
-        self.assertRegex(self.get('/')[2], 'nodes present; its worker has not stopped for 1[0-9][.][0-9] s<')
+        self.assertEqual(self.get('/healthz')[::2], (503, 'its worker does not stop\n'))
+        self.assertRegex(self.get('/')[2], 'nodes live; its worker has not stopped for 1[0-9][.][0-9] s<')
         told = dict(line.rsplit(' ', 1) for line in self.get('/metrics')[2].splitlines() if not line.startswith('#'))
         self.assertGreaterEqual(float(told[f'bully_stopping_seconds{page.labels(self.NAMES[1])}']), 10.0)
         self.workers._survivors, self.workers._stop_begun = [], None
 
     def test_an_epoch_that_is_not_told(self) -> None:
         """Where the log doesn't answer with what the next epoch began with, the page goes on once it does."""
-        life, here = Life(1, 1), Promise(1, 0)
+        session, here = Session(1, 1), Promise(1, 0)
         self.assertTrue(
-            self.log.take('stranger', life, here, LONG) and self.log.finish(1, 0, self.log.opening().next(None, ()))
+            self.log.acquire('unknown', session, here, LONG) and self.log.roll_over(1, 0, self.log.opening().next(None, ()))
         )
-        with mock.patch.object(page, 'LOOK_SECONDS', 0.0), mock.patch.object(
+        with mock.patch.object(page, 'SNAPSHOT_SECONDS', 0.0), mock.patch.object(
             self.log, 'opening', side_effect=Unanswered('silent')
         ) as asked:
             for _ in range(2):
@@ -294,7 +294,7 @@ class Pages(Paged):
         for line in text.splitlines():
             self.assertRegex(line, rf'^(# (HELP [a-z_]+ .+|TYPE [a-z_]+ (counter|gauge))|{sample})$')
         self.assertIn('bully_node_partitions{node="<script>alert(1)</script>"} 6', text)
-        self.assertIn('bully_node_present{node="a\\"\\\\b"} 0', text)
+        self.assertIn('bully_node_live{node="a\\"\\\\b"} 0', text)
         token = Token.of(1, 1 + self.log.rows.index(next(row for row in self.log.rows if row.startswith('plan'))))
         self.assertTrue({'bully_epoch 1', f'bully_token {token}'} <= set(text.splitlines()))
 
@@ -302,15 +302,15 @@ class Pages(Paged):
         """Who isn't idle is named, with how long the others have waited."""
         self.begin()
         self.assertEqual(json.loads(self.get('/group')[2])['behind'], {})
-        name, life = self.NAMES[0], Life(7, 1)
+        name, session = self.NAMES[0], Session(7, 1)
         self.assertIn(f'bully_idle_behind_seconds{page.labels(name)} 0.000', self.get('/metrics')[2])
-        self.assertTrue(self.log.take(name, life, Promise(1, len(self.log.rows)), LONG))
+        self.assertTrue(self.log.acquire(name, session, Promise(1, len(self.log.rows)), LONG))
         with self.log._changed:  # it works
-            self.log.leases[name] = self.log.leases[name]._replace(holder=Holder(life, Promise()))
+            self.log.leases[name] = self.log.leases[name]._replace(holder=Holder(session, Promise()))
         wait_until(lambda: json.loads(self.get('/group')[2])['behind'].get(name, 0) > 0.3)
         behind = json.loads(self.get('/group')[2])['behind']
         self.assertEqual(list(behind), [name])
-        self.assertRegex(self.get('/')[2], 'nodes present; not idle yet: a&quot;[^<]* for [0-9.]+ s<')
+        self.assertRegex(self.get('/')[2], 'nodes live; not idle yet: a&quot;[^<]* for [0-9.]+ s<')
         told = [line for line in self.get('/metrics')[2].splitlines() if line.startswith('bully_idle_behind_seconds{')]
         self.assertEqual(len(told), 3)
         self.assertGreaterEqual(float(told[0].split()[1]), behind[name])

@@ -8,9 +8,9 @@ from unittest import mock
 
 from bully import page, view
 from bully.clocks import seconds_of_boot
+from bully.core import Promise, Session
 from bully.epochs import Opening
-from bully.member import Life, Promise
-from bully.running import Member
+from bully.member import Member
 from bully.worker import Workers
 from ..steps import HEADER
 from ..waiting import PATIENCE, wait_until
@@ -29,11 +29,11 @@ class Hanging(Troubled):
         self.goes_on, self.hangs = threading.Event(), threading.Event()
         self.goes_on.set()
 
-    def renew(self, name: str, life: Life, ttl: int) -> bool:
+    def renew(self, name: str, session: Session, ttl: int) -> bool:
         if not self.goes_on.is_set():
             self.hangs.set()
         self.goes_on.wait()
-        return super().renew(name, life, ttl)
+        return super().renew(name, session, ttl)
 
 
 class Noting(Troubled):
@@ -48,13 +48,13 @@ class Noting(Troubled):
         if name in self.members:
             self.led.append((asked, name, self.members[name].leads))
 
-    def promise(self, name: str, life: Life, promise: Promise) -> bool:
+    def promise(self, name: str, session: Session, promise: Promise) -> bool:
         self.mark('promise', name)
-        return super().promise(name, life, promise)
+        return super().promise(name, session, promise)
 
-    def release(self, name: str, life: Life) -> None:
+    def release(self, name: str, session: Session) -> None:
         self.mark('release', name)
-        super().release(name, life)
+        super().release(name, session)
 
 
 class Answered(NamedTuple):
@@ -98,7 +98,7 @@ class Probes(Paged):
                 with self.subTest(target=target, begins=begins):
                     self.assertEqual((head.status, head.text), (got.status, b''))
                     self.assertEqual(int(got.headers['Content-Length']), len(got.text))
-                    if target != '/':  # which tells times
+                    if target != '/':  # which shows times
                         self.assertEqual(head.headers, got.headers)
         for target in ('/group', '/assignment', '/metrics'):
             self.assertEqual(self.answered('HEAD', target)[::2], (200, b''))

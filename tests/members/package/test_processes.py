@@ -131,7 +131,7 @@ file = sqlite3.connect({str(self.path)!r}, isolation_level=None, timeout=60)
 workers = Workers(['true'], 'x', 1.0)
 workers.begin(SimpleNamespace(ttl={ttl}), {str(self.path)!r})
 workers._tell('stop')
-workers._stopped.get()  # so its guard is there
+workers._stopped.get()  # so its watchdog is there
 until, = file.execute('{UNTIL}').fetchone()
 soon = until / {SECOND} - {ttl} * 7 / 8  # a second before it is to be renewed; a stop of 1.6 s is let be
 time.sleep(max(0.0, soon - time.clock_gettime(time.CLOCK_BOOTTIME)))
@@ -156,7 +156,7 @@ os.kill(os.getpid(), signal.SIGSTOP)
         self.assertEqual(member.end(), 0)
 
     def until(self, log: SqliteLog) -> float:
-        """Up to when the presence is held."""
+        """Up to when the lease is held."""
         return log._one(UNTIL) / SECOND
 
     def full(self) -> BinaryIO:
@@ -180,7 +180,7 @@ os.kill(os.getpid(), signal.SIGSTOP)
 
     def test_nobody_reads_what_goes_wrong(self) -> None:
         """A quiet member says that, and doesn't wait for a reader either."""
-        member = self.begin('echo begun >> $PLACE/begins; exit 5', None, '--quiet', said=self.full())
+        member = self.begin('echo begun >> $FOLDER/begins; exit 5', None, '--quiet', said=self.full())
         begins = self.folder / 'begins'
         wait_until(lambda: begins.exists() and begins.read_text().count('begun') > 1)
         self.assertEqual(member.end(), 0)
@@ -190,7 +190,7 @@ os.kill(os.getpid(), signal.SIGSTOP)
         wait_until(lambda: member.said)
         self.assertEqual(member.end(), 0)
         for line in member.said.splitlines():
-            self.assertIn(' bully-member: the worker failed, with status 5, and is begun again in ', line)
+            self.assertIn(' bully-member: the worker failed, with status 5, and is started again in ', line)
 
     def test_messages_for_programs(self) -> None:
         """Each is a line of JSON."""
@@ -201,7 +201,7 @@ os.kill(os.getpid(), signal.SIGSTOP)
         self.assertEqual(
             {(frozenset(each), each['level']) for each in told}, {(frozenset({'time', 'level', 'message'}), 'info')}
         )
-        self.assertRegex(told[0]['message'], '^node the only: present as [0-9]+[.]1$')
+        self.assertRegex(told[0]['message'], '^node the only: live as [0-9]+[.]1$')
         self.assertTrue(all(abs(each['time'] - time.time()) < PATIENCE for each in told))
 
     def test_why_it_ends_for_programs(self) -> None:
@@ -212,45 +212,45 @@ os.kill(os.getpid(), signal.SIGSTOP)
         self.assertEqual((last['level'], last['message']), ('error', 'the worker ended by itself, with status 0'))
 
     def test_a_late_renewal(self) -> None:
-        """A worker that its guard has killed, since it heard of renewals too late, is begun again."""
+        """A worker that its watchdog has killed, because it heard of renewals too late, is begun again."""
         member = self.begin(BEGINS)
         for _ in range(3):
             worker = member.worker()
             (self.folder / 'begun').unlink()
-            guard = parent_of(worker)
-            os.kill(guard, signal.SIGSTOP)  # it hears of no renewal
+            watchdog = parent_of(worker)
+            os.kill(watchdog, signal.SIGSTOP)  # it hears of no renewal
             begun = clocks.seconds_of_boot()
             wait_until(lambda: clocks.seconds_of_boot() > begun + 2.0)
-            os.kill(guard, signal.SIGCONT)
+            os.kill(watchdog, signal.SIGCONT)
             self.assertNotEqual(member.worker(), worker)
             self.assertFalse(is_running(worker))
         self.assertEqual(member.end(), 0)
 
     def test_the_worker_ends(self) -> None:
         """It isn't begun again if it says that it is done."""
-        member = self.begin('echo begun >> $PLACE/begins; exit 0')
+        member = self.begin('echo begun >> $FOLDER/begins; exit 0')
         self.assertEqual(member.wait(), 1)
         self.assertIn('bully-member: the worker ended by itself, with status 0\n', member.said)
         self.assertEqual((self.left(), (self.folder / 'begins').read_text()), (('crash,1', {}), 'begun\n'))
 
     def test_the_worker_fails(self) -> None:
-        """It is begun again and again, and nobody else hears of it: nothing is appended, and the presence stays."""
-        member, begins = self.begin('echo begun >> $PLACE/begins; exit 5'), self.folder / 'begins'
+        """It is begun again and again, and nobody else hears of it: nothing is appended, and the lease stays."""
+        member, begins = self.begin('echo begun >> $FOLDER/begins; exit 5'), self.folder / 'begins'
         wait_until(begins.exists)
         log = self.opened()
-        before = log.look(1, 0)
+        before = log.snapshot(1, 0)
         wait_until(lambda: begins.read_text().count('begun') == 3)
-        after = log.look(1, 0)
-        self.assertEqual((list(after.rows), after.lives), (list(before.rows), before.lives))
+        after = log.snapshot(1, 0)
+        self.assertEqual((list(after.rows), after.sessions), (list(before.rows), before.sessions))
         self.assertEqual(member.end(), 0)
         said = member.said
         self.assertLess(
-            said.index('failed, with status 5, and is begun again in 0.4 s'), said.index('is begun again in 0.8 s')
+            said.index('failed, with status 5, and is started again in 0.4 s'), said.index('is started again in 0.8 s')
         )
         self.assertEqual(self.left(), ('crash,1', {}))
 
     def test_a_worker_that_does_not_end(self) -> None:
-        """All wait for it, and are told so, until SIGTERM ends its member. That gives nothing back: its presence ends
+        """All wait for it, and are told so, until SIGTERM ends its member. That gives nothing back: its lease ends
         by itself."""
         member = self.begin(BEGINS, None, '--stop-seconds', '0.1')
         worker, log = member.worker(), self.opened()
@@ -259,19 +259,19 @@ os.kill(os.getpid(), signal.SIGSTOP)
         new.write_bytes(toml({**TOP, 'nodes': 2, 'names': ['another', 'the only'], 'partitions': 3}))
         resize = ['resize', '--config', str(new), '--log', f'sqlite:{self.path}', '--seconds']
         self.assertEqual(command.main([*resize, '0.1']), 1)
-        wait_until(lambda: f'until they are gone nothing is begun here: [{worker}]' in member.said)
+        wait_until(lambda: f'nothing is started here before they end: [{worker}]' in member.said)
         with contextlib.closing(LogView(self.opened())) as shown:
             self.assertEqual(list(shown.show().behind), ['the only'])
         self.assertEqual(member.end(), 1)
-        self.assertIn('though it was killed; its presence ends by itself\n', member.said)
-        self.assertEqual(list(log.look(1, 0).presences), ['the only'], 'nothing is given back')
+        self.assertIn(' s; the lease of its node ends by itself\n', member.said)
+        self.assertEqual(list(log.snapshot(1, 0).holders), ['the only'], 'nothing is given back')
         self.assertEqual(command.main([*resize, str(PATIENCE)]), 0)
         self.assertEqual(log.epochs()[-1], 2)
         thaw(worker)
         wait_until(lambda: not is_running(worker))
 
     def test_a_service(self) -> None:
-        """What started it hears that it is ready, how it stands, and that it goes on. Its worker has no part in
+        """What started it hears that it is ready, what it does, and that it goes on. Its worker has no part in
         that."""
         with socket.socket(socket.AF_UNIX, socket.SOCK_DGRAM) as manager:
             manager.bind(str(self.folder / 'manager'))
@@ -320,7 +320,7 @@ os.kill(os.getpid(), signal.SIGSTOP)
         self.assertIn('<td>no, drained<td>', get('/'))
         self.assertEqual(command.main(['undrain', 'the only', '--log', f'sqlite:{self.path}']), 0)
         self.assertNotEqual(member.worker(), worker)
-        self.assertEqual(get('/healthz'), 'present\n')
+        self.assertEqual(get('/healthz'), 'live\n')
         self.assertIn('\nbully_drained{node="the only"} 0\n', get('/metrics'))
         self.assertEqual(command.main(['drain', 'the only', '--all', '--log', f'sqlite:{self.path}']), 0)
         wait_until(lambda: get('/healthz') == 'drained\n')
@@ -336,7 +336,7 @@ os.kill(os.getpid(), signal.SIGSTOP)
             Path(f'{self.path}{end}').unlink()
         self.assertEqual(member.wait(), 3)
         self.assertIn(
-            f'bully-member: {self.path}: its -wal or its -shm was taken away, and others go on in another one\n',
+            f'bully-member: {self.path}: its -wal or its -shm was removed, and others use another one\n',
             member.said,
         )
         self.assertFalse(is_running(worker))
@@ -394,7 +394,7 @@ os.kill(os.getpid(), signal.SIGSTOP)
             with contextlib.suppress(OSError), urllib.request.urlopen(
                 f'http://127.0.0.2:{port}/healthz', timeout=PATIENCE
             ) as answer:
-                return bool(answer.read() == b'present\n')
+                return bool(answer.read() == b'live\n')
             return False
 
         wait_until(is_well)
@@ -408,32 +408,32 @@ os.kill(os.getpid(), signal.SIGSTOP)
         member.kill()
         self.assertFalse(is_running(worker))
 
-    def kill_both(self, member: int, guard: int) -> None:
-        """Both at one moment: neither does anything after the end of the other. A stopped guard goes on if its member ends, so it is
-        killed first."""
-        for process in (member, guard):
+    def kill_both(self, member: int, watchdog: int) -> None:
+        """Both at one moment: neither does anything after the end of the other. A stopped watchdog goes on if its
+        member ends, so it is killed first."""
+        for process in (member, watchdog):
             os.kill(process, signal.SIGSTOP)
-        wait_until(lambda: has_stopped(member) and has_stopped(guard))
-        for process in (guard, member):
+        wait_until(lambda: has_stopped(member) and has_stopped(watchdog))
+        for process in (watchdog, member):
             os.kill(process, signal.SIGKILL)
 
-    def test_killed_with_its_guard(self) -> None:
+    def test_killed_with_its_watchdog(self) -> None:
         """The worker dies, and what that began lives, as nobody knows of it. Another member begins all the same."""
         member = self.begin(STARTS)
         worker = member.worker()
-        guard, child = parent_of(worker), int((self.folder / 'child').read_text())
+        watchdog, child = parent_of(worker), int((self.folder / 'child').read_text())
         self.addCleanup(ender(child))
-        self.kill_both(member.process.pid, guard)
+        self.kill_both(member.process.pid, watchdog)
         wait_until(lambda: not is_running(worker))
         self.assertEqual(member.wait(), -signal.SIGKILL)
-        self.assertEqual((is_running(guard), is_running(child)), (False, True))
+        self.assertEqual((is_running(watchdog), is_running(child)), (False, True))
         (self.folder / 'begun').unlink()
         member.begin_again()
         self.assertNotEqual(member.worker(), worker)
         self.assertEqual(member.end(), 0)
         self.assertTrue(is_running(child))
 
-    def test_killed_with_its_guard_as_another_user(self) -> None:
+    def test_killed_with_its_watchdog_as_another_user(self) -> None:
         """A worker that has become another user doesn't die then: Linux forgets what it was to die of."""
         if os.getuid() != 0:
             self.skipTest('only root becomes another user')
@@ -449,7 +449,7 @@ os.kill(os.getpid(), signal.SIGSTOP)
         self.assertTrue(is_running(worker))
         self.assertEqual(member.end(), 0)
 
-    def test_killed_with_its_guard_in_a_container(self) -> None:
+    def test_killed_with_its_watchdog_in_a_container(self) -> None:
         """There what the worker began ends, too: the first process of a container, which waits for the member, is its
         end."""
         if os.getuid() != 0:
@@ -463,27 +463,27 @@ os.kill(os.getpid(), signal.SIGSTOP)
         self.addCleanup(container.kill)
         wait_until((self.folder / 'begun').exists)
         line = [container.pid]
-        for _ in range(5):  # the first process, the member, its guard, the worker, and what that began
+        for _ in range(5):  # the first process, the member, its watchdog, the worker, and what that began
             wait_until(lambda: len(children(line[-1])) == 1)  # what told that the worker has begun may be there still
             line += children(line[-1])
-        _, first, member, guard, worker, child = line
-        self.kill_both(member, guard)
+        _, first, member, watchdog, worker, child = line
+        self.kill_both(member, watchdog)
         wait_until(lambda: not any(map(is_running, (first, worker, child))))
         self.assertEqual(container.wait(PATIENCE), 7)
 
-    def test_killed_while_its_guard_is_stopped(self) -> None:
-        """The guard goes on at its member's end, and ends the worker, also if nobody continues it."""
+    def test_killed_while_its_watchdog_is_stopped(self) -> None:
+        """The watchdog goes on at its member's end, and ends the worker, also if nobody continues it."""
         member = self.begin(STARTS)
         worker = member.worker()
-        guard, child = parent_of(worker), int((self.folder / 'child').read_text())
+        watchdog, child = parent_of(worker), int((self.folder / 'child').read_text())
         for process in (child, worker):
             self.addCleanup(ender(process))
-        self.addCleanup(ender(guard))
-        os.kill(guard, signal.SIGSTOP)
-        wait_until(lambda: has_stopped(guard))
+        self.addCleanup(ender(watchdog))
+        os.kill(watchdog, signal.SIGSTOP)
+        wait_until(lambda: has_stopped(watchdog))
         member.process.kill()
         self.assertEqual(member.wait(), -signal.SIGKILL)
-        wait_until(lambda: not any(map(is_running, (guard, worker, child))))
+        wait_until(lambda: not any(map(is_running, (watchdog, worker, child))))
 
     def test_children_that_the_kernel_does_not_list(self) -> None:
         """Nothing could end all that a worker begins: so its member says so at once, and takes no part."""
@@ -491,10 +491,10 @@ os.kill(os.getpid(), signal.SIGSTOP)
         with mock.patch.dict(os.environ, unlisted):
             member = self.begin(BEGINS)
         self.assertEqual(member.wait(), 6)
-        self.assertIn('bully-member: the kernel does not list the children of a process, so what a worker', member.said)
+        self.assertIn('bully-member: the kernel does not list the children of a process, so the processes', member.said)
         self.assertIn('/children', member.said)
         self.assertFalse((self.folder / 'begun').exists())
-        self.assertEqual(self.opened().look(1, 0).presences, {})
+        self.assertEqual(self.opened().snapshot(1, 0).holders, {})
 
     def test_stopped(self) -> None:
         """The worker is killed while its member is stopped, and another one begins once that goes on."""
@@ -508,15 +508,15 @@ os.kill(os.getpid(), signal.SIGSTOP)
         self.assertEqual(member.end(), 0)
 
     def test_processes(self) -> None:
-        """The member, its guard and its worker are all, and the guard stays."""
+        """The member, its watchdog and its worker are all, and the watchdog stays."""
         member = self.begin(BEGINS)
         worker = member.worker()
-        guard = parent_of(worker)
+        watchdog = parent_of(worker)
         self.assertEqual(
-            (children(member.process.pid), children(guard), parent_of(guard)), ([guard], [worker], member.process.pid)
+            (children(member.process.pid), children(watchdog), parent_of(watchdog)), ([watchdog], [worker], member.process.pid)
         )
         self.assertEqual(member.end(), 0)
-        self.assertFalse(is_running(guard))
+        self.assertFalse(is_running(watchdog))
 
     def test_talks(self) -> None:
         """A worker stays over a change of the group, and hears of it."""

@@ -57,7 +57,7 @@ class Requests(Paged):
     """Requests of any form."""
 
     def raw(self, sent: bytes, port: int | None = None) -> bytes:
-        """What is answered to these bytes, and nothing behind them."""
+        """What is answered to these bytes, and nothing after them."""
         with socket.create_connection(('127.0.0.1', port or self.page.port), PATIENCE) as client:
             with contextlib.suppress(ConnectionError):  # it is refused before it is read
                 client.sendall(sent)
@@ -66,7 +66,7 @@ class Requests(Paged):
                 return file.read()
 
     def raw_status(self, sent: bytes, port: int | None = None) -> int:
-        """The status of that, behind a `100 Continue`; 0, if there is none."""
+        """The status of that, after a `100 Continue`; 0, if there is none."""
         words = self.raw(sent, port).replace(b'HTTP/1.1 100 Continue\r\n\r\n', b'').split(b' ', 2)
         return int(words[1]) if words[0].startswith(b'HTTP/1.') else 0
 
@@ -180,6 +180,6 @@ class Words(unittest.TestCase):
         for word in ('', 'a:80', '[::1]:80', 'a b', 'http://a', '*.example', '::1', 'b\xfc'):
             status, _, said = call(*run, '--listen', '0', '--allow-host', word, '--', 'true')
             self.assertEqual(status, 2, word)
-            self.assertIn(f'bully-member: --allow-host is {word}, and has to be a name or an address', said)
+            self.assertIn(f'bully-member: --allow-host is {word}, and must be a name or an address', said)
         status, _, said = call(*run, '--allow-host', 'a', '--', 'true')
-        self.assertEqual((status, said), (2, 'bully-member: --allow-host goes with --listen\n'))
+        self.assertEqual((status, said), (2, 'bully-member: --allow-host needs --listen\n'))

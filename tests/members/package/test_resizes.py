@@ -8,13 +8,13 @@ import time
 import unittest
 from unittest import mock
 
-from bully import Setup, check, resizing, settings, view
+from bully import Setup, check, operations, settings, view
 from bully.clocks import seconds_of_boot
+from bully.core import Promise, Session
 from bully.epochs import Opening
-from bully.logs import Found, Unanswered
-from bully.member import Life, Promise
+from bully.member import Assignment, Member, NotInGroup
 from bully.memory import MemoryLog
-from bully.running import Assignment, Member, NotInGroup
+from bully.shared_log import Snapshot, Unanswered
 from bully.sqlite import SqliteLog
 from ..steps import LONG, OPENING
 from ..waiting import PATIENCE, wait_until
@@ -23,7 +23,7 @@ from .threads import put
 
 
 class Places:
-    """What members work on: it tells if two work on one partition, or if a token falls."""
+    """What members work on: it reports if two work on one partition, or if a token falls."""
 
     def __init__(self) -> None:
         self.workers: dict[int, str] = {}
@@ -65,17 +65,17 @@ class Seldom(MemoryLog):
         self.answer()
         return super().opening(epoch)
 
-    def ask(self, wish: Opening, epoch: int) -> bool:
+    def ask(self, requested: Opening, epoch: int) -> bool:
         self.answer()
-        return super().ask(wish, epoch)
+        return super().ask(requested, epoch)
 
-    def look(self, epoch: int, place: int) -> Found:
+    def snapshot(self, epoch: int, offset: int) -> Snapshot:
         self.answer()
-        return super().look(epoch, place)
+        return super().snapshot(epoch, offset)
 
-    def take(self, name: str, life: Life, promise: Promise, ttl: int) -> bool:
+    def acquire(self, name: str, session: Session, promise: Promise, ttl: int) -> bool:
         self.answer()
-        return super().take(name, life, promise, ttl)
+        return super().acquire(name, session, promise, ttl)
 
 
 class ResizesUnanswered(unittest.TestCase):
@@ -86,15 +86,15 @@ class ResizesUnanswered(unittest.TestCase):
     def test_goes_on(self) -> None:
         """It goes on up to the end of its time."""
         log = Seldom(OPENING, 3)
-        with mock.patch.object(resizing, 'ASK_AGAIN', 0.001):
-            opening = resizing.resize(log, self.wanted, PATIENCE)
+        with mock.patch.object(operations, 'ASK_AGAIN', 0.001):
+            opening = operations.resize(log, self.wanted, PATIENCE)
         self.assertEqual((opening.epoch, opening.names, log.epoch), (2, ('x', 'y'), 2))
         self.assertLess(log.silent, 0)
 
     def test_never_answered(self) -> None:
         log, begun = Seldom(OPENING, 1_000_000), seconds_of_boot()
         with self.assertRaises(Unanswered):
-            resizing.resize(log, self.wanted, 0.3)
+            operations.resize(log, self.wanted, 0.3)
         self.assertGreaterEqual(seconds_of_boot(), begun + 0.3)
 
 
@@ -139,14 +139,14 @@ class Resizes(InFolder):
             else {}
         )
 
-    def rest(self, partitions: int) -> dict[str, tuple[int, ...]]:
+    def become_stable(self, partitions: int) -> dict[str, tuple[int, ...]]:
         """The same, once they do."""
         wait_until(lambda: sum(map(len, self.owned().values())) == partitions)
         return self.owned()
 
     def resize(self, partitions: int, *names: str) -> Opening:
         with contextlib.closing(SqliteLog(self.path)) as log:
-            return resizing.resize(log, settings.Settings(Setup(len(names), partitions), names), PATIENCE)
+            return operations.resize(log, settings.Settings(Setup(len(names), partitions), names), PATIENCE)
 
     def plans(self, epoch: int) -> list[list[str]]:
         """The plans of an epoch, each with the names of the owners."""
@@ -172,12 +172,12 @@ class Resizes(InFolder):
         self.make(3, 12)
         for name in 'abc':
             self.begin(name)
-        before = self.rest(12)
+        before = self.become_stable(12)
         opening = self.resize(24, 'b', 'd', 'a', 'e', 'c')
         self.assertEqual((opening.epoch, opening.settings.setup.nodes), (2, 5))
         for name in 'de':
             self.begin(name)
-        after = self.rest(24)
+        after = self.become_stable(24)
         self.assertEqual(sorted(map(len, after.values())), [4, 5, 5, 5, 5])
         kept = sum(len(set(before[name]) & set(self.places_of(self.plans(2)[0], name))) for name in 'abc')
         self.assertEqual(kept, 12, 'the three own 4 each, and get more')
@@ -190,41 +190,41 @@ class Resizes(InFolder):
         """Who waits is woken. With this ttl it would wait for a quarter of an hour."""
         self.make(1, 3)
         self.begin('a', ttl=3600.0)
-        self.rest(3)
+        self.become_stable(3)
         begun = time.monotonic()
         self.end('a')
         self.assertLess(time.monotonic(), begun + PATIENCE)
-        self.assertEqual(dict(self.opened().look(1, 0).presences), {})
+        self.assertEqual(dict(self.opened().snapshot(1, 0).holders), {})
 
-    def test_an_idle_stranger(self) -> None:
-        """While one is present who has promised the end of the log, as `resize` has, members wait, and don't ask again
-        and again."""
+    def test_an_idle_unknown_process(self) -> None:
+        """While a process holds a lease that has promised the end of the log, as `resize` does, members wait, and don't
+        ask again and again."""
         self.make(1, 3)
-        log, life = self.opened(), Life(9, 1)
-        self.assertTrue(log.take('stranger', life, Promise(1, 0), LONG))
+        log, session = self.opened(), Session(9, 1)
+        self.assertTrue(log.acquire('unknown', session, Promise(1, 0), LONG))
         self.begin('a', ttl=2.0)
         member, _ = self.members['a']
         wait_until(lambda: member.sure_until)
-        with mock.patch.object(member.log, 'look', wraps=member.log.look) as looks:
+        with mock.patch.object(member.log, 'snapshot', wraps=member.log.snapshot) as snapshots:
             since = member.sure_until
             wait_until(lambda: member.sure_until > since + 0.9)  # it has renewed twice
-        self.assertTrue(0 < looks.call_count < 20, looks.call_count)
+        self.assertTrue(0 < snapshots.call_count < 20, snapshots.call_count)
         self.assertIsNone(member.assignment())
-        log.release('stranger', life)
-        self.rest(3)
+        log.release('unknown', session)
+        self.become_stable(3)
 
     def test_fewer_nodes(self) -> None:
         """A member whose node is gone ends, and says so."""
         self.make(3, 6)
         for name in 'abc':
             self.begin(name)
-        self.rest(6)
+        self.become_stable(6)
         with self.assertLogs('bully', 'WARNING') as told:
             self.resize(6, 'c', 'a')
             self.members.pop('b')[1].join(PATIENCE)
         self.assertIn('node b: its node is not in the group any more', told.output[0])
-        self.rest(6)
-        with self.assertRaisesRegex(NotInGroup, 'the group has no node b in epoch 2, but c, a'):
+        self.become_stable(6)
+        with self.assertRaisesRegex(NotInGroup, 'the group has no node b in epoch 2, only c, a'):
             self.begin('b')
         self.judge()
 
@@ -234,23 +234,23 @@ class Resizes(InFolder):
         log = self.opened()
         put(log, 'recover,1', 'recover,2')
         self.assertEqual(self.resize(4, 'x', 'y').names, ('x', 'y'))
-        self.assertEqual((list(log.read(1, 2)), dict(log.look(2, 0).presences)), ([], {}))
+        self.assertEqual((list(log.read(1, 2)), dict(log.snapshot(2, 0).holders)), ([], {}))
         self.assertEqual(self.resize(4, 'x', 'y').epoch, 2, 'it has these settings already')
-        self.assertTrue(log.ask(log.opening().wish(settings.Settings(Setup(1, 1), ('z',))), 2))
-        self.assertEqual((self.resize(4, 'x', 'y').epoch, log.look(2, 0).wish), (2, None), 'nothing else is wished for')
+        self.assertTrue(log.ask(log.opening().requested(settings.Settings(Setup(1, 1), ('z',))), 2))
+        self.assertEqual((self.resize(4, 'x', 'y').epoch, log.snapshot(2, 0).requested), (2, None), 'no other settings are requested')
 
     def test_not_in_time(self) -> None:
-        """The wish stays, and the epoch ends later."""
+        """The request to resize stays, and the epoch ends later."""
         self.make(2, 4)
         log = self.opened()
         put(log, 'recover,2')
-        life = Life(5, 1)
-        self.assertTrue(log.take('b', life, Promise(1, 1), LONG))
-        with self.assertRaisesRegex(resizing.NotEnded, 'epoch 1 has not ended yet, but waits for b'):
-            resizing.resize(log, settings.Settings(Setup(1, 4), ('a',)), 0.1)
-        log.release('b', life)
+        session = Session(5, 1)
+        self.assertTrue(log.acquire('b', session, Promise(1, 1), LONG))
+        with self.assertRaisesRegex(operations.NotEnded, 'epoch 1 has not ended yet; it waits for b'):
+            operations.resize(log, settings.Settings(Setup(1, 4), ('a',)), 0.1)
+        log.release('b', session)
         self.begin('a')
-        self.rest(4)
+        self.become_stable(4)
         self.assertEqual(self.opened().epochs(), range(1, 3))
         self.judge()
 
@@ -259,11 +259,11 @@ class Resizes(InFolder):
         self.make(3, 7)
         for name in 'abc':
             self.begin(name)
-        before = self.rest(7)
+        before = self.become_stable(7)
         log = self.opened()
         for epoch in range(1, 4):
             opening = log.opening(epoch)
-            self.assertTrue(log.ask(opening.wish(opening.settings), epoch))
+            self.assertTrue(log.ask(opening.requested(opening.settings), epoch))
             wait_until(lambda: log.epochs()[-1] > epoch and self.owned())
             self.assertEqual((log.epochs()[-1], self.owned()), (epoch + 1, before))
             self.assertEqual(len(self.plans(epoch + 1)), 1)
@@ -293,9 +293,9 @@ class Resizes(InFolder):
             self.begin(name)
         log = self.opened()
         while log.epochs()[-1] < 4:
-            self.rest(6)
+            self.become_stable(6)
             self.end('a')
-            self.rest(6)
+            self.become_stable(6)
             self.begin('a')
-        self.rest(6)
+        self.become_stable(6)
         self.judge()

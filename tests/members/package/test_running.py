@@ -6,13 +6,13 @@ import threading
 from typing import cast
 from unittest import mock
 
-from bully import NotLearned, Replica, Setup, check, running, settings, view
+from bully import NotLearned, Replica, Setup, check, settings, view
 from bully.clocks import SECOND, seconds_of_boot
+from bully.core import TTL_MIN, Promise, Session
 from bully.epochs import Opening
-from bully.logs import Holder
-from bully.member import TTL_MIN, Life, Promise
+from bully.member import Assignment, Member, OtherGroup, is_known
 from bully.memory import MemoryLog
-from bully.running import Assignment, Member, OtherGroup
+from bully.shared_log import Holder, LogError
 from ..steps import HEADER, LONG, OPENING
 from ..waiting import wait_until
 from .threads import Noting, Slow, Threads, Troubled
@@ -21,13 +21,13 @@ from .threads import Noting, Slow, Threads, Troubled
 DAY = 86_400.0
 
 
-def settled_without(log: MemoryLog, *absent: str) -> None:
-    """The others are present, have settled the group, and may work."""
+def rebalanced_without(log: MemoryLog, *absent: str) -> None:
+    """The others hold leases, have rebalanced the group, and may work."""
     names = [name for name in OPENING.names if name not in absent]
     for name in names:
-        assert log.take(name, Life(9, int(name)), Promise(1, 0), LONG)
+        assert log.acquire(name, Session(9, int(name)), Promise(1, 0), LONG)
     with Replica(HEADER) as replica:
-        assert log.append(1, 0, replica.settle(map(int, names)))
+        assert log.append(1, 0, replica.rebalance(map(int, names)))
 
 
 class Running(Threads):
@@ -49,7 +49,7 @@ class Running(Threads):
         self.assertIsNone(members[3][0].assignment())
         wait_until(lambda: all(len(getattr(members[node][0].assignment(), 'partitions', ())) == 3 for node in (1, 2)))
         self.assertIn('crash,3', log.rows)
-        self.assertEqual(set(log.presences), {'1', '2'})
+        self.assertEqual(set(log.holders), {'1', '2'})
         self.assertTrue(check('\n'.join([HEADER, *log.rows, '']).encode()).is_lawful)
 
     def test_until(self) -> None:
@@ -87,7 +87,7 @@ class Running(Threads):
         wait_until(member.assignment)
         member.leave()
         thread.join()
-        self.assertEqual((log.rows[-1], log.presences), ('crash,1', {}))
+        self.assertEqual((log.rows[-1], log.holders), ('crash,1', {}))
         self.assertEqual(told, [f'start {self.token_of(log)}', f'stop {self.token_of(log)}'])
 
     def test_a_second_process_is_told(self) -> None:
@@ -95,15 +95,15 @@ class Running(Threads):
         log = MemoryLog(OPENING)
         first, _, thread = self.begin(log, 1)
         wait_until(first.assignment)
-        life = log.presences['1'].life
+        session = log.holders['1'].session
         with self.assertLogs('bully', 'WARNING') as said:
             second, told, _ = self.begin(log, 1)
             wait_until(lambda: said.output)
-            self.begin(log, 3)  # it looks again at each change
-            wait_until(lambda: '3' in log.presences and first.assignment() and second.core.place == len(log.rows))
+            self.begin(log, 3)  # it reads a snapshot again at each change
+            wait_until(lambda: '3' in log.holders and first.assignment() and second.core.offset == len(log.rows))
             self.assertEqual((len(said.output), told, second.assignment()), (1, [], None))
             self.assertIn(
-                f'node 1: another process is present for it, as {life.process}.{life.number}, and this one waits',
+                f'node 1: another process is live for it, as {session.process}.{session.number}, and this one waits',
                 said.output[0],
             )
         first.leave()
@@ -142,18 +142,18 @@ class Running(Threads):
         self.assertEqual([words.split()[0] for words in told], ['start', 'stop'] * (len(told) // 2) + ['start'])
 
     def test_a_slow_stop(self) -> None:
-        """While work stops the presence is renewed, and nothing is appended."""
+        """While work stops the lease is renewed, and nothing is appended."""
         log, is_over = MemoryLog(OPENING), threading.Event()
         member, _, _ = self.begin(log, 1, ttl=1.0, stop=lambda work: is_over.wait())
         wait_until(member.assignment)
-        rows, life = log.rows[:], log.presences['1'].life
+        rows, session = log.rows[:], log.holders['1'].session
         self.begin(log, 3, ttl=1.0)
         self.addCleanup(is_over.set)
         begun = seconds_of_boot()
         wait_until(lambda: seconds_of_boot() > begun + 2.0)
-        self.assertEqual((log.rows, log.presences['1'].life), (rows, life))
+        self.assertEqual((log.rows, log.holders['1'].session), (rows, session))
         self.assertTrue(
-            member.sure_until > seconds_of_boot() and member.assignment() is None, 'it is present, and may not work'
+            member.sure_until > seconds_of_boot() and member.assignment() is None, 'it is live, and may not work'
         )
         shown = view.LogView(log, ttl=1.0)
         self.addCleanup(shown.close)
@@ -163,13 +163,13 @@ class Running(Threads):
         self.assertEqual(shown.show().behind, {})
 
     def test_behind(self) -> None:
-        """A member tells a view since when others wait."""
+        """A member shows in a view since when others wait."""
         log, is_over = MemoryLog(OPENING), threading.Event()
         slow, _, _ = self.begin(log, 1, stop=lambda work: is_over.wait())
         wait_until(slow.assignment)
         other, _, _ = self.begin(log, 3)
         self.addCleanup(is_over.set)
-        wait_until(lambda: '3' in log.presences and other.behind._since)
+        wait_until(lambda: '3' in log.holders and other.behind._since)
         begun = seconds_of_boot()
         wait_until(lambda: seconds_of_boot() > begun + 0.5)
         shown = view.LogView(log, other.behind)
@@ -186,10 +186,10 @@ class Running(Threads):
         _, told, thread = self.begin(log, 1, start=start)
         self.ends_by(thread, KeyError)
         self.assertEqual(told, [f'stop {self.token_of(log)}'])
-        self.assertEqual((log.rows[-1], log.presences), ('crash,1', {}))
+        self.assertEqual((log.rows[-1], log.holders), ('crash,1', {}))
 
     def test_a_stop_that_raises(self) -> None:
-        """Nothing is given back before the presence has ended: the work may go on."""
+        """Nothing is given back before the lease has ended: the work may go on."""
 
         def stop(assignment: Assignment) -> None:
             raise KeyError('here')
@@ -200,10 +200,32 @@ class Running(Threads):
         rows = len(log.rows)
         member.leave()
         self.ends_by(thread, KeyError)
-        self.assertEqual((len(log.rows), set(log.presences)), (rows, {'1'}))
+        self.assertEqual((len(log.rows), set(log.holders)), (rows, {'1'}))
+
+    def test_a_log_that_fails(self) -> None:
+        """Work stops once, whether or not it is stopping when its member ends by a fault of the log."""
+        for is_stopping in (False, True):
+            with self.subTest(is_stopping=is_stopping):
+                log, is_over, told = MemoryLog(OPENING), threading.Event(), cast(list[str], [])
+
+                def stop(work: Assignment) -> None:
+                    told.append('stop')
+                    is_over.wait()
+
+                member, _, thread = self.begin(log, 1, ttl=1.0, start=lambda work: told.append('start'), stop=stop)
+                self.addCleanup(is_over.set)
+                wait_until(member.assignment)
+                if is_stopping:
+                    member.leave()
+                    wait_until(lambda: told[-1] == 'stop')
+                with mock.patch.object(log, 'renew', side_effect=LogError('here')) as renewed:
+                    wait_until(lambda: renewed.called and member.assignment() is None)
+                    is_over.set()
+                    self.ends_by(thread, LogError)
+                self.assertEqual(told, ['start', 'stop'])
 
     def test_a_row_that_is_refused(self) -> None:
-        """It ends, and tells why."""
+        """It ends, and says why."""
         log = MemoryLog(OPENING)
         member, told, thread = self.begin(log, 1)
         wait_until(member.assignment)
@@ -211,33 +233,33 @@ class Running(Threads):
             log.rows.append('recover,1')
             log._changed.notify_all()
         self.ends_by(thread, NotLearned)
-        self.assertEqual((len(told), log.presences), (2, {}))
+        self.assertEqual((len(told), log.holders), (2, {}))
 
-    def test_a_stranger(self) -> None:
-        """While somebody is present who isn't of the group, and may work, nobody asks to append anything."""
+    def test_an_unknown_process(self) -> None:
+        """While a process holds a lease that isn't of the group, and may work, nobody asks to append anything."""
         log, sure = Noting(OPENING), cast(list[float], [])
-        self.assertTrue(log.take('stranger', Life(9, 1), Promise(1, 0), LONG))
+        self.assertTrue(log.acquire('unknown', Session(9, 1), Promise(1, 0), LONG))
         with log._changed:
-            log.leases['stranger'] = log.leases['stranger']._replace(holder=Holder(Life(9, 1), Promise()))
+            log.leases['unknown'] = log.leases['unknown']._replace(holder=Holder(Session(9, 1), Promise()))
         member, _, _ = self.begin(log, 1, sure=sure.append)
         wait_until(lambda: len(sure) > 2)
         self.assertEqual((log.appends, member.assignment()), ([], None))
-        log.release('stranger', Life(9, 1))
+        log.release('unknown', Session(9, 1))
         wait_until(member.assignment)
         self.assertEqual(log.appends, [0])
 
     def test_a_table_is_handed_on(self) -> None:
         """An epoch that ends before it has a plan hands on the table of the one before."""
-        log, life, table = MemoryLog(OPENING), Life(9, 1), (3, 2, 1, 1, 2, 3)
-        self.assertTrue(log.take('stranger', life, Promise(1, 0), LONG) and log.finish(1, 0, OPENING.next(None, table)))
-        log.release('stranger', life)
-        self.assertTrue(log.ask(log.opening().wish(OPENING.settings), 2))
+        log, session, table = MemoryLog(OPENING), Session(9, 1), (3, 2, 1, 1, 2, 3)
+        self.assertTrue(log.acquire('unknown', session, Promise(1, 0), LONG) and log.roll_over(1, 0, OPENING.next(None, table)))
+        log.release('unknown', session)
+        self.assertTrue(log.ask(log.opening().requested(OPENING.settings), 2))
         self.begin(log, 1)
         wait_until(lambda: log.epoch == 3)
         self.assertEqual((log.read(2, 0), log.opening().table), ([], table))
 
-    def test_a_wish_waits(self) -> None:
-        """Who works where something else is wished for is behind."""
+    def test_a_request_waits(self) -> None:
+        """A member that works while other settings are requested is behind."""
         log, is_over = MemoryLog(OPENING), threading.Event()
         member, _, _ = self.begin(log, 1, stop=lambda work: is_over.wait())
         self.addCleanup(is_over.set)
@@ -245,76 +267,81 @@ class Running(Threads):
         shown = view.LogView(log)
         self.addCleanup(shown.close)
         self.assertEqual(shown.show().behind, {})
-        self.assertTrue(log.ask(OPENING.wish(OPENING.settings), 1))
+        self.assertTrue(log.ask(OPENING.requested(OPENING.settings), 1))
         self.assertEqual(list(shown.show().behind), ['1'])
         is_over.set()
         wait_until(lambda: log.epoch == 2)
 
     def test_a_full_log_waits(self) -> None:
-        """So is who works where the log has room for no other settlement: 11 rows for each of three nodes."""
+        """So is a member that works while the log has no room for another rebalance: 11 rows for each of three
+        nodes."""
         rows: list[str] = []
         with Replica(HEADER) as replica:
             while len(rows) < 66:
-                rows += replica.settle([1])
+                rows += replica.rebalance([1])
                 replica.learn(rows[replica.rows :])
         for room, behind in ((33, []), (32, ['1'])):
             log = MemoryLog(Opening(1, HEADER, OPENING.names, len(rows) + room))
-            self.assertTrue(log.take('1', Life(9, 1), Promise(1, 0), LONG))
+            self.assertTrue(log.acquire('1', Session(9, 1), Promise(1, 0), LONG))
             log.rows.extend(rows)
             shown = view.LogView(log)
             self.addCleanup(shown.close)
             self.assertEqual(list(shown.show().behind), behind, room)
 
     def test_who_comes_again_and_again(self) -> None:
-        """Its node is Down in the log, and it counts only once it has stayed, so that the others work on meanwhile. Who
-        looked before knows for how long each life has to stay; one look doesn't."""
+        """Its node is Down in the log, and it is admitted only once it has stayed, so that the others work on
+        meanwhile. A view that has read snapshots before knows for how long each session has to stay; a new one
+        doesn't."""
         log = MemoryLog(OPENING)
-        settled_without(log, '3')
+        rebalanced_without(log, '3')
         kept = view.LogView(log, ttl=DAY)
         self.addCleanup(kept.close)
         for number in range(1, 8):
-            self.assertTrue(log.take('3', Life(8, number), Promise(1, len(log.rows)), LONG))
+            self.assertTrue(log.acquire('3', Session(8, number), Promise(1, len(log.rows)), LONG))
             fresh = view.LogView(log, ttl=DAY)
             self.addCleanup(fresh.close)
             for shown in (kept.show(), fresh.show()):
-                self.assertEqual((shown.is_well, shown.is_at_rest, shown.behind), (True, True, {}))
-                self.assertEqual([node.is_present for node in shown.nodes], [True] * 3)
-            log.release('3', Life(8, number))
+                self.assertEqual((shown.is_well, shown.is_stable, shown.behind), (True, True, {}))
+                self.assertEqual([node.is_live for node in shown.nodes], [True] * 3)
+            log.release('3', Session(8, number))
 
     def test_who_has_come_to_stay(self) -> None:
-        """Once it counts the others stop their work for it, and are told to be behind, up to when they are idle."""
+        """Once it is admitted the others stop their work for it, and are shown to be behind, up to when they are
+        idle."""
         log = MemoryLog(OPENING)
-        settled_without(log, '3')
+        rebalanced_without(log, '3')
         shown = view.LogView(log, ttl=TTL_MIN / SECOND)
         self.addCleanup(shown.close)
         end = Promise(1, len(log.rows))
-        self.assertTrue(shown.show().is_well and log.take('3', Life(8, 1), end, LONG))
-        wait_until(lambda: not shown.show().is_at_rest)
+        self.assertTrue(shown.show().is_well and log.acquire('3', Session(8, 1), end, LONG))
+        wait_until(lambda: not shown.show().is_stable)
         group = shown.show()
         self.assertEqual((group.is_well, list(group.behind)), (False, ['1', '2']))
-        self.assertTrue(log.promise('1', Life(9, 1), end))
+        self.assertTrue(log.promise('1', Session(9, 1), end))
         group = shown.show()
         self.assertEqual(list(group.behind), ['2'])
         self.assertEqual(set(group.owners), {None, '2'}, 'the idle one may not work by that plan any more')
 
     def test_who_may_work(self) -> None:
-        """Whom the last plan gives a partition, while that one is present, and has promised nothing behind the plan."""
+        """A node to which the last plan gives a partition, while it is live, and has promised nothing after the
+        plan."""
         log = MemoryLog(OPENING)
-        settled_without(log, '3')
+        rebalanced_without(log, '3')
         shown = view.LogView(log)
         self.addCleanup(shown.close)
         group = shown.show()
         self.assertEqual((set(group.owners), group.is_well), ({'1', '2'}, True))
-        log.release('1', Life(9, 1))
+        log.release('1', Session(9, 1))
         group = shown.show()
         self.assertEqual((set(group.owners), group.is_well), ({None, '2'}, False))
         self.assertEqual(group.owners.count(None), len(group.nodes[0].partitions), 'its plan stands still')
-        self.assertTrue(log.take('1', Life(8, 1), Promise(1, len(log.rows)), LONG))
+        self.assertTrue(log.acquire('1', Session(8, 1), Promise(1, len(log.rows)), LONG))
         group = shown.show()
         self.assertEqual((set(group.owners), group.is_well, list(group.behind)), ({None, '2'}, False, ['2']))
 
     def test_a_second_process(self) -> None:
-        """Who waits until its node's presence is free doesn't know whether others rest, and names nobody as behind."""
+        """A member that waits until its node's lease is free doesn't know whether the group is stable, and names nobody
+        as behind."""
         log = MemoryLog(OPENING)
         first, _, _ = self.begin(log, 1)
         wait_until(first.assignment)
@@ -324,11 +351,11 @@ class Running(Threads):
         self.assertEqual((second.assignment(), second.behind._since), (None, {}))
 
     def test_how_long_behind(self) -> None:
-        """It counts from when it was seen first, at this end of the log, by this life."""
+        """It counts from when it was seen first, at this end of the log, by this session."""
         late, one, other = (
             view.Behind(),
-            {'a': Holder(Life(1, 1), Promise(1, 3))},
-            {'a': Holder(Life(1, 2), Promise(1, 3))},
+            {'a': Holder(Session(1, 1), Promise(1, 3))},
+            {'a': Holder(Session(1, 2), Promise(1, 3))},
         )
         seen = [
             (4, one, False, {'a': 0.0}), (4, one, False, {'a': 2.0}), (5, one, False, {'a': 0.0}),
@@ -336,8 +363,8 @@ class Running(Threads):
             (5, other, False, {'a': 0.0}), (3, other, False, {}),
         ]  # fmt: skip
         with mock.patch.object(view, 'seconds_of_boot', side_effect=range(10, 100, 2)):
-            for place, presences, rests, wanted in seen:
-                self.assertEqual(late.see(Promise(1, place), presences, rests), wanted)
+            for offset, holders, is_stable, wanted in seen:
+                self.assertEqual(late.see(Promise(1, offset), holders, is_stable), wanted)
 
     def test_other_group(self) -> None:
         with self.assertRaises(OtherGroup):
@@ -345,16 +372,16 @@ class Running(Threads):
 
     def test_a_group_of_many_epochs(self) -> None:
         """Only so many openings are read as are needed to know the group: the last ones first."""
-        log, life = MemoryLog(OPENING), Life(9, 1)
-        self.assertTrue(log.take('stranger', life, Promise(1, 0), LONG))
+        log, session = MemoryLog(OPENING), Session(9, 1)
+        self.assertTrue(log.acquire('unknown', session, Promise(1, 0), LONG))
         for epoch in range(1, 5):
             self.assertTrue(
-                log.promise('stranger', life, Promise(epoch, 0)) and log.finish(epoch, 0, log.opening().next(None, ()))
+                log.promise('unknown', session, Promise(epoch, 0)) and log.roll_over(epoch, 0, log.opening().next(None, ()))
             )
         with mock.patch.object(log, 'opening', wraps=log.opening) as asked:
-            self.assertTrue(running.is_known(log, OPENING.settings))
+            self.assertTrue(is_known(log, OPENING.settings))
             asked.assert_called_once_with(5)
-            self.assertFalse(running.is_known(log, settings.Settings(Setup(3, 7), ('1', '2', '3'))))
+            self.assertFalse(is_known(log, settings.Settings(Setup(3, 7), ('1', '2', '3'))))
             self.assertEqual(asked.call_count, 6)
 
     def test_with(self) -> None:

@@ -8,10 +8,10 @@ import threading
 import unittest
 from unittest import mock
 
-from bully import messages, service
-from bully.logs import Found
+from bully import messages, systemd
+from bully.member import Member
 from bully.memory import MemoryLog
-from bully.running import Member
+from bully.shared_log import Snapshot
 from bully.worker import Workers
 from ..processes import full_pipe
 from ..steps import OPENING
@@ -60,7 +60,7 @@ class Said(unittest.TestCase):
             [line.rpartition('number ')[2] for line in lines], [str(number) for number in range(len(lines))]
         )
         self.assertGreaterEqual(len(lines), messages.WAITING_MAX)
-        self.assertRegex(told, f' bully-member: {1500 - len(lines)} messages were left out, since nobody read them$')
+        self.assertRegex(told, f' bully-member: {1500 - len(lines)} messages were left out, because nobody read them$')
 
     def test_one_line(self) -> None:
         """What can't be printed of a name or a path in it ends no line, and turns nothing."""
@@ -70,13 +70,13 @@ class Said(unittest.TestCase):
 
 
 class Blocked(MemoryLog):
-    """A log in which nobody looks while `goes_on` isn't set."""
+    """A log of which nobody gets a snapshot while `goes_on` isn't set."""
 
     goes_on = threading.Event()
 
-    def look(self, epoch: int, place: int) -> Found:
+    def snapshot(self, epoch: int, offset: int) -> Snapshot:
         self.goes_on.wait()
-        return super().look(epoch, place)
+        return super().snapshot(epoch, offset)
 
 
 class Services(InFolder):
@@ -91,7 +91,7 @@ class Services(InFolder):
             manager.bind(str(self.folder / 'manager'))
             manager.settimeout(PATIENCE)
             with mock.patch.dict(os.environ, NOTIFY_SOCKET=str(self.folder / 'manager'), WATCHDOG_USEC='30000'):
-                told = service.Service(member, Workers(['true'], '1', 0.0))
+                told = systemd.Service(member, Workers(['true'], '1', 0.0))
             thread = threading.Thread(target=member.run)
             thread.start()
             self.addCleanup(thread.join)

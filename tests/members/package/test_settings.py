@@ -41,14 +41,14 @@ class Configurations(unittest.TestCase):
 
     def test_examples(self) -> None:
         places = (ROOT / 'examples').rglob('*.toml')
-        for path in sorted(place for place in places if place.name != 'Cargo.toml'):
+        for path in sorted(path for path in places if path.name != 'Cargo.toml'):
             with self.subTest(path=path.name):
                 read = settings.read_settings(path.read_bytes())
                 self.assertEqual(len(read.names), read.setup.nodes)
                 self.assertEqual([read.number(name) for name in read.names], list(range(1, read.setup.nodes + 1)))
 
     def test_values(self) -> None:
-        """What it tells beside the names is told by the header of a log, and names may have any characters."""
+        """What it has besides the names is in the header of a log, and names may have any characters."""
         names = ('a:b', '\n1:c', '\u00e9\0', '"')
         cases: list[tuple[dict[str, Any], str]] = [
             ({}, 'bully,1,4,6'), ({'weights': [1, 1, 1, 1]}, 'bully,1,4,6'),

@@ -10,9 +10,9 @@ from collections.abc import Callable, Sequence
 from types import SimpleNamespace
 from typing import Any
 
-from bully.guard import ENDS
-from bully.resizing import Pruning
-from bully.service import Service
+from bully.processes import ENDS
+from bully.pruning import Pruning
+from bully.systemd import Service
 from ..processes import children, has_loaded, is_running, name_of, parent_of, waits_for
 from ..waiting import PATIENCE, wait_until
 from .member_processes import BEGINS, WithMember, started
@@ -25,7 +25,7 @@ class Signals(WithMember):
     """Signals that tell a member to leave."""
 
     def test_each(self) -> None:
-        """It leaves in order: nothing of its worker is left, and its presence is given back."""
+        """It leaves in order: nothing of its worker is left, and its lease is given back."""
         member = self.begin(BEGINS)
         for count, number in enumerate(ENDS):
             with self.subTest(signal=number.name):
@@ -33,14 +33,14 @@ class Signals(WithMember):
                     member.begin_again()
                 worker = member.worker()
                 (self.folder / 'begun').unlink()
-                guard = parent_of(worker)
+                watchdog = parent_of(worker)
                 wait_until(lambda: name_of(worker) == 'sleep')
                 self.assertFalse(waits_for(worker, number), 'a worker begins as any process')
-                os.kill(guard, number)  # as all processes of a service may get it
+                os.kill(watchdog, number)  # as all processes of a service may get it
                 member.process.send_signal(number)
                 self.assertEqual(member.wait(), 0)
                 self.assertIn(f'node the only: {number.name} told it to leave\n', member.said)
-                self.assertFalse(is_running(worker) or is_running(guard))
+                self.assertFalse(is_running(worker) or is_running(watchdog))
                 self.assertEqual(self.left(), ('crash,1', {}))
 
     def test_a_hangup_that_is_ignored(self) -> None:
@@ -63,11 +63,11 @@ class Signals(WithMember):
         return started(self.folder, [*within, *self.words])
 
     def until(self) -> int:
-        """Up to when the presence is held."""
+        """Up to when the lease is held."""
         return int(self.opened()._one('select max(until) from presence'))
 
     def test_as_it_begins(self) -> None:
-        """At whichever moment: it has taken nothing yet, or gives it back."""
+        """At whichever moment: it has acquired nothing yet, or releases it."""
         self.begin(BEGINS).kill()
         for moment in MOMENTS:
             with self.subTest(moment=moment):
@@ -75,7 +75,7 @@ class Signals(WithMember):
                 time.sleep(moment)
                 member.terminate()
                 self.assertIn(member.wait(PATIENCE), (0, -signal.SIGTERM), (self.folder / 'said').read_text())
-                self.assertEqual(self.opened().look(1, 0).presences, {})
+                self.assertEqual(self.opened().snapshot(1, 0).holders, {})
 
     def test_what_has_not_begun(self) -> None:
         """A signal may come before a thread has begun, which is ended all the same."""
@@ -113,7 +113,7 @@ class Signals(WithMember):
                 time.sleep(moment)
                 os.kill(first, signal.SIGTERM)
                 self.assertEqual(container.wait(PATIENCE), 0)
-                self.assertEqual(self.opened().look(1, 0).presences, {})
+                self.assertEqual(self.opened().snapshot(1, 0).holders, {})
 
 
 def has_loaded_package(process: int) -> bool:

@@ -8,8 +8,8 @@ from unittest import mock
 from bully import Setup, settings, sqlite
 from bully.epochs import Opening, Token
 from bully.group import setup_of
-from bully.logs import Log
 from bully.memory import MemoryLog
+from bully.shared_log import Log
 from ..steps import EMPTY, HEADER, LONG, OPENING, A, Clock
 from .epoch_laws import EpochLaws
 from .folders import WithLogs
@@ -86,7 +86,7 @@ class EpochsInFile(WithLogs, EpochLaws):
 class Races(WithLogs):
     def test_processes(self) -> None:
         log = self.created()
-        self.assertTrue(log.take('a', A, EMPTY, LONG))
+        self.assertTrue(log.acquire('a', A, EMPTY, LONG))
         race(self, log, 'file', str(self.path))
 
 
@@ -96,15 +96,15 @@ class Openings(unittest.TestCase):
     def test_next(self) -> None:
         """The last table is carried over by name, and the first partitions stay."""
         first = Opening.first(Setup(3, 6).header(), ('a', 'b', 'c'), 700)
-        wish = first.wish(settings.Settings(Setup(4, 8, weights=(1, 2, 3, 4)), ('c', 'd', 'a', 'e')))
-        after = first.next(wish, (1, 2, 3, 3, 2, 1))
+        requested = first.requested(settings.Settings(Setup(4, 8, weights=(1, 2, 3, 4)), ('c', 'd', 'a', 'e')))
+        after = first.next(requested, (1, 2, 3, 3, 2, 1))
         self.assertEqual(
             after, Opening(2, 'bully,2,4,8,1 2 3 4,clear', ('c', 'd', 'a', 'e'), 700, (3, 0, 1, 1, 0, 3, 0, 0))
         )
-        self.assertEqual((Opening.parse(after.text()), after.bare), (after, wish))
-        fewer = after.next(after.wish(settings.Settings(Setup(1, 3), ('a',))), after.table)
+        self.assertEqual((Opening.parse(after.text()), after.bare), (after, requested))
+        fewer = after.next(after.requested(settings.Settings(Setup(1, 3), ('a',))), after.table)
         self.assertEqual(fewer, Opening(3, 'bully,1,1,3', ('a',), 700, (1, 0, 0)))
-        self.assertEqual(after.next(after.wish(settings.Settings(Setup(1, 3), ('z',))), after.table).table, ())
+        self.assertEqual(after.next(after.requested(settings.Settings(Setup(1, 3), ('z',))), after.table).table, ())
         self.assertEqual(first.next(None, ()), Opening(2, first.header, first.names, 700))
         for setup in (
             Setup(3, 6),
@@ -117,7 +117,7 @@ class Openings(unittest.TestCase):
     def test_limits(self) -> None:
         """An epoch may have 22 rows for each node at least."""
         first = Opening.first(HEADER, limit=10)
-        more = first.wish(settings.Settings(Setup(1024, 4096), tuple(map(str, range(1024)))))
+        more = first.requested(settings.Settings(Setup(1024, 4096), tuple(map(str, range(1024)))))
         self.assertEqual((first.limit, Opening.first(HEADER).limit, more.limit), (66, 1_000_000, 22 * 1024))
         self.assertEqual(Opening.first(HEADER, limit=10**9).limit, 1_000_000)
 

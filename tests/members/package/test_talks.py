@@ -8,11 +8,11 @@ import sys
 import threading
 from pathlib import Path
 
-from bully import Setup, clocks, guard
+from bully import Setup, clocks, watchdog
 from bully.epochs import Token
-from bully.running import Assignment
+from bully.member import Assignment
 from bully.settings import Settings
-from bully.worker import GUARD, Workers
+from bully.worker import WATCHDOG, Workers
 from places import ROOT
 from ..processes import children, descriptors_of, is_running
 from ..waiting import PATIENCE, wait_until
@@ -43,7 +43,7 @@ for line in sys.stdin:
     if begun == 2 and way == 'fails':
         sys.exit(9)
 """
-# Answers without an end, and tells by a file once more of that was taken than a pipe holds.
+# Answers without an end, and makes a file once more of that was read than a pipe holds.
 FLOODING = """
 import os, sys
 for _ in range(10):
@@ -66,7 +66,7 @@ class Talks(Below):
         return workers
 
     def heard(self, count: int) -> list[str]:
-        """What workers were told, each behind its process, once there are so many lines."""
+        """What workers were told, each after its process, once there are so many lines."""
         file = self.folder / 'told'
         wait_until(lambda: file.exists() and file.read_text().count('\n') >= count)
         return file.read_text().splitlines()
@@ -99,7 +99,7 @@ class Talks(Below):
         """A line may be longer than a pipe holds, and is read slowly."""
         workers = self.begin('talks')
         workers.stop(assigned(0))
-        names = tuple(f'{number:0300}' for number in range(1000))  # more than a message to the guard has room for
+        names = tuple(f'{number:0300}' for number in range(1000))  # more than a message to the watchdog has room for
         for events in (3, 4):
             workers.start(Assignment(Token.of(4, events), 3, tuple(range(4096)), Settings(Setup(1000, 4096), names)))
             told = json.loads(self.heard(2 * events - 3)[-1].partition(' ')[2])
@@ -166,11 +166,11 @@ class Talks(Below):
         self.assertEqual(self.failures, [])
 
     def test_descriptors(self) -> None:
-        """Workers that come and go leave none in the guard."""
+        """Workers that come and go leave none in the watchdog."""
         workers = self.begin('ends')
         counts = []
         for events in range(3, 7):
-            counts.append(descriptors_of(workers._guard.pid))
+            counts.append(descriptors_of(workers._watchdog.pid))
             workers.stop(assigned(0))
             workers.start(assigned(events, 1))
             self.heard(2 * events - 3)
@@ -183,27 +183,27 @@ class Talks(Below):
         workers = self.made(
             ['sh', '-c', 'trap "echo stopped >&3" TERM; echo > "$0"; while :; do sleep 0.01; done', str(begun)], 0.2
         )
-        self.addCleanup(workers._guard.kill)
+        self.addCleanup(workers._watchdog.kill)
         workers.start(assigned(2, 0))
         wait_until(begun.exists)
-        (worker,) = children(workers._guard.pid)
+        (worker,) = children(workers._watchdog.pid)
         workers._channel.shutdown(socket.SHUT_RDWR)
         wait_until(lambda: not is_running(worker))
-        workers._guard.wait(PATIENCE)
+        workers._watchdog.wait(PATIENCE)
 
     def test_what_a_member_did_not_read(self) -> None:
-        """A guard whose member is gone, and didn't read all that it said, ends its worker with what that started."""
+        """A watchdog whose member is gone, and didn't read all that it said, ends its worker with what that started."""
         child = self.folder / 'child'
         begins = 'sleep 1000 & echo $! > "$0.new"; mv "$0.new" "$0"'
         worker = f'{begins}; read -r line; read -r line; echo stopped >&3; read -r line'
         channel, given = socket.socketpair(socket.AF_UNIX, socket.SOCK_SEQPACKET)
         with channel, given, open(self.folder / 'said', 'wb') as said:
             words = [
-                sys.executable, '-I', '-S', GUARD, str(given.fileno()), '0.2', 'talks', '', '1.0', 'sh', '-c', worker,
+                sys.executable, '-I', '-S', WATCHDOG, str(given.fileno()), '0.2', 'talks', '', '1.0', 'sh', '-c', worker,
                 str(child),
             ]  # fmt: skip
-            guard = subprocess.Popen(words, stdin=subprocess.DEVNULL, stderr=said, pass_fds=[given.fileno()])
-            self.addCleanup(guard.kill)
+            watchdog = subprocess.Popen(words, stdin=subprocess.DEVNULL, stderr=said, pass_fds=[given.fileno()])
+            self.addCleanup(watchdog.kill)
             given.close()
             for message in (f'until {clocks.nanoseconds_of_boot() + 10**12}', 'begin {}'):
                 channel.send(message.encode())
@@ -212,7 +212,7 @@ class Talks(Below):
             self.assertEqual(
                 clocks.sleep_until_ready(PATIENCE, channel.fileno()), [channel.fileno()]
             )  # it has said that nothing is worked on
-        self.assertEqual((guard.wait(PATIENCE), (self.folder / 'said').read_text()), (0, ''))
+        self.assertEqual((watchdog.wait(PATIENCE), (self.folder / 'said').read_text()), (0, ''))
         self.assertFalse(is_running(int(child.read_text())))
 
     def test_too_many_answers(self) -> None:
@@ -221,10 +221,10 @@ class Talks(Below):
             with self.subTest(patience=patience):
                 begun = self.folder / f'begun {patience}'
                 workers = self.made([sys.executable, '-c', FLOODING, str(begun)], patience)
-                self.addCleanup(workers._guard.kill)
+                self.addCleanup(workers._watchdog.kill)
                 workers.start(assigned(2, 0))
                 wait_until(begun.exists)
-                (worker,) = children(workers._guard.pid)
+                (worker,) = children(workers._watchdog.pid)
                 workers.hear_until(clocks.seconds_of_boot() + seconds)
                 thread = threading.Thread(target=workers.stop, args=[assigned(0)], daemon=True)
                 thread.start()
@@ -263,7 +263,7 @@ class Talks(Below):
                     wanted = f'{Token.of(4, events)} x'
                     files = [folder / str(each) for each in partitions]
                     wait_until(lambda: all(file.exists() and file.read_text().count(wanted) > 1 for file in files))
-                    processes.add(children(workers._guard.pid)[0])
+                    processes.add(children(workers._watchdog.pid)[0])
                     workers.stop(assigned(0))
                     before, sizes = sizes, {file: file.stat().st_size for file in folder.iterdir()}
                     self.assertEqual(

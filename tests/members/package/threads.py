@@ -8,21 +8,21 @@ from collections.abc import Callable, Sequence
 from typing import Any
 
 from bully.clocks import seconds_of_boot
+from bully.core import Promise, Session
 from bully.epochs import Opening, Token
-from bully.logs import Found, Log, Unanswered
-from bully.member import Life, Promise
+from bully.member import Member
 from bully.memory import MemoryLog
-from bully.running import Member
+from bully.shared_log import Log, Snapshot, Unanswered
 from ..steps import LONG
 from ..waiting import PATIENCE
 
 
 def put(log: Log, *rows: str) -> None:
-    """The rows stand at the end of the log, by a stranger to the group."""
+    """The rows are at the end of the log, by a process that the group doesn't know."""
     epoch = log.epochs()[-1]
-    place, life = len(log.read(epoch, 0)), Life(1, time.monotonic_ns())
-    assert log.take('stranger', life, Promise(epoch, place), LONG) and log.append(epoch, place, rows)
-    log.release('stranger', life)
+    offset, session = len(log.read(epoch, 0)), Session(1, time.monotonic_ns())
+    assert log.acquire('unknown', session, Promise(epoch, offset), LONG) and log.append(epoch, offset, rows)
+    log.release('unknown', session)
 
 
 class Troubled(MemoryLog):
@@ -36,25 +36,25 @@ class Troubled(MemoryLog):
         if self.is_silent:
             raise Unanswered('silent')
 
-    def renew(self, name: str, life: Life, ttl: int) -> bool:
+    def renew(self, name: str, session: Session, ttl: int) -> bool:
         self.check()
-        return super().renew(name, life, ttl)
+        return super().renew(name, session, ttl)
 
-    def look(self, epoch: int, place: int) -> Found:
+    def snapshot(self, epoch: int, offset: int) -> Snapshot:
         self.check()
-        return super().look(epoch, place)
+        return super().snapshot(epoch, offset)
 
 
 class Slow(MemoryLog):
-    """A log that is slow to answer that a presence was taken or renewed. When the last such request began is kept."""
+    """A log that is slow to answer that a lease was acquired or renewed. When the last such request began is kept."""
 
     begun = 0.0
 
-    def take(self, name: str, life: Life, promise: Promise, ttl: int) -> bool:
-        return self.slowly(super().take(name, life, promise, ttl))
+    def acquire(self, name: str, session: Session, promise: Promise, ttl: int) -> bool:
+        return self.slowly(super().acquire(name, session, promise, ttl))
 
-    def renew(self, name: str, life: Life, ttl: int) -> bool:
-        return self.slowly(super().renew(name, life, ttl))
+    def renew(self, name: str, session: Session, ttl: int) -> bool:
+        return self.slowly(super().renew(name, session, ttl))
 
     def slowly(self, done: bool) -> bool:
         self.begun = seconds_of_boot()
@@ -63,15 +63,15 @@ class Slow(MemoryLog):
 
 
 class Noting(MemoryLog):
-    """A log that notes at which places it was asked to append."""
+    """A log that notes at which offsets it was asked to append."""
 
     def __init__(self, opening: Opening) -> None:
         super().__init__(opening)
         self.appends: list[int] = []
 
-    def append(self, epoch: int, place: int, rows: Sequence[str]) -> bool:
-        self.appends.append(place)
-        return super().append(epoch, place, rows)
+    def append(self, epoch: int, offset: int, rows: Sequence[str]) -> bool:
+        self.appends.append(offset)
+        return super().append(epoch, offset, rows)
 
 
 class Threads(unittest.TestCase):
@@ -113,4 +113,4 @@ class Threads(unittest.TestCase):
 
     def token_of(self, log: MemoryLog) -> Token:
         """That of the first plan."""
-        return Token.of(1, 1 + next(place for place, row in enumerate(log.rows) if row.startswith('plan')))
+        return Token.of(1, 1 + next(offset for offset, row in enumerate(log.rows) if row.startswith('plan')))

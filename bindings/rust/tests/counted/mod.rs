@@ -10,8 +10,8 @@ use std::ptr;
 extern "C" {
     fn __libc_malloc(size: usize) -> *mut c_void;
     fn __libc_calloc(count: usize, size: usize) -> *mut c_void;
-    fn __libc_realloc(place: *mut c_void, size: usize) -> *mut c_void;
-    fn __libc_free(place: *mut c_void);
+    fn __libc_realloc(pointer: *mut c_void, size: usize) -> *mut c_void;
+    fn __libc_free(pointer: *mut c_void);
     fn __libc_memalign(alignment: usize, size: usize) -> *mut c_void;
 }
 
@@ -20,12 +20,12 @@ thread_local! {
     static GRANTED: Cell<u64> = const { Cell::new(u64::MAX) };
 }
 
-/// How many places this thread took and didn't give back.
+/// How many allocations this thread has, and hasn't given back.
 pub fn held() -> i64 {
     HELD.get()
 }
 
-/// Runs the call, of which all allocations behind the first so many are refused. Tells whether one was.
+/// Runs the call, of which all allocations after the first so many are refused. Says whether one was.
 pub fn refused_behind<T>(granted: u64, call: impl FnOnce() -> T) -> (T, bool) {
     GRANTED.set(granted + 1);
     let given = call();
@@ -48,9 +48,9 @@ fn is_granted() -> bool {
     }
 }
 
-fn counted(place: *mut c_void) -> *mut c_void {
-    HELD.set(HELD.get() + i64::from(!place.is_null()));
-    place
+fn counted(pointer: *mut c_void) -> *mut c_void {
+    HELD.set(HELD.get() + i64::from(!pointer.is_null()));
+    pointer
 }
 
 #[no_mangle]
@@ -72,13 +72,13 @@ extern "C" fn calloc(count: usize, size: usize) -> *mut c_void {
 }
 
 #[no_mangle]
-unsafe extern "C" fn realloc(place: *mut c_void, size: usize) -> *mut c_void {
+unsafe extern "C" fn realloc(pointer: *mut c_void, size: usize) -> *mut c_void {
     if !is_granted() {
         return ptr::null_mut();
     }
     // SAFETY: the caller keeps what realloc wants.
-    let moved = unsafe { __libc_realloc(place, size) };
-    if place.is_null() {
+    let moved = unsafe { __libc_realloc(pointer, size) };
+    if pointer.is_null() {
         counted(moved)
     } else {
         moved
@@ -86,10 +86,10 @@ unsafe extern "C" fn realloc(place: *mut c_void, size: usize) -> *mut c_void {
 }
 
 #[no_mangle]
-unsafe extern "C" fn free(place: *mut c_void) {
-    HELD.set(HELD.get() - i64::from(!place.is_null()));
+unsafe extern "C" fn free(pointer: *mut c_void) {
+    HELD.set(HELD.get() - i64::from(!pointer.is_null()));
     // SAFETY: the caller keeps what free wants.
-    unsafe { __libc_free(place) }
+    unsafe { __libc_free(pointer) }
 }
 
 /// Where Rust's own values lie.
@@ -102,8 +102,8 @@ unsafe impl GlobalAlloc for Aside {
         unsafe { __libc_memalign(layout.align(), layout.size()).cast() }
     }
 
-    unsafe fn dealloc(&self, place: *mut u8, _: Layout) {
+    unsafe fn dealloc(&self, pointer: *mut u8, _: Layout) {
         // SAFETY: the place is one of `alloc`.
-        unsafe { __libc_free(place.cast()) }
+        unsafe { __libc_free(pointer.cast()) }
     }
 }

@@ -1,14 +1,14 @@
-//! What a member makes of the answers of the store, and of what it is told of its work and its end.
+//! How a member takes in the answers of the store, and what it is told of its work and its end.
 ghost use Rattle.std.specs.Prelude.{◌≡◌, None, Some, true};
-ghost use Rattle.bully_member.specs.Told.{answered, end_for, lost_by, renewed_by, taken_by, to_end_life, to_look, to_pause, when_answered, when_appended, when_finished, when_promised, when_released, when_renewed, when_taken};
+ghost use Rattle.bully_member.specs.Told.{answered, end_for, lost_by, renewed_by, acquired_by, to_end_session, to_snapshot, to_pause, when_answered, when_appended, when_rolled_over, when_promised, when_released, when_renewed, when_acquired};
 ghost use Rattle.bully_member.specs.declared.values.Work.{Work as WorkState};
 
 use super::Member;
-use crate::values::{Asked, Ending, LifeId, LifeState, Promise, Request, StoreAnswer, Work};
+use crate::values::{Asked, Ending, Promise, Request, SessionId, SessionState, StoreAnswer, Work};
 
 impl Member {
-    /// What became of the last request; nothing changes if none is awaited. A `Look` or a `Follow` whose result doesn't come wasn't
-    /// answered.
+    /// What became of the last request. Nothing changes if none is awaited. A `Snapshot` or a `Follow` whose result
+    /// doesn't come counts as not answered.
     pub fn answered(&mut self, now: u64, answer: StoreAnswer)
         ensures { self.new ≡ answered self.old now answer }
     {
@@ -23,47 +23,56 @@ impl Member {
         ensures { self.new ≡ when_answered self.old now answer request at }
     {
         match request {
-            Request::Take(life, place) => self.note_taken(now, answer, life, place, at),
-            Request::Renew(life) => self.note_renewed(now, answer, life, at),
+            Request::Acquire(session, offset) => self.note_acquired(
+                now, answer, session, offset, at,
+            ),
+            Request::Renew(session) => self.note_renewed(now, answer, session, at),
             Request::Release(_) => self.note_released(now, answer),
-            Request::Promise(_, place) => self.note_promised(now, answer, place),
+            Request::Promise(_, offset) => self.note_promised(now, answer, offset),
             Request::Append(_) => self.note_appended(now, answer),
-            Request::Finish(_) => self.note_finished(now, answer),
-            Request::Look | Request::Follow => self.pause(now),
+            Request::RollOver(_) => self.note_rolled_over(now, answer),
+            Request::Snapshot | Request::Follow => self.pause(now),
         }
     }
 
-    fn note_taken(&mut self, now: u64, answer: StoreAnswer, life: LifeId, place: u32, at: u64)
-        ensures { self.new ≡ taken_by self.old.life self.old (when_taken self.old now answer life place at) }
+    fn note_acquired(
+        &mut self,
+        now: u64,
+        answer: StoreAnswer,
+        session: SessionId,
+        offset: u32,
+        at: u64,
+    )
+        ensures { self.new ≡ acquired_by self.old.session self.old (when_acquired self.old now answer session offset at) }
     {
-        if self.life != LifeState::Absent {
+        if self.session != SessionState::Absent {
             return;
         }
-        self.must_look = true;
+        self.needs_snapshot = true;
         match answer {
             StoreAnswer::Done => {
-                self.life = LifeState::Present(life, at);
+                self.session = SessionState::Live(session, at);
                 self.own = Promise {
                     epoch: self.terms.epoch,
-                    place,
+                    offset,
                 };
             }
             StoreAnswer::Refused => {}
             StoreAnswer::Unanswered => {
-                self.life = LifeState::Unknown(life);
+                self.session = SessionState::Unknown(session);
                 self.pause(now);
             }
         }
     }
 
-    // The presence counts from when its renewal was asked for.
-    fn note_renewed(&mut self, now: u64, answer: StoreAnswer, life: LifeId, at: u64)
-        ensures { self.new ≡ renewed_by self.old.life self.old (when_renewed self.old now answer life at) }
+    // The lease counts from when its renewal was asked for.
+    fn note_renewed(&mut self, now: u64, answer: StoreAnswer, session: SessionId, at: u64)
+        ensures { self.new ≡ renewed_by self.old.session self.old (when_renewed self.old now answer session at) }
     {
-        if let LifeState::Present(..) = self.life {
+        if let SessionState::Live(..) = self.session {
             match answer {
-                StoreAnswer::Done => self.life = LifeState::Present(life, at),
-                StoreAnswer::Refused => self.end_life(),
+                StoreAnswer::Done => self.session = SessionState::Live(session, at),
+                StoreAnswer::Refused => self.end_session(),
                 StoreAnswer::Unanswered => self.pause(now),
             }
         }
@@ -72,19 +81,19 @@ impl Member {
     fn note_released(&mut self, now: u64, answer: StoreAnswer)
         ensures { self.new ≡ when_released self.old now answer }
     {
-        self.end_life();
+        self.end_session();
         if answer == StoreAnswer::Unanswered {
             self.pause(now);
         }
     }
 
-    fn note_promised(&mut self, now: u64, answer: StoreAnswer, place: u32)
-        ensures { self.new ≡ when_promised self.old now answer place }
+    fn note_promised(&mut self, now: u64, answer: StoreAnswer, offset: u32)
+        ensures { self.new ≡ when_promised self.old now answer offset }
     {
         if answer == StoreAnswer::Done {
             self.own = Promise {
                 epoch: self.terms.epoch,
-                place,
+                offset,
             };
         } else {
             self.note_appended(now, answer);
@@ -94,14 +103,14 @@ impl Member {
     fn note_appended(&mut self, now: u64, answer: StoreAnswer)
         ensures { self.new ≡ when_appended self.old now answer }
     {
-        self.must_look = true;
+        self.needs_snapshot = true;
         if answer == StoreAnswer::Unanswered {
             self.pause(now);
         }
     }
 
-    fn note_finished(&mut self, now: u64, answer: StoreAnswer)
-        ensures { self.new ≡ when_finished self.old now answer }
+    fn note_rolled_over(&mut self, now: u64, answer: StoreAnswer)
+        ensures { self.new ≡ when_rolled_over self.old now answer }
     {
         if answer == StoreAnswer::Done {
             self.is_past = true;
@@ -110,22 +119,22 @@ impl Member {
         }
     }
 
-    // It asks nothing for a moment.
+    // It asks for nothing during a pause.
     fn pause(&mut self, now: u64)
         ensures { self.new ≡ to_pause self.old now }
     {
         self.paused = Some(now);
     }
 
-    // Its life is over.
-    pub(super) fn end_life(&mut self)
-        ensures { self.new ≡ to_end_life self.old }
+    // Its session is over.
+    pub(super) fn end_session(&mut self)
+        ensures { self.new ≡ to_end_session self.old }
     {
-        self.life = LifeState::Absent;
-        self.must_look = true;
+        self.session = SessionState::Absent;
+        self.needs_snapshot = true;
     }
 
-    /// In place of any other answer of the store: the epoch is over, and its log was taken away.
+    /// Instead of any other answer of the store: the epoch is over, and its log was removed.
     pub fn passed(&mut self)
         ensures { self.new ≡ record self.old { is_past = true; asked = None } }
     {
@@ -135,19 +144,19 @@ impl Member {
 
     /// A wait is over.
     pub fn woke(&mut self)
-        ensures { self.new ≡ to_look self.old }
+        ensures { self.new ≡ to_snapshot self.old }
     {
-        self.must_look = true;
+        self.needs_snapshot = true;
     }
 
-    /// It has to end in order.
+    /// The member has to leave in an orderly way.
     pub fn leave(&mut self)
         ensures { self.new ≡ end_for self.old Ending.Left self.old.ending }
     {
         self.end_for(Ending::Left);
     }
 
-    // It ends for this reason, if for no other one yet.
+    // It ends for this reason, unless it ends for another one already.
     pub(super) fn end_for(&mut self, why: Ending)
         ensures { self.new ≡ end_for self.old why self.old.ending }
     {
@@ -156,7 +165,7 @@ impl Member {
         }
     }
 
-    /// What was begun by this token has ended outside.
+    /// The work that was begun by this token has ended outside the member.
     pub fn lost(&mut self, token: u32)
         ensures { self.new ≡ record self.old { work = lost_by self.old.work token } }
     {
@@ -165,7 +174,7 @@ impl Member {
         }
     }
 
-    /// Nothing is worked on any more.
+    /// All work has ended.
     pub fn stopped(&mut self)
         ensures { self.new ≡ record self.old { work = WorkState.Idle } }
     {

@@ -11,15 +11,16 @@ ghost use Rattle.bully_member.specs.declared.values.Ending.{Ending as EndingStat
 
 use super::{Beginning, Member};
 use crate::opening::{MemberFault, Terms, terms_fault};
-use crate::values::{Asked, Ending, Promise, Request, Unrest};
+use crate::values::{Asked, Ending, LastChange, Promise, Request};
 use bully_replica::{LearnFault, RowReplica};
 use bully_rows::{Header, RowReader, TraceCause};
 use std::alloc::Global;
 use std::io::Read;
 
 impl Member {
-    /// Learns the rows that a look found behind all that it has learned, as [`RowReplica::learn_all`] does. If one isn't learned, but
-    /// for want of memory or since it can't be read, or if one tells no event, the member ends as `Broken`.
+    /// Learns the rows that a snapshot found after all that the member has learned, as [`RowReplica::learn_all`] does.
+    /// The member ends as `Broken` if a row has no event, or if one isn't learned, unless that is because an allocation
+    /// failed or the row can't be read.
     pub fn learn<R: Read + Drop>(
         &mut self,
         alloc: Global,
@@ -37,16 +38,17 @@ impl Member {
         taken
     }
 
-    /// The rows that a look found can't even be read as rows: the member ends as `Broken`.
+    /// The rows that a snapshot found can't even be read as rows: the member ends as `Broken`.
     pub fn broken(&mut self)
         ensures { self.new ≡ end_for self.old EndingState.Broken self.old.ending }
     {
         self.end_for(Ending::Broken);
     }
 
-    /// What the current epoch began with: the member goes on there, by its life, and has learned nothing of it. Nothing changes if that isn't
-    /// awaited; and if it is no later epoch than that in which the member is, this one isn't over: it looks again in a moment. Refused, and then nothing changes, by the first
-    /// that holds: `BadNode`, `TableLength`, `BadRowsMax`, `OutOfMemory`.
+    /// What the current epoch began with: the member goes on there with its session, and has learned nothing of the
+    /// log. Nothing changes if no `Follow` is awaited. If the epoch is no later one than the member's, the member's
+    /// isn't over, and it reads a snapshot again after a pause. Refused, and then nothing changes, as the first of
+    /// these that holds: `BadNode`, `TableLength`, `BadRowsMax`, `OutOfMemory`.
     pub fn followed(
         &mut self,
         alloc: Global,
@@ -78,17 +80,18 @@ impl Member {
         }
     }
 
-    // The epoch isn't over, as it seemed.
+    // The epoch isn't over, though it seemed to be.
     fn stay_in_epoch(&mut self, now: u64)
-        ensures { self.new ≡ to_pause (record self.old { asked = None; is_past = false; must_look = true }) now }
+        ensures { self.new ≡ to_pause (record self.old { asked = None; is_past = false; needs_snapshot = true }) now }
     {
         self.asked = None;
         self.is_past = false;
-        self.must_look = true;
+        self.needs_snapshot = true;
         self.paused = Some(now);
     }
 
-    /// The current epoch's group has no node of the member's name: it ends. Nothing changes if a follow isn't awaited.
+    /// The current epoch's group has no node of the member's name: the member ends. Nothing changes if no `Follow` is
+    /// awaited.
     pub fn not_there(&mut self)
         ensures { self.new ≡ not_there self.old }
     {
@@ -98,7 +101,7 @@ impl Member {
         }
     }
 
-    // It goes on in this epoch, of whose log nothing was learned.
+    // It goes on in this epoch, and has learned nothing of its log.
     fn begin_epoch(&mut self, alloc: Global, now: u64, beginning: Beginning, terms: Terms)
         requires fits { terms_fault beginning.learned.replica.world.setup terms ≡ None }
         requires nobody { beginning.arrivals.items ≡ replicate beginning.learned.replica.world.setup.nodes nobody_yet }
@@ -108,19 +111,22 @@ impl Member {
         self.arrivals = beginning.arrivals;
         self.terms = terms;
         self.promised = 0;
-        self.own = Promise { epoch: 0, place: 0 };
-        self.presences = Vec::new(alloc);
-        self.has_strangers = false;
-        self.is_wished = false;
-        self.must_look = true;
-        self.unrest = Unrest { at: now, place: 0 };
+        self.own = Promise {
+            epoch: 0,
+            offset: 0,
+        };
+        self.leases = Vec::new(alloc);
+        self.has_unknown = false;
+        self.has_request = false;
+        self.needs_snapshot = true;
+        self.last_change = LastChange { at: now, offset: 0 };
         self.is_past = false;
         self.has_closed = false;
         self.asked = None;
     }
 }
 
-// Whether no member can go on behind what was learned.
+// Whether no member can go on after what was learned.
 fn is_broken(learned: &RowReplica, taken: &Result<(), LearnFault>) -> bool
     ensures { result ≡ is_broken learned.now taken.now }
 {

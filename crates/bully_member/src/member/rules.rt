@@ -1,32 +1,33 @@
-//! What a member does next: the first rule of the table in docs/ALGORITHM.md that applies.
+//! What a member does next: the first rule of the table in docs/REBALANCING.md that applies.
 ghost use Rattle.std.specs.Prelude.{◌≡◌, ◌↔◌, ◌≤◌, IsTrue, Bool, None, length, Some};
 ghost use Rattle.bully_base.specs.declared.TheConstants.{NODES_MAX};
-ghost use Rattle.bully_member.specs.Due.{absent_step, due, ending_step, going_step, goes_on, has_to_stop, idle_step, is_due, is_some_token, leaving_step, life_step, noted, present_step, resting_step, resting_wait, restless_step, settling_left, step_by_work, step_of_life, step_unless_awaiting, step_without_life, stopping_step, taking_step, token_now};
+ghost use Rattle.bully_member.specs.Due.{absent_step, due, ending_step, going_step, goes_on, has_to_stop, idle_step, is_due, is_some_token, leaving_step, session_step, noted, live_step, stable_step, stable_wait, unstable_step, rebalance_left, step_by_work, step_of_session, step_unless_awaiting, step_without_session, stopping_step, acquiring_step, token_now};
 ghost use Rattle.bully_member.specs.Keeping.{Awaits, Keeps};
-ghost use Rattle.bully_member.specs.Member.{AllAreDown, Rests, above, all_idle, are_of, counts, group_of, has_room, here, is_alone, is_down, is_closing, most_idle, others_promise, place_in, place_of, presence_of, present_of, replica_of, stay_left};
+ghost use Rattle.bully_member.specs.Member.{AllAreDown, SeesStable, above, all_idle, are_of, is_admitted, group_of, has_room, here, is_alone, is_down, is_closing, most_idle, others_promise, offset_in, offset_of, lease_of, live_of, replica_of, stay_left};
 ghost use Rattle.bully_member.specs.declared.values.Step.{Step as StepState};
 
 use super::Member;
-use crate::opening::SETTLING_MAX;
+use crate::opening::REBALANCE_MAX;
 use crate::times::{
-    awaiting_rest, left, pause_left, paused_rest, renewal_left, stopping_rest, sure, turn_left,
+    awaiting_backoff, left, pause_left, paused_backoff, renewal_left, stopping_backoff, sure,
+    turn_left,
 };
 use crate::values::{
-    Arrival, Asked, Ending, LifeId, LifeState, Presence, Promise, Request, Step, Until, Work,
+    Arrival, Asked, Ending, Lease, Promise, Request, SessionId, SessionState, Step, Until, Work,
 };
 use bully_base::{NODES_MAX, Node, NodeSet, Status};
-use bully_settling::{is_at_rest, may_work};
+use bully_rebalance::{is_stable, may_work};
 
 impl Member {
-    /// What it does now: the first rule of docs/ALGORITHM.md, A member, that applies; and it notes that. As long as what it asked for
+    /// What it does now: the first rule of docs/REBALANCING.md that applies; and it notes that. As long as what it asked for
     /// isn't answered, by [`Member::answered`] if by nothing else, it asks for nothing else.
     pub fn next(&mut self, now: u64) -> Step
-        ensures due { (rests are_down : Bool) → (IsTrue rests ↔ Rests self.old now) → (IsTrue are_down ↔ AllAreDown self.old) → result ≡ due self.old now rests are_down }
+        ensures due { (is_stable are_down : Bool) → (IsTrue is_stable ↔ SeesStable self.old now) → (IsTrue are_down ↔ AllAreDown self.old) → result ≡ due self.old now is_stable are_down }
         ensures noted { self.new ≡ noted self.old now result }
         ensures keeps { Keeps self.old now result }
         ensures awaits { Awaits self.old.asked result self.new.asked }
     {
-        let step = self.due(now, self.rests(now), self.are_down());
+        let step = self.due(now, self.is_stable(now), self.are_down());
         self.note(now, step);
         step
     }
@@ -39,7 +40,7 @@ impl Member {
             Step::Ask(request) => self.note_request(now, request),
             Step::Begin(token) => self.work = Work::Working(token),
             Step::Stop => self.work = self.work.stopping(),
-            Step::Wait(..) | Step::Rest(_) | Step::End(_) => {}
+            Step::Wait(..) | Step::BackOff(_) | Step::End(_) => {}
         }
     }
 
@@ -48,92 +49,100 @@ impl Member {
         ensures { self.new ≡ noted self.old now (StepState.Ask request) }
     {
         match request {
-            Request::Take(life, place) => {
-                self.tries = life.number;
-                self.promised = place;
+            Request::Acquire(session, offset) => {
+                self.tries = session.number;
+                self.promised = offset;
             }
-            Request::Promise(_, place) => self.promised = place,
+            Request::Promise(_, offset) => self.promised = offset,
             Request::Append(_) => self.has_closed = self.ending.is_some(),
             _ => {}
         }
         self.asked = Some(Asked { request, at: now });
     }
 
-    // What is due now, if that is whether the group rests, and whether nobody is up.
-    fn due(&self, now: u64, rests: bool, are_down: bool) -> Step
-        ensures { result ≡ due self.now now rests are_down }
+    // What is due now, given whether the group is stable, and whether all nodes are Down.
+    fn due(&self, now: u64, is_stable: bool, are_down: bool) -> Step
+        ensures { result ≡ due self.now now is_stable are_down }
     {
-        if self.has_to_stop(now, rests) {
+        if self.has_to_stop(now, is_stable) {
             return Step::Stop;
         }
-        self.step_unless_awaiting(now, rests, are_down)
+        self.step_unless_awaiting(now, is_stable, are_down)
     }
 
     // Nothing has to be stopped.
-    fn step_unless_awaiting(&self, now: u64, rests: bool, are_down: bool) -> Step
-        ensures { result ≡ step_unless_awaiting self.now now rests are_down self.now.asked }
+    fn step_unless_awaiting(&self, now: u64, is_stable: bool, are_down: bool) -> Step
+        ensures { result ≡ step_unless_awaiting self.now now is_stable are_down self.now.asked }
     {
         match self.asked {
-            Some(_) => Step::Rest(awaiting_rest(self.work, self.life, self.ttl, now)),
-            None => self.step_by_work(now, rests, are_down),
+            Some(_) => Step::BackOff(awaiting_backoff(self.work, self.session, self.ttl, now)),
+            None => self.step_by_work(now, is_stable, are_down),
         }
     }
 
     // Nothing has to be stopped, and nothing is awaited.
-    fn step_by_work(&self, now: u64, rests: bool, are_down: bool) -> Step
-        ensures { result ≡ step_by_work self.now now rests are_down self.now.work }
+    fn step_by_work(&self, now: u64, is_stable: bool, are_down: bool) -> Step
+        ensures { result ≡ step_by_work self.now now is_stable are_down self.now.work }
     {
         match self.work {
             Work::Stopping(_) => self.stopping_step(now),
-            Work::Idle | Work::Working(_) | Work::Lost(_) => self.going_step(now, rests, are_down),
+            Work::Idle | Work::Working(_) | Work::Lost(_) => self.going_step(
+                now, is_stable, are_down,
+            ),
         }
     }
 
-    // Its work is to end: meanwhile the presence is renewed.
+    // Its work has to end. Meanwhile the lease is renewed.
     fn stopping_step(&self, now: u64) -> Step
-        ensures { result ≡ stopping_step self.now now self.now.life }
+        ensures { result ≡ stopping_step self.now now self.now.session }
     {
-        match self.life {
-            LifeState::Present(life, _) => {
-                let rest = stopping_rest(self.life, self.ttl, now, self.paused);
-                if rest == 0 {
-                    Step::Ask(Request::Renew(life))
+        match self.session {
+            SessionState::Live(session, _) => {
+                let backoff = stopping_backoff(self.session, self.ttl, now, self.paused);
+                if backoff == 0 {
+                    Step::Ask(Request::Renew(session))
                 } else {
-                    Step::Rest(rest)
+                    Step::BackOff(backoff)
                 }
             }
-            LifeState::Absent | LifeState::Unknown(_) => Step::Rest(self.ttl),
+            SessionState::Absent | SessionState::Unknown(_) => Step::BackOff(self.ttl),
         }
     }
 
     // Its work goes on, or it has none.
-    fn going_step(&self, now: u64, rests: bool, are_down: bool) -> Step
-        ensures { result ≡ going_step self.now now rests are_down }
+    fn going_step(&self, now: u64, is_stable: bool, are_down: bool) -> Step
+        ensures { result ≡ going_step self.now now is_stable are_down }
     {
         if 0 < pause_left(self.paused, self.ttl, now) {
-            return Step::Rest(paused_rest(self.work, self.life, self.ttl, now, self.paused));
+            return Step::BackOff(paused_backoff(
+                self.work,
+                self.session,
+                self.ttl,
+                now,
+                self.paused,
+            ));
         }
-        self.life_step(now, rests, are_down)
+        self.session_step(now, is_stable, are_down)
     }
 
-    fn has_to_stop(&self, now: u64, rests: bool) -> bool
-        ensures { result ≡ has_to_stop self.now now rests self.now.work }
+    fn has_to_stop(&self, now: u64, is_stable: bool) -> bool
+        ensures { result ≡ has_to_stop self.now now is_stable self.now.work }
     {
         match self.work {
             Work::Lost(_) => true,
-            Work::Working(token) => !self.goes_on(now, rests, token),
+            Work::Working(token) => !self.goes_on(now, is_stable, token),
             Work::Idle | Work::Stopping(_) => false,
         }
     }
 
     // Whether work by this token goes on.
-    fn goes_on(&self, now: u64, rests: bool, token: u32) -> bool
-        ensures { result ≡ goes_on self.now now rests token }
+    fn goes_on(&self, now: u64, is_stable: bool, token: u32) -> bool
+        ensures { result ≡ goes_on self.now now is_stable token }
     {
-        sure(self.life, self.ttl, now)
+        sure(self.session, self.ttl, now)
             && self.ending.is_none()
             && !self.is_past
-            && rests
+            && is_stable
             && is_some_token(self.token_now(), token)
     }
 
@@ -144,33 +153,34 @@ impl Member {
         may_work(self.learned.replica(), self.terms.node, self.promised)
     }
 
-    // Nothing is to be stopped, and something may be asked.
-    fn life_step(&self, now: u64, rests: bool, are_down: bool) -> Step
-        ensures { result ≡ life_step self.now now rests are_down self.now.life }
+    // Nothing has to be stopped, and something may be asked for.
+    fn session_step(&self, now: u64, is_stable: bool, are_down: bool) -> Step
+        ensures { result ≡ session_step self.now now is_stable are_down self.now.session }
     {
-        match self.life {
-            LifeState::Unknown(life) => Step::Ask(Request::Release(life)),
-            LifeState::Absent => self.step_without_life(now),
-            LifeState::Present(life, _) => {
+        match self.session {
+            SessionState::Unknown(session) => Step::Ask(Request::Release(session)),
+            SessionState::Absent => self.step_without_session(now),
+            SessionState::Live(session, _) => {
                 if self.is_due(now) {
-                    Step::Ask(Request::Renew(life))
+                    Step::Ask(Request::Renew(session))
                 } else {
-                    self.step_of_life(now, rests, are_down, life)
+                    self.step_of_session(now, is_stable, are_down, session)
                 }
             }
         }
     }
 
-    // Whether a renewal is due: not of a member that ends, once its presence isn't sure, so that it ends also if nothing is answered.
+    // Whether a renewal is due. A member that ends doesn't renew a lease that isn't sure any more, so it ends even if
+    // nothing is answered.
     fn is_due(&self, now: u64) -> bool
         ensures { result ≡ is_due self.now now }
     {
-        renewal_left(self.life, self.ttl, now) == 0
-            && (self.ending.is_none() || sure(self.life, self.ttl, now))
+        renewal_left(self.session, self.ttl, now) == 0
+            && (self.ending.is_none() || sure(self.session, self.ttl, now))
     }
 
-    fn step_without_life(&self, now: u64) -> Step
-        ensures { result ≡ step_without_life self.now now self.now.ending }
+    fn step_without_session(&self, now: u64) -> Step
+        ensures { result ≡ step_without_session self.now now self.now.ending }
     {
         match self.ending {
             Some(ending) => Step::End(ending),
@@ -178,158 +188,161 @@ impl Member {
         }
     }
 
-    fn step_of_life(&self, now: u64, rests: bool, are_down: bool, life: LifeId) -> Step
-        ensures { result ≡ step_of_life self.now now rests are_down life self.now.ending }
+    fn step_of_session(&self, now: u64, is_stable: bool, are_down: bool, session: SessionId) -> Step
+        ensures { result ≡ step_of_session self.now now is_stable are_down session self.now.ending }
     {
         match self.ending {
-            Some(ending) => self.ending_step(now, are_down, life, ending),
-            None => self.present_step(now, rests, life),
+            Some(ending) => self.ending_step(now, are_down, session, ending),
+            None => self.live_step(now, is_stable, session),
         }
     }
 
-    // It hasn't its presence, and goes on.
+    // It doesn't have its lease, and goes on.
     fn absent_step(&self, now: u64) -> Step
         ensures { result ≡ absent_step self.now now }
     {
         if self.is_past {
             return Step::Ask(Request::Follow);
         }
-        if self.must_look {
-            return Step::Ask(Request::Look);
+        if self.needs_snapshot {
+            return Step::Ask(Request::Snapshot);
         }
-        self.taking_step(now)
+        self.acquiring_step(now)
     }
 
-    // By who is present for its node: an earlier life of its own, which was taken late; another process; or nobody.
-    fn taking_step(&self, now: u64) -> Step
-        ensures { result ≡ taking_step self.now now (presence_of self.now.terms.node self.now.presences) }
+    // By who holds the lease of its node: an earlier session of its own, which was acquired late; another process; or
+    // nobody.
+    fn acquiring_step(&self, now: u64) -> Step
+        ensures { result ≡ acquiring_step self.now now (lease_of self.now.terms.node self.now.leases) }
     {
-        match self.own_presence().copied() {
-            Some(presence) if presence.life.process == self.process => {
-                Step::Ask(Request::Release(presence.life))
+        match self.own_lease().copied() {
+            Some(lease) if lease.session.process == self.process => {
+                Step::Ask(Request::Release(lease.session))
             }
             Some(_) => Step::Wait(self.ttl, Until::News),
             None => self.free_step(now),
         }
     }
 
-    // Nobody is present for its node.
+    // Nobody holds the lease of its node.
     fn free_step(&self, now: u64) -> Step
-        ensures { result ≡ taking_step self.now now None }
+        ensures { result ≡ acquiring_step self.now now None }
     {
-        let wait = self.settling_left(now);
+        let wait = self.rebalance_left(now);
         if 0 < wait {
             return Step::Wait(wait, Until::News);
         }
-        let life = LifeId {
+        let session = SessionId {
             process: self.process,
             number: self.tries.saturating_add(1),
         };
-        Step::Ask(Request::Take(life, self.place()))
+        Step::Ask(Request::Acquire(session, self.offset()))
     }
 
-    // How long it waits until the others have settled the life before it: its node is up in the log, and others are present; a ttl at most.
-    fn settling_left(&self, now: u64) -> u64
-        ensures { result ≡ settling_left self.now now }
+    // How long it waits until the others have rebalanced the group without the session before it, a ttl at most: only
+    // if its node is up in the log, and others hold leases.
+    fn rebalance_left(&self, now: u64) -> u64
+        ensures { result ≡ rebalance_left self.now now }
     {
-        if self.is_down(self.terms.node) || self.presences.is_empty() {
+        if self.is_down(self.terms.node) || self.leases.is_empty() {
             0
         } else {
-            left(now, self.ttl, self.unrest.at)
+            left(now, self.ttl, self.last_change.at)
         }
     }
 
-    // It has its presence, and goes on.
-    fn present_step(&self, now: u64, rests: bool, life: LifeId) -> Step
-        ensures { result ≡ present_step self.now now rests life }
+    // It has its lease, and goes on.
+    fn live_step(&self, now: u64, is_stable: bool, session: SessionId) -> Step
+        ensures { result ≡ live_step self.now now is_stable session }
     {
         if self.is_past {
             return Step::Ask(Request::Follow);
         }
-        if self.must_look {
-            return Step::Ask(Request::Look);
+        if self.needs_snapshot {
+            return Step::Ask(Request::Snapshot);
         }
-        if rests {
-            self.resting_step(now)
+        if is_stable {
+            self.stable_step(now)
         } else {
-            self.restless_step(now, life)
+            self.unstable_step(now, session)
         }
     }
 
-    // It ends, and has its presence still.
-    fn ending_step(&self, now: u64, are_down: bool, life: LifeId, ending: Ending) -> Step
-        ensures { result ≡ ending_step self.now now are_down life ending }
+    // It ends, and still has its lease.
+    fn ending_step(&self, now: u64, are_down: bool, session: SessionId, ending: Ending) -> Step
+        ensures { result ≡ ending_step self.now now are_down session ending }
     {
-        if ending != Ending::Left || self.is_past || !sure(self.life, self.ttl, now) {
-            return Step::Ask(Request::Release(life));
+        if ending != Ending::Left || self.is_past || !sure(self.session, self.ttl, now) {
+            return Step::Ask(Request::Release(session));
         }
-        if self.must_look {
-            return Step::Ask(Request::Look);
+        if self.needs_snapshot {
+            return Step::Ask(Request::Snapshot);
         }
-        self.leaving_step(are_down, life)
+        self.leaving_step(are_down, session)
     }
 
-    // It was told to leave: if it is the last one, it brings all Down before it goes.
-    fn leaving_step(&self, are_down: bool, life: LifeId) -> Step
-        ensures { result ≡ leaving_step self.now are_down life }
+    // It was told to leave: if it is the last one, it has all nodes crash before it goes.
+    fn leaving_step(&self, are_down: bool, session: SessionId) -> Step
+        ensures { result ≡ leaving_step self.now are_down session }
     {
         if !(self.is_alone() && !are_down && self.has_room() && !self.has_closed) {
-            return Step::Ask(Request::Release(life));
+            return Step::Ask(Request::Release(session));
         }
         if self.own == self.here() {
-            Step::Ask(Request::Append(self.place()))
+            Step::Ask(Request::Append(self.offset()))
         } else {
-            Step::Ask(Request::Promise(life, self.place()))
+            Step::Ask(Request::Promise(session, self.offset()))
         }
     }
 
-    // The group is at rest: it works on what its node owns.
-    fn resting_step(&self, now: u64) -> Step
-        ensures { result ≡ resting_step self.now now self.now.work (token_now self.now) }
+    // The group is stable: it works on what its node owns.
+    fn stable_step(&self, now: u64) -> Step
+        ensures { result ≡ stable_step self.now now self.now.work (token_now self.now) }
     {
         match (self.work, self.token_now()) {
             (Work::Idle, Some(token)) => Step::Begin(token),
-            _ => Step::Wait(self.resting_wait(now), Until::AnyIdle),
+            _ => Step::Wait(self.stable_wait(now), Until::AnyIdle),
         }
     }
 
-    // The group isn't at rest: it is idle, and says so, and waits for its turn.
-    fn restless_step(&self, now: u64, life: LifeId) -> Step
-        ensures { result ≡ restless_step self.now now life }
+    // The group isn't stable: it is idle, promises that, and waits for its turn.
+    fn unstable_step(&self, now: u64, session: SessionId) -> Step
+        ensures { result ≡ unstable_step self.now now session }
     {
         if self.own != self.here() {
-            return Step::Ask(Request::Promise(life, self.place()));
+            return Step::Ask(Request::Promise(session, self.offset()));
         }
-        let turn = turn_left(self.above(), self.ttl, now, self.unrest.at);
+        let turn = turn_left(self.above(), self.ttl, now, self.last_change.at);
         if 0 < turn {
             return Step::Wait(
-                renewal_left(self.life, self.ttl, now).min(turn),
+                renewal_left(self.session, self.ttl, now).min(turn),
                 Until::News,
             );
         }
         self.idle_step(now)
     }
 
-    // It is its turn to end the epoch or to settle the group, once all are idle.
+    // It is its turn to roll the epoch over or to rebalance the group, once all are idle.
     fn idle_step(&self, now: u64) -> Step
         ensures { result ≡ idle_step self.now now }
     {
         if !self.all_idle() {
-            return Step::Wait(renewal_left(self.life, self.ttl, now), Until::AllIdle);
+            return Step::Wait(renewal_left(self.session, self.ttl, now), Until::AllIdle);
         }
         if self.is_closing() {
-            Step::Ask(Request::Finish(self.place()))
+            Step::Ask(Request::RollOver(self.offset()))
         } else {
-            Step::Ask(Request::Append(self.place()))
+            Step::Ask(Request::Append(self.offset()))
         }
     }
 
-    /// Whether the group rests for it, by its last look: it is at rest among those that count now, behind each place that one of them has
-    /// promised, by a plan behind all that its own life has promised; and the epoch goes on.
-    pub fn rests(&self, now: u64) -> bool
-        ensures { IsTrue result ↔ Rests self.now now }
+    /// Whether the group is stable for the member, by its last snapshot: it is stable among the nodes that are admitted
+    /// now, by a plan at or after each offset that one of them has promised, and after all that the member's own
+    /// session has promised; and the epoch doesn't have to roll over.
+    pub fn is_stable(&self, now: u64) -> bool
+        ensures { IsTrue result ↔ SeesStable self.now now }
     {
-        is_at_rest(
+        is_stable(
             self.learned.replica(),
             &self.group(now),
             self.most_idle(now),
@@ -337,11 +350,11 @@ impl Member {
             && !self.is_closing()
     }
 
-    // Whether nobody of the group is up.
+    // Whether all nodes of the group are Down.
     fn are_down(&self) -> bool
         ensures { IsTrue result ↔ AllAreDown self.now }
     {
-        is_at_rest(self.learned.replica(), &NodeSet::new(), 0)
+        is_stable(self.learned.replica(), &NodeSet::new(), 0)
     }
 
     // The end of the log, as far as it was learned.
@@ -350,39 +363,39 @@ impl Member {
     {
         Promise {
             epoch: self.terms.epoch,
-            place: self.place(),
+            offset: self.offset(),
         }
     }
 
-    /// Which nodes of the group are present, as the last look found.
-    pub fn present(&self) -> NodeSet
-        ensures { result ≡ present_of self.now.presences }
+    /// Which nodes of the group are live, as the last snapshot found.
+    pub fn live(&self) -> NodeSet
+        ensures { result ≡ live_of self.now.leases }
     {
-        let mut present = NodeSet::new();
-        for presence in &self.presences {
-            present.insert(presence.node);
+        let mut live = NodeSet::new();
+        for lease in &self.leases {
+            live.insert(lease.node);
         }
-        present
+        live
     }
 
-    /// Which of these nodes count now: those that are up in the log, and those whose life has stayed long enough.
+    /// Which live nodes are admitted now: those that are up in the log, and those whose session has stayed long enough.
     pub fn group(&self, now: u64) -> NodeSet
         ensures { result ≡ group_of self.now now }
     {
         let mut group = NodeSet::new();
-        for presence in &self.presences {
-            if self.counts(now, *presence) {
-                group.insert(presence.node);
+        for lease in &self.leases {
+            if self.is_admitted(now, *lease) {
+                group.insert(lease.node);
             }
         }
         group
     }
 
-    // Whether a presence counts.
-    fn counts(&self, now: u64, presence: Presence) -> bool
-        ensures { result ≡ counts self.now now presence }
+    // Whether a lease is admitted.
+    fn is_admitted(&self, now: u64, lease: Lease) -> bool
+        ensures { result ≡ is_admitted self.now now lease }
     {
-        !self.is_down(presence.node) || stay_left(&self.arrivals, now, presence.node) == 0
+        !self.is_down(lease.node) || stay_left(&self.arrivals, now, lease.node) == 0
     }
 
     // Whether a node is Down, or none of the group's.
@@ -393,74 +406,68 @@ impl Member {
         world.setup().nodes() < node.number() || world.vector(node).status() == Status::Down
     }
 
-    // The last place of this epoch up to which one that counts is idle, or the own life.
+    // The highest offset of this epoch up to which an admitted session is idle, or the member's own.
     fn most_idle(&self, now: u64) -> u32
         ensures { result ≡ most_idle self.now now }
     {
         let epoch = self.terms.epoch;
-        self.presences
+        self.leases
             .iter()
-            .filter(|presence| self.counts(now, **presence))
-            .fold(place_in(epoch, self.own), |most, presence| {
-                most.max(place_in(epoch, presence.promise))
+            .filter(|lease| self.is_admitted(now, **lease))
+            .fold(offset_in(epoch, self.own), |most, lease| {
+                most.max(offset_in(epoch, lease.promise))
             })
     }
 
-    // How long it waits at rest: up to the next renewal, and to when one more presence counts.
-    fn resting_wait(&self, now: u64) -> u64
-        ensures { result ≡ resting_wait self.now now }
+    // How long it waits while the group is stable: until the next renewal is due, or one more lease is admitted.
+    fn stable_wait(&self, now: u64) -> u64
+        ensures { result ≡ stable_wait self.now now }
     {
-        self.presences
+        self.leases
             .iter()
-            .filter(|presence| !self.counts(now, **presence))
-            .fold(renewal_left(self.life, self.ttl, now), |least, presence| {
-                least.min(stay_left(&self.arrivals, now, presence.node))
+            .filter(|lease| !self.is_admitted(now, **lease))
+            .fold(renewal_left(self.session, self.ttl, now), |least, lease| {
+                least.min(stay_left(&self.arrivals, now, lease.node))
             })
     }
 
-    // Whether the log has room for one more settlement.
+    // Whether the log has room for one more rebalance.
     fn has_room(&self) -> bool
         ensures { result ≡ has_room self.now }
     {
         let nodes = u32::from(self.learned.replica().world().setup().nodes());
-        self.place() + SETTLING_MAX * nodes <= self.terms.rows_max
+        self.offset() + REBALANCE_MAX * nodes <= self.terms.rows_max
     }
 
-    // Whether the epoch is to end.
+    // Whether the epoch has to roll over.
     fn is_closing(&self) -> bool
         ensures { result ≡ is_closing self.now }
     {
-        self.is_wished || !self.has_room()
+        self.has_request || !self.has_room()
     }
 
-    // Whether all that are present are idle up to the log's end.
+    // Whether all holders of leases are idle up to the log's end.
     fn all_idle(&self) -> bool
         ensures { result ≡ all_idle self.now }
     {
         let here = self.here();
-        !self.has_strangers
-            && self.own == here
-            && others_promise(&self.presences, self.terms.node, here)
+        !self.has_unknown && self.own == here && others_promise(&self.leases, self.terms.node, here)
     }
 
-    // Whether nobody else is present.
+    // Whether nobody else holds a lease.
     fn is_alone(&self) -> bool
         ensures { result ≡ is_alone self.now }
     {
-        !self.has_strangers && are_of(&self.presences, self.terms.node)
+        !self.has_unknown && are_of(&self.leases, self.terms.node)
     }
 
-    // For how many higher nodes somebody is present.
+    // How many higher nodes are live.
     fn above(&self) -> u16
         ensures above { result ≡ above self.now }
         ensures within { result ≤ NODES_MAX }
     {
         let node = self.terms.node;
-        let above = self
-            .presences
-            .iter()
-            .filter(|presence| node < presence.node)
-            .count();
+        let above = self.leases.iter().filter(|lease| node < lease.node).count();
         above.min(usize::from(NODES_MAX)) as u16
     }
 }
@@ -475,32 +482,34 @@ fn is_some_token(token: Option<u32>, by: u32) -> bool
     }
 }
 
-// The place of a promise, if it is of this epoch.
-pub(super) fn place_in(epoch: u32, promise: Promise) -> u32
-    ensures { result ≡ place_in epoch promise }
+// The offset of a promise, if it is of this epoch, or else 0.
+pub(super) fn offset_in(epoch: u32, promise: Promise) -> u32
+    ensures { result ≡ offset_in epoch promise }
 {
     if promise.epoch == epoch {
-        promise.place
+        promise.offset
     } else {
         0
     }
 }
 
-// Whether all presences but those of this node have this promise.
-fn others_promise(presences: &[Presence], node: Node, promise: Promise) -> bool
-    ensures { result ≡ others_promise node promise presences.now }
+// Whether all leases but those of this node have this promise.
+fn others_promise(leases: &[Lease], node: Node, promise: Promise) -> bool
+    ensures { result ≡ others_promise node promise leases.now }
 {
-    presences.iter().all(|presence| presence.node == node || presence.promise == promise)
+    leases
+        .iter()
+        .all(|lease| lease.node == node || lease.promise == promise)
 }
 
-// Whether all presences are of this node.
-fn are_of(presences: &[Presence], node: Node) -> bool
-    ensures { result ≡ are_of node presences.now }
+// Whether all leases are of this node.
+fn are_of(leases: &[Lease], node: Node) -> bool
+    ensures { result ≡ are_of node leases.now }
 {
-    presences.iter().all(|presence| presence.node == node)
+    leases.iter().all(|lease| lease.node == node)
 }
 
-// How long the life that is present for a node has to stay yet until it counts.
+// How much longer the session that holds the lease of a node has to stay until it is admitted.
 fn stay_left(arrivals: &[Arrival], now: u64, node: Node) -> u64
     ensures { result ≡ stay_left arrivals.now now node }
 {

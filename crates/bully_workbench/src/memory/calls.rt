@@ -98,7 +98,7 @@ pub const CALLS: [(&str, Call); 65] = [
     ("Replica::new", Call::Replica(ReplicaCall::New)),
     ("Replica::learn", Call::Replica(ReplicaCall::Learn)),
     ("Replica::next", Call::Replica(ReplicaCall::Next)),
-    ("settle", Call::Replica(ReplicaCall::Settle)),
+    ("rebalance", Call::Replica(ReplicaCall::Rebalance)),
     ("owned", Call::Replica(ReplicaCall::Owned)),
     ("RowReplica::learn_all", Call::Follow(Version::First)),
     ("RowReplica::learn_all/2", Call::Follow(Version::Second)),

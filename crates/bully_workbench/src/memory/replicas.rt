@@ -2,9 +2,9 @@ use super::texts::{Version, trace_of};
 use super::trying::{Outcome, Text, Trial};
 use crate::simulate::learning::header_of;
 use bully_base::{Node, NodeSet};
+use bully_rebalance::{owned, rebalance};
 use bully_replica::{Replica, RowReplica};
 use bully_rows::RowReader;
-use bully_settling::{owned, settle};
 use bully_world::Event;
 use std::alloc::Global;
 use std::io::Read;
@@ -16,9 +16,9 @@ pub enum ReplicaCall {
     /// It takes no memory: it is tried with all events of an election.
     Learn,
     Next,
-    /// What settles the group, from which nodes 1 and 2 are present.
-    Settle,
-    /// What the node that plans owns behind the election.
+    /// What rebalances the group, if nodes 1 and 2 are live.
+    Rebalance,
+    /// What the node that plans owns after the election.
     Owned,
 }
 
@@ -49,7 +49,7 @@ fn call_of<R: Print>(
 ) -> Option<Outcome> {
     match call {
         ReplicaCall::Learn => learn_call(trial, replica),
-        ReplicaCall::Settle => settle_call(trial, replica),
+        ReplicaCall::Rebalance => rebalance_call(trial, replica),
         ReplicaCall::Owned => owned_call(trial, replica),
         ReplicaCall::New | ReplicaCall::Next => next_call(trial, replica),
     }
@@ -76,19 +76,19 @@ fn next_call<R: Print>(trial: &Trial<R>, replica: &mut Replica) -> Option<Outcom
     trial.outcome(replica.next(trial.alloc, node), "AllocError")
 }
 
-// What settles the group behind its election, if nodes 1 and 2 are present.
-fn settle_call<R: Print>(trial: &Trial<R>, replica: &mut Replica) -> Option<Outcome> {
-    let mut present = NodeSet::new();
-    present.insert(Node::new(1)?);
-    present.insert(Node::new(2)?);
-    if !learns(replica, trial.events) || !replica.world().setup().has_all(&present) {
+// What rebalances the group after its election, if nodes 1 and 2 are live.
+fn rebalance_call<R: Print>(trial: &Trial<R>, replica: &mut Replica) -> Option<Outcome> {
+    let mut live = NodeSet::new();
+    live.insert(Node::new(1)?);
+    live.insert(Node::new(2)?);
+    if !learns(replica, trial.events) || !replica.world().setup().has_all(&live) {
         return None;
     }
     trial.begin();
-    trial.outcome(settle(trial.alloc, replica, &present, None), "OutOfMemory")
+    trial.outcome(rebalance(trial.alloc, replica, &live, None), "OutOfMemory")
 }
 
-// What the node that plans owns behind the election.
+// What the node that plans owns after the election.
 fn owned_call<R: Print>(trial: &Trial<R>, replica: &mut Replica) -> Option<Outcome> {
     let node = trial.plan.node();
     if !learns(replica, trial.events) || replica.world().setup().nodes() < node.number() {
@@ -116,7 +116,7 @@ fn text_of(alloc: Global, replica: &Replica) -> Text {
     text
 }
 
-/// The rows of a trace are learned, behind its header.
+/// The rows of a trace are learned, after its header.
 pub fn follow_call<R: Print>(trial: &Trial<R>, version: Version) -> Option<Outcome> {
     let mut rows = RowReader::open(trial.alloc, trace_of(version).as_bytes());
     match header_of(&mut rows) {

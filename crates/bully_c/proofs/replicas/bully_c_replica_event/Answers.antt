@@ -8,7 +8,7 @@ use Rattle.bully_c.proofs.replicas.bully_c_replica_event.Goals as goal
 
 pub returns-clause-open : goal.returns-clause-open
 returns-clause-open c =
-    let session = c.in-Some.session.value in
+    let held = c.in-Some.held.value in
     let written = subst (λ (f : RowReplicaState). IsWritten (IsEventRow f c.args.node c.args.event) (RefusesEvent f c.args.node c.args.event) c.args.row.now c.args.length.now c.write_event-status.result c.write_event-status.new.row c.write_event-status.new.length)
     c.deref.ensures c.write_event-status.ensures in
-    at-open-of RowReplicaState _ _ _ session session session c.write_event-status.result c.in-Some.ensures.taken refl c.put.ensures (written, refl)
+    at-open-of RowReplicaState _ _ _ held held held c.write_event-status.result c.in-Some.ensures.taken refl c.put.ensures (written, refl)

@@ -14,13 +14,13 @@ returns-in-Err c =
 pub returns-in-Ok-serve : goal.returns-in-Ok-serve
 returns-in-Ok-serve c =
     let request = c.in-Ok.request in let told = c.in-Ok-serve.field-0 in let room = c.args.reply.now in
-    let answer : c.reply-answer.result ≡ reply request.call.kind c.args.session.now.agent.node_state.vector.vector = grind (arith, c.reply-answer.ensures, c.vector.ensures.vector) in
+    let answer : c.reply-answer.result ≡ reply request.call.kind c.args.held.now.agent.node_state.vector.vector = grind (arith, c.reply-answer.ensures, c.vector.ensures.vector) in
     let line : c.deref.result.now ≡ reply_text told =
     c.deref.ensures ∙ (c.in-Ok-reply_line.ensures
     ∙ (ap (λ (a : Answer). reply_text (record { caller = request.caller; number = request.number; answer = a })) answer ∙ sym (ap reply_text c.in-Ok-serve.ensures.0.answered))) in
     let fits : length c.deref.result.now ≤ length room = grind (arith, c.if-reply-len.false, c.len.ensures, c.deref.ensures) in
     let (ok, copied) = copied-as c.deref.result.now (reply_text told) room c.copy_text.new.room c.copy_text.result c.copy_text.new.length line fits c.copy_text.ensures in
     let asked = subst (λ (s : Setup). IsRequestLine s c.args.line.now request) c.setup.ensures.setup c.in-Ok.ensures.ok in
-    let answered : c.deref.result.now ≡ answer_line c.args.session.now request = line ∙ ap reply_text c.in-Ok-serve.ensures.0.answered in
-    let room_is : length (answer_line c.args.session.now request) ≤ length room = subst (λ (t : List ℕ). length t ≤ length room) answered fits in
+    let answered : c.deref.result.now ≡ answer_line c.args.held.now request = line ∙ ap reply_text c.in-Ok-serve.ensures.0.answered in
+    let room_is : length (answer_line c.args.held.now request) ≤ length room = subst (λ (t : List ℕ). length t ≤ length room) answered fits in
     inr (request, asked, room_is, Ok told, ok, c.in-Ok-serve.ensures, copied)

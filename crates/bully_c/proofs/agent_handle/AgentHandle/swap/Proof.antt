@@ -22,8 +22,8 @@ use Rattle.std.proofs.raw_atomic.Walks.{proved}
 use Rattle.bully_c.proofs.RawBoxLemmas.{word, word-Good, word_in, Ptr-Good}
 use Rattle.bully_c.specs.contracts.raw_box.RawBox as raw_box
 use Rattle.bully_c.proofs.raw_box.RawBox.TheLaws as raw_box_laws
-use Rattle.bully_c.specs.contracts.agent_session.AgentSession as held
-use Rattle.bully_c.proofs.agent_session.AgentSession.TheLaws as held_laws
+use Rattle.bully_c.specs.contracts.held_agent.HeldAgent as held
+use Rattle.bully_c.proofs.held_agent.HeldAgent.TheLaws as held_laws
 use Rattle.bully_c.specs.contracts.agent_handle.AgentHandle as handle
 use Rattle.bully_c.proofs.agent_handle.AgentHandle.TheLaws as handle_laws
 use Rattle.bully_c.specs.contracts.agent_handle.AgentHandle.swap as f

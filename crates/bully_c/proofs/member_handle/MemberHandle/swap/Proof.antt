@@ -22,8 +22,8 @@ use Rattle.std.proofs.raw_atomic.Walks.{proved}
 use Rattle.bully_c.proofs.RawBoxLemmas.{word, word-Good, word_in, Ptr-Good}
 use Rattle.bully_c.specs.contracts.raw_box.RawBox as raw_box
 use Rattle.bully_c.proofs.raw_box.RawBox.TheLaws as raw_box_laws
-use Rattle.bully_c.specs.contracts.openings.MemberSession as held
-use Rattle.bully_c.proofs.openings.MemberSession.TheLaws as held_laws
+use Rattle.bully_c.specs.contracts.openings.HeldMember as held
+use Rattle.bully_c.proofs.openings.HeldMember.TheLaws as held_laws
 use Rattle.bully_c.specs.contracts.member_handle.MemberHandle as handle
 use Rattle.bully_c.proofs.member_handle.MemberHandle.TheLaws as handle_laws
 use Rattle.bully_c.specs.contracts.member_handle.MemberHandle.swap as f

@@ -1,6 +1,0 @@
-use Rattle.bully_c.specs.declared.openings.MemberSession.{MemberSession}
-use Rattle.bully_c.proofs.StepLemmas.{at-open-of}
-use Rattle.bully_c.proofs.members.bully_c_member_looked.Goals as goal
-
-pub returns : goal.returns
-returns c = at-open-of MemberSession _ _ _ c.in-Some.session.value c.deref_mut.result.now c.tell_look-status.new.session c.tell_look-status.result c.in-Some.ensures.taken c.deref_mut.ensures.value c.put.ensures c.tell_look-status.ensures

@@ -1,6 +1,0 @@
-use Rattle.std.proofs.Common.{◌≡◌, string_bytes, take}
-use Rattle.bully_c.specs.Settlements.{events_text}
-use Rattle.bully_c.proofs.settlements.events_rows.Given as goal
-
-abbrev pub invariant-loop-event : goal.invariant-loop-event
-invariant-loop-event l = string_bytes l.text ≡ events_text (take l.event-index l.events)

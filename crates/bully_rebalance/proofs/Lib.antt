@@ -1,0 +1,14 @@
+pub mod PartitionLemmas
+pub mod OwnLemmas
+pub mod StableLemmas
+pub mod SizeLemmas
+pub mod RebalanceLemmas
+pub mod StableWorks
+pub mod Reaching
+pub mod Electing
+pub mod Telling
+pub mod Preparing
+pub mod Crashing
+pub mod Gathering
+pub mod Rebalanced
+pub mod RebalancedLemmas

@@ -1,7 +1,0 @@
-use Rattle.bully_settling.proofs.SettleLemmas.{calls_more}
-use Rattle.bully_settling.proofs.settling.push_calling.Goals as goal
-use Rattle.bully_settling.specs.Settling.{whole_call}
-
-pub loop-preserved : goal.loop-preserved
-loop-preserved c =
-    calls_more c.loop.events.items c.push_call.new.events.items c.args.events.now.items c.args.count c.loop.counter (whole_call c.args.node c.args.are_answered) c.loop.invariant c.loop-test.true c.in_ok-push_call.ensures
