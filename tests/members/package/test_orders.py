@@ -382,8 +382,8 @@ class Ordered(Threads):
         self.assertTrue(shown.show().is_well)
 
     def test_who_comes_in_a_pause(self) -> None:
-        """It waits, and asks about as often as others at rest, where one that doesn't wait asks without end; the others don't stop for it.
-        All is well meanwhile."""
+        """It waits, and asks about as often as others at rest, where one that doesn't wait asks without end; the others
+        don't stop for it. All is well meanwhile."""
         self.begin_members(1, 2)
         self.rest(1, 2)
         self.log.pass_renewals('1', 2)

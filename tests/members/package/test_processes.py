@@ -409,8 +409,8 @@ os.kill(os.getpid(), signal.SIGSTOP)
         self.assertFalse(is_running(worker))
 
     def kill_both(self, member: int, guard: int) -> None:
-        """Both at one moment: neither does anything after the end of the other. A stopped guard goes on if its member ends, so it is
-        killed first."""
+        """Both at one moment: neither does anything after the end of the other. A stopped guard continues if its member
+        ends, so it is killed first."""
         for process in (member, guard):
             os.kill(process, signal.SIGSTOP)
         wait_until(lambda: has_stopped(member) and has_stopped(guard))
