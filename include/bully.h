@@ -395,10 +395,11 @@ bully_status bully_replica_owned(bully_replica *replica, uint16_t node, uint32_t
 
 /* ---- A process that acts for a node, by the rules of a member ---- */
 
-/* A handle of a member: what the library keeps of a process that acts for one node of a group, as `docs/REBALANCING.md` has its rules.
- * It says what is to be done now, whoever drives it does that, and tells it what became of it. It has no clock, no store and no
- * chance of its own. Times are whole nanoseconds of one clock that never goes back. An offset in an epoch's log is how many rows
- * stand behind its header; each of them is an event. Closed if it is zeroed. */
+/* A handle of a member: what the library keeps of a process that acts for one node of a group, as `docs/REBALANCING.md`
+ * has its rules. It says what is to be done now, the program that drives it does that, and tells the member what became
+ * of it. It has no clock, no store and no random numbers of its own. Times are whole nanoseconds of one clock that
+ * never goes back. An offset in an epoch's log is a number of rows after its header; each of these rows is an event.
+ * Closed if it is zeroed. */
 typedef struct bully_member {
     void *held;
 } bully_member;

@@ -1,5 +1,5 @@
-/* Lines: each fault of a request and of a reply, the first from the left, as docs/FORMATS.md lists them; and what a line
- * that is none brings. */
+/* Lines: each fault of a request and of a reply, the first from the left, as docs/FORMATS.md lists them; and what a
+ * line that is none brings. */
 #include "testing.h"
 
 #include <stdio.h>

@@ -1,5 +1,6 @@
-/* Members: what each does next, by the rules in docs/REBALANCING.md, and what it makes of what it is told. All times follow from a ttl of
- * 1,000,000 ns: the margin is 200,000, a renewal comes every 250,000, and what wasn't answered is asked again behind 50,000. */
+/* Members: what each does next, by the rules in docs/REBALANCING.md, and how it changes by what it is told. All times
+ * follow from a ttl of 1,000,000 ns: the margin is 200,000, a renewal comes every 250,000, and what wasn't answered is
+ * asked again after 50,000. */
 #include "testing.h"
 
 #include <string.h>

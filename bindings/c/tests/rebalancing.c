@@ -1,4 +1,5 @@
-/* Rebalances, rest and what nodes own: rows, tokens and partitions worked out by docs/REBALANCING.md. And each argument wrong in turn. */
+/* Rebalances, stable groups and what nodes own: rows, tokens and partitions worked out by docs/REBALANCING.md. And each
+ * argument wrong in turn. */
 #include "shared.h"
 
 #include <string.h>

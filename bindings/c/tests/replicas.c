@@ -1,5 +1,5 @@
-/* Replicas: what each node appends to a shared log, as docs/FORMATS.md has the rows of an election, and what is shown then, worked
- * out by docs/ALGORITHM.md; and which events are refused. */
+/* Replicas: what each node appends to a shared log, as docs/FORMATS.md has the rows of an election, and what is shown
+ * then, worked out by docs/ALGORITHM.md; and which events are refused. */
 #include "shared.h"
 
 #include <string.h>

@@ -1,4 +1,5 @@
-/* Tables: the plans that docs/ALGORITHM.md and the examples tell, and each fault of what one is planned from, in their order. */
+/* Tables: the plans that docs/ALGORITHM.md and the examples tell, and each fault of what one is planned from, in their
+ * order. */
 #include "testing.h"
 
 #include <string.h>

@@ -210,7 +210,8 @@ pub struct MemberState {
     pub has_request: bool,
 }
 
-/// A process that acts for one node of a group over a shared log, by the rules in `docs/REBALANCING.md`: what it knows, and what it does next.
+/// A process that acts for one node of a group over a shared log, by the rules in `docs/REBALANCING.md`: what it knows,
+/// and what it does next.
 ///
 /// It has no clock, no store and no random numbers of its own: [`Member::next`] says what is to be done now, the
 /// program that drives it does that, and tells the member what became of it. Times are whole nanoseconds of one clock

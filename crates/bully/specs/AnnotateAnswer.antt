@@ -23,8 +23,10 @@ long_line = codes "bully: annotated trace: TooManyRows\n"
 -- the trace is lawful: it stands on the output with everything said, as lawful
 abbrev pub IsAnnotatedAnswer : Trace → KnownBytes → KnownBytes → KnownBytes → KnownBytes → ℕ → Type 0
 IsAnnotatedAnswer trace output output' errors errors' status =
-    (count : ℕ) × (w : World) × IsVerdict trace (Verdict.Lawful count) w × IsVerdict (annotated trace) (Verdict.Lawful count) w
-    × (length (annotated trace).rows ≤ ROWS_MAX) × Appends output output' (trace_text (annotated trace)) × Keeps errors errors' × (status ≡ 0)
+    (count : ℕ) × (w : World) × IsVerdict trace (Verdict.Lawful count) w
+    × IsVerdict (annotated trace) (Verdict.Lawful count) w
+    × (length (annotated trace).rows ≤ ROWS_MAX) × Appends output output' (trace_text (annotated trace))
+    × Keeps errors errors' × (status ≡ 0)
 
 -- it isn't: its verdict is told on the errors, and nothing stands on the output
 abbrev pub IsUnlawfulAnswer : Trace → KnownBytes → KnownBytes → KnownBytes → KnownBytes → ℕ → Type 0
@@ -32,7 +34,8 @@ IsUnlawfulAnswer trace output output' errors errors' status =
     (verdict : Verdict) × (w : World) × IsVerdict trace verdict w × ((count : ℕ) → verdict ≢ Verdict.Lawful count)
     × Keeps output output' × Tells errors errors' (verdict_line verdict) × (status ≡ 1)
 
--- it is lawful, and with everything said it has more rows than a trace may: that is told on the errors, and nothing stands on the output
+-- it is lawful, and with everything said it has more rows than a trace may: that is told on the errors, and nothing
+-- stands on the output
 abbrev pub IsTooLongAnswer : Trace → KnownBytes → KnownBytes → KnownBytes → KnownBytes → ℕ → Type 0
 IsTooLongAnswer trace output output' errors errors' status =
     (count : ℕ) × (w : World) × IsVerdict trace (Verdict.Lawful count) w × (ROWS_MAX < length (annotated trace).rows)
@@ -42,9 +45,11 @@ IsTooLongAnswer trace output output' errors errors' status =
 abbrev pub IsTakenAnswer : List ℕ → KnownBytes → KnownBytes → KnownBytes → KnownBytes → ℕ → Type 0
 IsTakenAnswer bytes output output' errors errors' status =
     (trace : Trace) × (trace_of (records_of bytes) ≡ Ok trace)
-    × (IsAnnotatedAnswer trace output output' errors errors' status ⊎ (IsUnlawfulAnswer trace output output' errors errors' status ⊎ IsTooLongAnswer trace output output' errors errors' status))
+    × (IsAnnotatedAnswer trace output output' errors errors' status ⊎ (IsUnlawfulAnswer trace output output' errors
+    errors' status ⊎ IsTooLongAnswer trace output output' errors errors' status))
 
--- nothing stands on the output, or the input means a trace that is lawful and no longer with everything said than a trace may be
+-- nothing stands on the output, or the input means a trace that is lawful and no longer with everything said than a
+-- trace may be
 abbrev pub IsBegunAlone : List ℕ → KnownBytes → KnownBytes → Type 0
 IsBegunAlone bytes output output' =
     Keeps output output' ⊎ ((trace : Trace) × (trace_of (records_of bytes) ≡ Ok trace) × IsWritable trace)

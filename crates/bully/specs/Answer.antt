@@ -1,5 +1,7 @@
--- What the program answers to `check` and to `upgrade`: the status, and what then stands on the output and on the errors.
-use Rattle.std.specs.Prelude.{◌≡◌, ◌≢◌, ◌⊎◌, ℕ, Bool, true, false, List, ◌++◌, Option, Some, None, Ok, Err, IsOk, codes, take}
+-- What the program answers to `check` and to `upgrade`: the status, and what then stands on the output and on the
+-- errors.
+use Rattle.std.specs.Prelude.{◌≡◌, ◌≢◌, ◌⊎◌, ℕ, Bool, true, false, List, ◌++◌, Option, Some, None, Ok, Err, IsOk, codes}
+use Rattle.std.specs.Prelude.{take}
 use Rattle.std.specs.Str.{bytes_eq}
 use Rattle.std.specs.Fmt.{decimal}
 use Rattle.std.specs.Io.KnownBytes.{Appends, Keeps}
@@ -32,7 +34,8 @@ verdict_status (Verdict.Differs row) = 1
 
 -- the line of a fault of form
 abbrev pub row_line : TraceFault → List ℕ
-row_line fault = codes "bully: trace row " ++ decimal fault.row ++ codes ": " ++ trace_cause_text fault.cause ++ codes "\n"
+row_line fault =
+    codes "bully: trace row " ++ decimal fault.row ++ codes ": " ++ trace_cause_text fault.cause ++ codes "\n"
 
 -- what stops the program, where the cause is no fault of form
 abbrev pub stop_of : TraceCause → Option Stop
@@ -56,18 +59,22 @@ is_given (Some flag) = bytes_eq flag (codes "true")
 -- the rows of the input have a verdict: it stands on the output
 abbrev pub IsJudgedAnswer : List ℕ → KnownBytes → KnownBytes → KnownBytes → KnownBytes → ℕ → Type 0
 IsJudgedAnswer bytes output output' errors errors' status =
-    (trace : Trace) × (verdict : Verdict) × (w : World) × (trace_of (records_of bytes) ≡ Ok trace) × IsVerdict trace verdict w
-    × Appends output output' (verdict_text trace.setup verdict w) × Keeps errors errors' × (status ≡ verdict_status verdict)
+    (trace : Trace) × (verdict : Verdict) × (w : World) × (trace_of (records_of bytes) ≡ Ok trace)
+    × IsVerdict trace verdict w
+    × Appends output output' (verdict_text trace.setup verdict w) × Keeps errors errors'
+    × (status ≡ verdict_status verdict)
 
 -- a row of the input is faulty: the first such row is told on the errors, and nothing stands on the output
 abbrev pub IsFaultAnswer : List ℕ → KnownBytes → KnownBytes → KnownBytes → KnownBytes → ℕ → Type 0
 IsFaultAnswer bytes output output' errors errors' status =
-    (fault : TraceFault) × (trace_of (records_of bytes) ≡ Err fault) × Keeps output output' × Tells errors errors' (row_line fault) × (status ≡ 3)
+    (fault : TraceFault) × (trace_of (records_of bytes) ≡ Err fault) × Keeps output output'
+    × Tells errors errors' (row_line fault) × (status ≡ 3)
 
 -- reading, writing or memory failed: that is told on the errors; nothing is written before all rows were read
 abbrev pub IsStopAnswer : List ℕ → KnownBytes → KnownBytes → KnownBytes → KnownBytes → ℕ → Type 0
 IsStopAnswer bytes output output' errors errors' status =
-    (stop : Stop) × (stop ≢ Stop.Write → Keeps output output') × (stop ≡ Stop.Write → IsOk (trace_of (records_of bytes)))
+    (stop : Stop) × (stop ≢ Stop.Write → Keeps output output')
+    × (stop ≡ Stop.Write → IsOk (trace_of (records_of bytes)))
     × Tells errors errors' (stop_line stop) × (status ≡ 4)
 
 -- no trace is taken from the input: a row of it is faulty, or something failed
@@ -85,8 +92,10 @@ IsAnswer bytes output output' errors errors' status =
 -- the rows of the input have a verdict: as an object it stands on the output
 abbrev pub IsToolsAnswer : List ℕ → KnownBytes → KnownBytes → KnownBytes → KnownBytes → ℕ → Type 0
 IsToolsAnswer bytes output output' errors errors' status =
-    (trace : Trace) × (verdict : Verdict) × (w : World) × (trace_of (records_of bytes) ≡ Ok trace) × IsVerdict trace verdict w
-    × Appends output output' (verdict_line trace.setup verdict w) × Keeps errors errors' × (status ≡ verdict_status verdict)
+    (trace : Trace) × (verdict : Verdict) × (w : World) × (trace_of (records_of bytes) ≡ Ok trace)
+    × IsVerdict trace verdict w
+    × Appends output output' (verdict_line trace.setup verdict w) × Keeps errors errors'
+    × (status ≡ verdict_status verdict)
 
 -- a word is told to be bad, and nothing is done
 abbrev pub IsBadWord : List ℕ → KnownBytes → KnownBytes → KnownBytes → KnownBytes → ℕ → Type 0
@@ -94,7 +103,8 @@ IsBadWord line output output' errors errors' status = Keeps output output' × Te
 
 -- there is no memory for the words
 abbrev pub IsShort : KnownBytes → KnownBytes → KnownBytes → KnownBytes → ℕ → Type 0
-IsShort output output' errors errors' status = Keeps output output' × Tells errors errors' (stop_line Stop.OutOfMemory) × (status ≡ 4)
+IsShort output output' errors errors' status = Keeps output output' × Tells errors errors' (stop_line Stop.OutOfMemory)
+    × (status ≡ 4)
 
 -- the answer to `check`, as JSON or not
 abbrev pub IsCheckAnswer : Bool → List ℕ → KnownBytes → KnownBytes → KnownBytes → KnownBytes → ℕ → Type 0

@@ -7,7 +7,8 @@ html_line = codes "bully: words: Html: give --html or --text, not both\n"
 
 -- the rows to be drawn are none, or too many
 abbrev pub rows_line : List ℕ
-rows_line = codes "bully: words: Rows: --rows takes FROM-TO, as 2-50: row 1 is the header, FROM is at most TO, and 2000 rows are the most\n"
+rows_line = codes
+    "bully: words: Rows: --rows takes FROM-TO, as 2-50: row 1 is the header, FROM is at most TO, and 2000 rows are the most\n"
 
 -- a trace is named beside a configuration
 abbrev pub file_line : List ℕ

@@ -32,7 +32,8 @@ IsRefused refusal output output' errors errors' status =
 -- nothing is done with the group, or not all of it: the configuration is refused, or something failed
 abbrev pub IsNotDone : List ℕ → KnownBytes → KnownBytes → KnownBytes → KnownBytes → ℕ → Type 0
 IsNotDone bytes output output' errors errors' status =
-    ((fault : ConfigFault) × ReadsAs bytes (Err fault) × IsRefused (Refusal.Config fault) output output' errors errors' status)
+    ((fault : ConfigFault) × ReadsAs bytes (Err fault)
+    × IsRefused (Refusal.Config fault) output output' errors errors' status)
     ⊎ IsStopped output output' errors errors' status
 
 -- what stops the program where a trace of a group isn't written
@@ -43,7 +44,8 @@ stop_of_trace PlayFault.OutOfMemory = Stop.OutOfMemory
 -- the configuration is played, and the trace of a play of it stands on the output
 abbrev pub IsPlayed : List ℕ → KnownBytes → KnownBytes → KnownBytes → KnownBytes → ℕ → Type 0
 IsPlayed bytes output output' errors errors' status =
-    (config : Configuration) × (events : List Event) × ReadsAs bytes (Ok config) × IsPlay config events × IsScheduled config events
+    (config : Configuration) × (events : List Event) × ReadsAs bytes (Ok config) × IsPlay config events
+    × IsScheduled config events
     × Appends output output' (trace_text (trace_with config.setup events)) × Keeps errors errors' × (status ≡ 0)
 
 -- the answer to `play`
@@ -79,14 +81,17 @@ IsRunAnswer bytes output output' errors errors' status =
     ⊎ IsNotDone bytes output output' errors errors' status
 
 -- the table is planned, and its plan stands on the output, as JSON or not
-abbrev pub IsPlanned : Bool → List ℕ → List (List ℕ) → Option (List ℕ) → KnownBytes → KnownBytes → KnownBytes → KnownBytes → ℕ → Type 0
+abbrev pub IsPlanned : Bool → List ℕ → List (List ℕ) → Option (List ℕ) → KnownBytes → KnownBytes → KnownBytes
+    → KnownBytes → ℕ → Type 0
 IsPlanned is_json bytes names old output output' errors errors' status =
     (wanted : Wanted) × (plan : TablePlan) × (text : List ℕ) × Wants bytes names old (Ok wanted) × IsPlanFor wanted plan
     × IsPlanTold is_json plan text × Appends output output' text × Keeps errors errors' × (status ≡ 0)
 
 -- the answer to `table` with these names of members and this text of an old table, as JSON or not
-abbrev pub IsTableAnswer : Bool → List ℕ → List (List ℕ) → Option (List ℕ) → KnownBytes → KnownBytes → KnownBytes → KnownBytes → ℕ → Type 0
+abbrev pub IsTableAnswer : Bool → List ℕ → List (List ℕ) → Option (List ℕ) → KnownBytes → KnownBytes → KnownBytes
+    → KnownBytes → ℕ → Type 0
 IsTableAnswer is_json bytes names old output output' errors errors' status =
     IsPlanned is_json bytes names old output output' errors errors' status
-    ⊎ ((refusal : Refusal) × Wants bytes names old (Err refusal) × IsRefused refusal output output' errors errors' status)
+    ⊎ ((refusal : Refusal) × Wants bytes names old (Err refusal)
+    × IsRefused refusal output output' errors errors' status)
     ⊎ IsStopped output output' errors errors' status

@@ -24,17 +24,21 @@ abbrev pub sheet_told : Bool → Verdict → List ℕ → List ℕ
 sheet_told false verdict sheet = sheet
 sheet_told true verdict sheet = sheet_line verdict sheet
 
--- the rows of the input have a verdict: its sheet stands on the output, which begins with the row that decided, and how it did
+-- the rows of the input have a verdict: its sheet stands on the output, which begins with the row that decided, and how
+-- it did
 abbrev pub IsExplainedAnswer : Bool → List ℕ → KnownBytes → KnownBytes → KnownBytes → KnownBytes → ℕ → Type 0
 IsExplainedAnswer is_json bytes output output' errors errors' status =
-    (trace : Trace) × (verdict : Verdict) × (w : World) × (sheet : List ℕ) × (trace_of (records_of bytes) ≡ Ok trace) × IsVerdict trace verdict w
-    × IsSheetText trace.setup trace.rows w verdict sheet × Appends output output' (sheet_told is_json verdict sheet) × Keeps errors errors' × (status ≡ verdict_status verdict)
+    (trace : Trace) × (verdict : Verdict) × (w : World) × (sheet : List ℕ) × (trace_of (records_of bytes) ≡ Ok trace)
+    × IsVerdict trace verdict w
+    × IsSheetText trace.setup trace.rows w verdict sheet × Appends output output' (sheet_told is_json verdict sheet)
+    × Keeps errors errors' × (status ≡ verdict_status verdict)
 
--- a row of the input is faulty: the first such row is told on the errors, with its sheet behind the line, which begins with that row and the
--- fault; and nothing stands on the output
+-- a row of the input is faulty: the first such row is told on the errors, with its sheet behind the line, which begins
+-- with that row and the fault; and nothing stands on the output
 abbrev pub IsUnexplainedAnswer : List ℕ → KnownBytes → KnownBytes → KnownBytes → KnownBytes → ℕ → Type 0
 IsUnexplainedAnswer bytes output output' errors errors' status =
-    (fault : TraceFault) × (sheet : List ℕ) × (trace_of (records_of bytes) ≡ Err fault) × IsFormText fault sheet × Keeps output output'
+    (fault : TraceFault) × (sheet : List ℕ) × (trace_of (records_of bytes) ≡ Err fault) × IsFormText fault sheet
+    × Keeps output output'
     × Tells errors errors' (row_line fault ++ sheet) × (status ≡ 3)
 
 -- the answer to `explain` with these bytes on the input; where a read fails, nothing stands on the output
@@ -44,13 +48,15 @@ IsExplainAnswer is_json bytes output output' errors errors' status =
     ⊎ IsUnexplainedAnswer bytes output output' errors errors' status
     ⊎ IsStopAnswer bytes output output' errors errors' status
 
--- the answer to `explain --config` where the file holds these bytes: that they are a configuration stands on the output; or
--- their first refusal is told on the errors, with its sheet behind the line, and nothing stands on the output. A sheet is lines without
--- controls, and one line unless the text is no TOML document
+-- the answer to `explain --config` where the file holds these bytes: that they are a configuration stands on the
+-- output; or their first refusal is told on the errors, with its sheet behind the line, and nothing stands on the
+-- output. A sheet is lines without controls, and one line unless the text is no TOML document
 abbrev pub IsConfigExplainAnswer : List ℕ → KnownBytes → KnownBytes → KnownBytes → KnownBytes → ℕ → Type 0
 IsConfigExplainAnswer bytes output output' errors errors' status =
-    ((config : Configuration) × (sheet : List ℕ) × ReadsAs bytes (Ok config) × IsConfigText None sheet × Appends output output' sheet × Keeps errors errors' × (status ≡ 0))
-    ⊎ ((fault : ConfigFault) × (sheet : List ℕ) × ReadsAs bytes (Err fault) × IsConfigText (Some fault) sheet × Keeps output output'
+    ((config : Configuration) × (sheet : List ℕ) × ReadsAs bytes (Ok config) × IsConfigText None sheet
+    × Appends output output' sheet × Keeps errors errors' × (status ≡ 0))
+    ⊎ ((fault : ConfigFault) × (sheet : List ℕ) × ReadsAs bytes (Err fault) × IsConfigText (Some fault) sheet
+    × Keeps output output'
     × Tells errors errors' (refusal_line (Refusal.Config fault) ++ sheet) × (status ≡ 3))
     ⊎ IsStopped output output' errors errors' status
 
@@ -60,4 +66,5 @@ IsConfigExplained true is_json output output' errors errors' status =
     IsBadWord file_line output output' errors errors' status ⊎ IsShort output output' errors errors' status
 IsConfigExplained false true output output' errors errors' status =
     IsBadWord json_line output output' errors errors' status ⊎ IsShort output output' errors errors' status
-IsConfigExplained false false output output' errors errors' status = (bytes : List ℕ) × IsConfigExplainAnswer bytes output output' errors errors' status
+IsConfigExplained false false output output' errors errors' status =
+    (bytes : List ℕ) × IsConfigExplainAnswer bytes output output' errors errors' status

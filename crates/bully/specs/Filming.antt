@@ -9,4 +9,5 @@ use Rattle.bully.specs.declared.filming.FilmWithAccount.{FilmWithAccount}
 
 -- the rows of a trace with this header were filmed, for this window, and taken to the account
 abbrev pub HasFilmedWithAccount : WindowState → Header → List Row → FilmWithAccount → Type 0
-HasFilmedWithAccount window header rows both = HasFilmedBehind window header rows both.film × HasTakenBehind header rows both.account
+HasFilmedWithAccount window header rows both = HasFilmedBehind window header rows both.film
+    × HasTakenBehind header rows both.account

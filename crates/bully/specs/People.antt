@@ -1,6 +1,7 @@
 -- Which answers are for people, and not for programs.
 use Rattle.std.specs.Prelude.{Bool, false, not}
-use Rattle.bully_cli.specs.Words.{Asked, annotating, checking, completing, drawing, explaining, following, planning, playing, running, upgrading}
+use Rattle.bully_cli.specs.Words.{Asked, annotating, checking, completing, drawing, explaining, following, planning}
+use Rattle.bully_cli.specs.Words.{playing, running, upgrading}
 use Rattle.bully.specs.Answer.{is_given}
 
 abbrev pub is_for_people : Asked → Bool

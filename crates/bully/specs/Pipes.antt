@@ -22,7 +22,8 @@ TellsLawful setup count w output output' errors errors' status =
 abbrev pub IsCheckedAsLawful : List ℕ → Setup → ℕ → World → Type 0
 IsCheckedAsLawful bytes setup count w =
     (output output' errors errors' : KnownBytes) (status : ℕ) → IsAnswer bytes output output' errors errors' status
-    → TellsLawful setup count w output output' errors errors' status ⊎ IsStopAnswer bytes output output' errors errors' status
+    → TellsLawful setup count w output output' errors errors' status
+    ⊎ IsStopAnswer bytes output output' errors errors' status
 
 -- these bytes are checked as a play of the configuration that those bytes are
 abbrev pub IsCheckedAsPlay : List ℕ → List ℕ → Type 0
@@ -33,7 +34,8 @@ IsCheckedAsPlay bytes written =
 -- what `play` wrote from the front of an output, where it answers 0
 abbrev pub PlayedIsLawful : Type 0
 PlayedIsLawful =
-    (bytes written : List ℕ) (errors errors' : KnownBytes) → IsPlayAnswer bytes (Some []) (Some written) errors errors' 0
+    (bytes written : List ℕ) (errors errors' : KnownBytes)
+    → IsPlayAnswer bytes (Some []) (Some written) errors errors' 0
     → IsCheckedAsPlay bytes written
 
 -- the same of `run`
@@ -45,5 +47,7 @@ RunIsLawful =
 -- the same of `annotate`: what it wrote is checked as what it read is
 abbrev pub AnnotatedIsLawful : Type 0
 AnnotatedIsLawful =
-    (bytes written : List ℕ) (errors errors' : KnownBytes) → IsAnnotateAnswer bytes (Some []) (Some written) errors errors' 0
-    → (setup : Setup) × (count : ℕ) × (w : World) × IsCheckedAsLawful bytes setup count w × IsCheckedAsLawful written setup count w
+    (bytes written : List ℕ) (errors errors' : KnownBytes)
+    → IsAnnotateAnswer bytes (Some []) (Some written) errors errors' 0
+    → (setup : Setup) × (count : ℕ) × (w : World) × IsCheckedAsLawful bytes setup count w
+    × IsCheckedAsLawful written setup count w

@@ -7,7 +7,8 @@ use Rattle.bully_table.specs.declared.planning.TablePlan.{TablePlan}
 
 abbrev pub plan_text : List ℕ → ℕ → ℕ → List ℕ
 plan_text table moves bound =
-    join_with_byte 32 (map decimal table) ++ codes "\nmoves " ++ decimal moves ++ codes "\nbound " ++ decimal bound ++ codes "\n"
+    join_with_byte 32 (map decimal table) ++ codes "\nmoves " ++ decimal moves ++ codes "\nbound " ++ decimal bound
+    ++ codes "\n"
 
 -- a text that tells a plan: its lines, or an object
 abbrev pub IsPlanTold : Bool → TablePlan → List ℕ → Type 0

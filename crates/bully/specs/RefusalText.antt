@@ -1,4 +1,5 @@
--- Why a command that reads a configuration does nothing: what it is of each fault, its status, and its line on the errors.
+-- Why a command that reads a configuration does nothing: what it is of each fault, its status, and its line on the
+-- errors.
 use Rattle.std.specs.Prelude.{ℕ, List, ◌++◌, codes}
 use Rattle.bully_config.specs.Keys.{fault_text}
 use Rattle.bully_config.specs.declared.fault.ConfigFault.{ConfigFault}

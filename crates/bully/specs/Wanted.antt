@@ -1,5 +1,6 @@
 -- What `play` and `table` make of a configuration's bytes and of the words behind its path, or why they do nothing.
-use Rattle.std.specs.Prelude.{◌≡◌, ◌⊎◌, ℕ, List, [], ◌∷◌, Option, Some, None, option_and_then, option_map, Result, Ok, Err}
+use Rattle.std.specs.Prelude.{◌≡◌, ◌⊎◌, ℕ, List, [], ◌∷◌, Option, Some, None, option_and_then, option_map, Result, Ok}
+use Rattle.std.specs.Prelude.{Err}
 use Rattle.std.specs.Str.{IsUtf8}
 use Rattle.bully_base.specs.NodeSet.{with_node}
 use Rattle.bully_base.specs.Setup.{Setup}
@@ -15,12 +16,14 @@ use Rattle.bully.specs.declared.telling.Stop.{Stop}
 
 -- the bytes of a file are read as this configuration, or refused with this fault; bytes that are no text are no TOML
 abbrev pub ReadsAs : List ℕ → Result Configuration ConfigFault → Type 0
-ReadsAs bytes answer = (IsUtf8 bytes × (answer_of bytes ≡ answer)) ⊎ (¬ (IsUtf8 bytes) × (answer ≡ Err ConfigFault.Toml))
+ReadsAs bytes answer = (IsUtf8 bytes × (answer_of bytes ≡ answer))
+    ⊎ (¬ (IsUtf8 bytes) × (answer ≡ Err ConfigFault.Toml))
 
 -- the set of the nodes of these names; none where a name is no node's
 abbrev pub members_named : List (List ℕ) → List (List ℕ) → Option (List ℕ)
 members_named names [] = Some []
-members_named names (word ∷ words) = option_and_then (λ node. option_map (with_node node) (members_named names words)) (node_named names word)
+members_named names (word ∷ words) =
+    option_and_then (λ node. option_map (with_node node) (members_named names words)) (node_named names word)
 
 -- what a table is planned for
 pub record Wanted : Type 0 where

@@ -9,15 +9,16 @@ use bully_trace::{Verdict, push_verdict_head};
 use std::alloc::Global;
 use std::io::{Read, Write};
 
-/// Annotates the trace on the input, with the one of version 3 in which everything is said on the output, and tells the status. Of
-/// a trace that isn't lawful the verdict is told on the errors.
+/// Annotates the trace on the input, with the one of version 3 in which everything is said on the output, and tells the
+/// status. Of a trace that isn't lawful the verdict is told on the errors.
 pub fn answer_annotate<R: Read + Drop, W: Write, E: Write>(
     alloc: Global,
     input: R,
     output: &mut W,
     errors: &mut E,
 ) -> u8
-    ensures answer { IfSome (R.remaining input) (λ bytes. IsAnnotateAnswer bytes (W.contents output.old) (W.contents output.new) (E.contents errors.old) (E.contents errors.new) result) }
+    ensures answer { IfSome (R.remaining input) (λ bytes. IsAnnotateAnswer bytes (W.contents output.old)
+        (W.contents output.new) (E.contents errors.old) (E.contents errors.new) result) }
     ensures silent { (result ≡ 2) ⊎ (result ≡ 3) → output.new ≡ output.old }
     ensures status { result ≤ 4 }
 {
@@ -34,7 +35,8 @@ pub fn answer_annotate<R: Read + Drop, W: Write, E: Write>(
 
 // Tells on the errors a verdict that isn't lawful. The status is 1, and 4 where there is no memory for the line.
 fn answer_unlawful<E: Write>(alloc: Global, verdict: Verdict, errors: &mut E) -> u8
-    ensures { ((result ≡ 1) × Tells (E.contents errors.old) (E.contents errors.new) (verdict_line verdict)) ⊎ ((result ≡ 4) × Tells (E.contents errors.old) (E.contents errors.new) (stop_line Stop.OutOfMemory)) }
+    ensures { ((result ≡ 1) × Tells (E.contents errors.old) (E.contents errors.new) (verdict_line verdict))
+        ⊎ ((result ≡ 4) × Tells (E.contents errors.old) (E.contents errors.new) (stop_line Stop.OutOfMemory)) }
 {
     match verdict_line(alloc, verdict) {
         Ok(line) => {

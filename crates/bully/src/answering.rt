@@ -1,6 +1,7 @@
 ghost use Rattle.std.specs.Prelude.{◌≡◌, ◌≤◌, ◌⊎◌, ◌∷◌, [], Some, true, false, codes, map, IfSome};
 ghost use Rattle.clap.specs.Words.{kind_of};
-ghost use Rattle.bully_cli.specs.Words.{Asked, ParsesAs, asked_for, asks_for_help, is_help, is_mistake, text_of, texts_of};
+ghost use Rattle.bully_cli.specs.Words.{Asked, ParsesAs, asked_for, asks_for_help, is_help, is_mistake, text_of};
+ghost use Rattle.bully_cli.specs.Words.{texts_of};
 ghost use Rattle.bully.specs.Answer.{IsAnswer, Tells, stop_line};
 ghost use Rattle.bully.specs.AskedAnswer.{IsAnswerFrom, IsAnswerTo, follows, path_asked};
 ghost use Rattle.bully.specs.Inputs.{bounded_in, remaining_in};
@@ -31,15 +32,15 @@ use std::thread::Threads;
 
 /// Does what the words ask for, those after the program's name, and tells the status.
 ///
-/// 0: done, the trace is lawful, the configuration has no fault, an upgraded or annotated trace, a group's trace or the table is
-/// written, or help was asked for and stands on the output. 1: an event of the trace is refused, or a claim or a detail of it
-/// differs. 2: bad
-/// words, a member that is no name, or owners that are no table; the message stands on `errors` and nothing on the output.
-/// 3: a fault of form in the trace or in the configuration, or an annotated trace that would be too long; its line stands on `errors` and
-/// nothing on the output, but for the changes that `follow` told before. 4: a trace's file that can't be opened, Read,
-/// Write, Spawn, Finish or OutOfMemory, which a line on `errors` tells. A line on `errors` that can't be written changes no
-/// status. The words are looked at first; then the trace, or the configuration, the members and the old owners. Only words
-/// of `run` wait, for the group's threads, and those of `follow`, for more of a file. The rule: docs/FORMATS.md.
+/// 0: done, the trace is lawful, the configuration has no fault, an upgraded or annotated trace, a group's trace or the
+/// table is written, or help was asked for and stands on the output. 1: an event of the trace is refused, or a claim or
+/// a detail of it differs. 2: bad words, a member that is no name, or owners that are no table; the message stands on
+/// `errors` and nothing on the output. 3: a fault of form in the trace or in the configuration, or an annotated trace
+/// that would be too long; its line stands on `errors` and nothing on the output, but for the changes that `follow`
+/// told before. 4: a trace's file that can't be opened, Read, Write, Spawn, Finish or OutOfMemory, which a line on
+/// `errors` tells. A line on `errors` that can't be written changes no status. The words are looked at first; then the
+/// trace, or the configuration, the members and the old owners. Only words of `run` wait, for the group's threads, and
+/// those of `follow`, for more of a file. The rule: docs/FORMATS.md.
 pub fn answer<
     H: Files + AllocGlobal + Clock + Threads + Wait + Sync,
     S: AsStr,
@@ -47,10 +48,16 @@ pub fn answer<
     W: Write,
     E: Write,
 >(rt: &H, words: &[S], input: R, output: &mut W, errors: &mut E) -> u8
-    ensures check { map S.text words.now ≡ codes "check" ∷ [] → IfSome (bounded_in (R.remaining input)) (λ bytes. IsAnswer bytes (W.contents output.old) (W.contents output.new) (E.contents errors.old) (E.contents errors.new) result) }
-    ensures asked { (what : Asked) → ParsesAs (map S.text words.now) what → IsAnswerFrom (λ known. (file : H.File) × (known ≡ bounded_in (H.File.remaining file))) what (bounded_in (R.remaining input)) (W.contents output.old) (W.contents output.new) (E.contents errors.old) (E.contents errors.new) result }
-    ensures mistake { is_mistake (map S.text words.now) ≡ true → ((result ≡ 2) ⊎ ((result ≡ 4) × Tells (E.contents errors.old) (E.contents errors.new) (stop_line Stop.OutOfMemory))) × (output.new ≡ output.old) }
-    ensures help { asks_for_help (map S.text words.now) ≡ true → ((result ≡ 0) × (errors.new ≡ errors.old)) ⊎ ((result ≡ 4) × (stop : Stop) × Tells (E.contents errors.old) (E.contents errors.new) (stop_line stop)) }
+    ensures check { map S.text words.now ≡ codes "check" ∷ []
+        → IfSome (bounded_in (R.remaining input)) (λ bytes. IsAnswer bytes (W.contents output.old)
+        (W.contents output.new) (E.contents errors.old) (E.contents errors.new) result) }
+    ensures asked { (what : Asked) → ParsesAs (map S.text words.now) what → IsAnswerFrom (λ known. (file : H.File)
+        × (known ≡ bounded_in (H.File.remaining file))) what (bounded_in (R.remaining input)) (W.contents output.old)
+        (W.contents output.new) (E.contents errors.old) (E.contents errors.new) result }
+    ensures mistake { is_mistake (map S.text words.now) ≡ true → ((result ≡ 2) ⊎ ((result ≡ 4) × Tells
+        (E.contents errors.old) (E.contents errors.new) (stop_line Stop.OutOfMemory))) × (output.new ≡ output.old) }
+    ensures help { asks_for_help (map S.text words.now) ≡ true → ((result ≡ 0) × (errors.new ≡ errors.old))
+        ⊎ ((result ≡ 4) × (stop : Stop) × Tells (E.contents errors.old) (E.contents errors.new) (stop_line stop)) }
     ensures silent { result ≡ 2 → output.new ≡ output.old }
     ensures unwritten { result ≡ 3 → (output.new ≡ output.old) ⊎ follows (asked_for (map S.text words.now)) }
     ensures status { result ≤ 4 }
@@ -69,7 +76,9 @@ fn act<H: Files + AllocGlobal + Clock + Threads + Wait + Sync, R: Read + Drop, W
     output: &mut W,
     errors: &mut E,
 ) -> u8
-    ensures answer { IsAnswerFrom (λ known. (file : H.File) × (known ≡ bounded_in (H.File.remaining file))) (texts_of action.now) (bounded_in (R.remaining input)) (W.contents output.old) (W.contents output.new) (E.contents errors.old) (E.contents errors.new) result }
+    ensures answer { IsAnswerFrom (λ known. (file : H.File)
+        × (known ≡ bounded_in (H.File.remaining file))) (texts_of action.now) (bounded_in (R.remaining input))
+        (W.contents output.old) (W.contents output.new) (E.contents errors.old) (E.contents errors.new) result }
     ensures silent { result ≡ 2 → output.new ≡ output.old }
     ensures unwritten { result ≡ 3 → (output.new ≡ output.old) ⊎ follows (Some (texts_of action.now)) }
     ensures status { result ≤ 4 }
@@ -115,7 +124,8 @@ fn act_on<
     W: Write,
     E: Write,
 >(rt: &H, action: &Action<'_>, input: Input<R, F>, output: &mut W, errors: &mut E) -> u8
-    ensures answer { IsAnswerTo (texts_of action.now) (bounded_in (remaining_in R.remaining F.remaining input)) (W.contents output.old) (W.contents output.new) (E.contents errors.old) (E.contents errors.new) result }
+    ensures answer { IsAnswerTo (texts_of action.now) (bounded_in (remaining_in R.remaining F.remaining input))
+        (W.contents output.old) (W.contents output.new) (E.contents errors.old) (E.contents errors.new) result }
     ensures silent { result ≡ 2 → output.new ≡ output.old }
     ensures unwritten { result ≡ 3 → (output.new ≡ output.old) ⊎ follows (Some (texts_of action.now)) }
     ensures status { result ≤ 4 }
@@ -150,9 +160,12 @@ fn act_on<
 // The status of words that clap doesn't parse to an action, with its help on the output or its message on
 // the errors.
 fn answer_words<W: Write, E: Write>(error: &Error, output: &mut W, errors: &mut E) -> u8
-    ensures memory { kind_of error.now ≡ ErrorKind.OutOfMemory → (result ≡ 4) × (output.new ≡ output.old) × Tells (E.contents errors.old) (E.contents errors.new) (stop_line Stop.OutOfMemory) }
-    ensures help { is_help (kind_of error.now) ≡ true → ((result ≡ 0) × (errors.new ≡ errors.old)) ⊎ ((result ≡ 4) × Tells (E.contents errors.old) (E.contents errors.new) (stop_line Stop.Write)) }
-    ensures mistake { is_help (kind_of error.now) ≡ false → ((result ≡ 2) ⊎ ((result ≡ 4) × Tells (E.contents errors.old) (E.contents errors.new) (stop_line Stop.OutOfMemory))) × (output.new ≡ output.old) }
+    ensures memory { kind_of error.now ≡ ErrorKind.OutOfMemory → (result ≡ 4) × (output.new ≡ output.old)
+        × Tells (E.contents errors.old) (E.contents errors.new) (stop_line Stop.OutOfMemory) }
+    ensures help { is_help (kind_of error.now) ≡ true → ((result ≡ 0) × (errors.new ≡ errors.old))
+        ⊎ ((result ≡ 4) × Tells (E.contents errors.old) (E.contents errors.new) (stop_line Stop.Write)) }
+    ensures mistake { is_help (kind_of error.now) ≡ false → ((result ≡ 2) ⊎ ((result ≡ 4) × Tells
+        (E.contents errors.old) (E.contents errors.new) (stop_line Stop.OutOfMemory))) × (output.new ≡ output.old) }
     ensures silent { (result ≡ 2) ⊎ (result ≡ 3) → output.new ≡ output.old }
     ensures status { result ≤ 4 }
 {
@@ -168,7 +181,8 @@ fn answer_words<W: Write, E: Write>(error: &Error, output: &mut W, errors: &mut 
 
 // The status of a request for help, whose text stands on the output.
 fn answer_help<W: Write, E: Write>(error: &Error, output: &mut W, errors: &mut E) -> u8
-    ensures { ((result ≡ 0) × (errors.new ≡ errors.old)) ⊎ ((result ≡ 4) × Tells (E.contents errors.old) (E.contents errors.new) (stop_line Stop.Write)) }
+    ensures { ((result ≡ 0) × (errors.new ≡ errors.old))
+        ⊎ ((result ≡ 4) × Tells (E.contents errors.old) (E.contents errors.new) (stop_line Stop.Write)) }
 {
     if write!(output, "{error}").is_err() {
         return answer_stop(Stop::Write, errors);

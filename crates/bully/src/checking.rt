@@ -17,7 +17,8 @@ pub fn answer_check<R: Read + Drop, W: Write, E: Write>(
     output: &mut W,
     errors: &mut E,
 ) -> u8
-    ensures answer { IfSome (R.remaining input) (λ bytes. IsCheckAnswer is_json bytes (W.contents output.old) (W.contents output.new) (E.contents errors.old) (E.contents errors.new) result) }
+    ensures answer { IfSome (R.remaining input) (λ bytes. IsCheckAnswer is_json bytes (W.contents output.old)
+        (W.contents output.new) (E.contents errors.old) (E.contents errors.new) result) }
     ensures silent { (result ≡ 2) ⊎ (result ≡ 3) → output.new ≡ output.old }
     ensures status { result ≤ 4 }
 {
@@ -37,7 +38,8 @@ fn check_for_tools<R: Read + Drop, W: Write, E: Write>(
     output: &mut W,
     errors: &mut E,
 ) -> u8
-    ensures answer { IfSome (R.remaining input) (λ bytes. IsCheckAnswer true bytes (W.contents output.old) (W.contents output.new) (E.contents errors.old) (E.contents errors.new) result) }
+    ensures answer { IfSome (R.remaining input) (λ bytes. IsCheckAnswer true bytes (W.contents output.old)
+        (W.contents output.new) (E.contents errors.old) (E.contents errors.new) result) }
     ensures silent { (result ≡ 2) ⊎ (result ≡ 3) → output.new ≡ output.old }
     ensures status { result ≤ 4 }
 {
@@ -54,7 +56,9 @@ fn answer_judged<W: Write, E: Write>(
     output: &mut W,
     errors: &mut E,
 ) -> u8
-    ensures answer { (known : Option (List ℕ)) → AreAllJudged known judge.now → IfSome known (λ bytes. IsCheckAnswer true bytes (W.contents output.old) (W.contents output.new) (E.contents errors.old) (E.contents errors.new) result) }
+    ensures answer { (known : Option (List ℕ)) → AreAllJudged known judge.now
+        → IfSome known (λ bytes. IsCheckAnswer true bytes (W.contents output.old) (W.contents output.new)
+        (E.contents errors.old) (E.contents errors.new) result) }
     ensures status { (result ≤ 1) ⊎ (result ≡ 4) }
 {
     let verdict = judge.verdict();

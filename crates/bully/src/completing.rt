@@ -14,7 +14,8 @@ pub fn answer_completion<W: Write, E: Write>(
     output: &mut W,
     errors: &mut E,
 ) -> u8
-    ensures answer { IsCompletionAnswer shell.now (W.contents output.old) (W.contents output.new) (E.contents errors.old) (E.contents errors.new) result }
+    ensures answer { IsCompletionAnswer shell.now (W.contents output.old) (W.contents output.new)
+        (E.contents errors.old) (E.contents errors.new) result }
     ensures silent { (result ≡ 2) ⊎ (result ≡ 3) → output.new ≡ output.old }
     ensures status { result ≤ 4 }
 {

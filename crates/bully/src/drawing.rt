@@ -2,7 +2,9 @@ ghost use Rattle.std.specs.Prelude.{◌≡◌, ◌≤◌, ◌⊎◌, ℕ, List, 
 ghost use Rattle.std.specs.Io.KnownBytes.{Appends};
 ghost use Rattle.bully.specs.Answer.{Tells, stop_line, verdict_status};
 ghost use Rattle.bully_cli.specs.Words.{drawn_of, text_of};
-ghost use Rattle.bully.specs.DrawAnswer.{IsBelow, IsDrawAnswer, IsFormAnswer, IsNamedPicture, IsPictureAnswer, IsPictureBy, IsPictureIn, IsPictureOf, IsSvgOf, claims_asked, form_asked, names_in, window_asked};
+ghost use Rattle.bully.specs.DrawAnswer.{IsBelow, IsDrawAnswer, IsFormAnswer, IsNamedPicture, IsPictureAnswer};
+ghost use Rattle.bully.specs.DrawAnswer.{IsPictureBy, IsPictureIn, IsPictureOf, IsSvgOf, claims_asked, form_asked};
+ghost use Rattle.bully.specs.DrawAnswer.{names_in, window_asked};
 ghost use Rattle.bully_film.specs.Film.{IsFilmOf};
 ghost use Rattle.bully_picture.specs.Title.{Begins};
 ghost use Rattle.bully_rows.specs.RecordsLeft.{EndsReading};
@@ -44,8 +46,9 @@ pub struct Drawing {
     pub claims: Claims,
 }
 
-/// Draws the trace on the input, with the picture on the output, and tells the status, which is that of `check`. The words are looked at
-/// first, then the configuration with the names, then the trace. Bad words are `--html` beside `--text`, and rows that can't be shown.
+/// Draws the trace on the input, with the picture on the output, and tells the status, which is that of `check`. The
+/// words are looked at first, then the configuration with the names, then the trace. Bad words are `--html` beside
+/// `--text`, and rows that can't be shown.
 pub fn answer_draw<H: Files + AllocGlobal, R: Read + Drop, W: Write, E: Write>(
     rt: &H,
     words: &DrawWords<'_>,
@@ -54,7 +57,8 @@ pub fn answer_draw<H: Files + AllocGlobal, R: Read + Drop, W: Write, E: Write>(
     errors: &mut E,
 ) -> u8
     ensures answer { IfSome (R.remaining input) (λ bytes.
-        IsDrawAnswer bytes (drawn_of words.now) (W.contents output.old) (W.contents output.new) (E.contents errors.old) (E.contents errors.new) result) }
+        IsDrawAnswer bytes (drawn_of words.now) (W.contents output.old) (W.contents output.new) (E.contents errors.old)
+        (E.contents errors.new) result) }
     ensures silent { (result ≡ 2) ⊎ (result ≡ 3) → output.new ≡ output.old }
     ensures status { result ≤ 4 }
 {
@@ -92,7 +96,8 @@ fn draw_as<H: Files + AllocGlobal, R: Read + Drop, W: Write, E: Write>(
     errors: &mut E,
 ) -> u8
     ensures answer { IfSome (R.remaining input) (λ bytes.
-        IsFormAnswer bytes (drawn_of words.now) form (W.contents output.old) (W.contents output.new) (E.contents errors.old) (E.contents errors.new) result) }
+        IsFormAnswer bytes (drawn_of words.now) form (W.contents output.old) (W.contents output.new)
+        (E.contents errors.old) (E.contents errors.new) result) }
     ensures silent { (result ≡ 2) ⊎ (result ≡ 3) → output.new ≡ output.old }
     ensures status { result ≤ 4 }
 {
@@ -136,7 +141,8 @@ fn draw_words<H: Files + AllocGlobal, R: Read + Drop, W: Write, E: Write>(
     errors: &mut E,
 ) -> u8
     ensures answer { IfSome (R.remaining input) (λ bytes.
-        IsNamedPicture bytes (text_of names.entry) drawing (W.contents output.old) (W.contents output.new) (E.contents errors.old) (E.contents errors.new) result) }
+        IsNamedPicture bytes (text_of names.entry) drawing (W.contents output.old) (W.contents output.new)
+        (E.contents errors.old) (E.contents errors.new) result) }
     ensures silent { (result ≡ 2) ⊎ (result ≡ 3) → output.new ≡ output.old }
     ensures status { result ≤ 4 }
 {
@@ -165,7 +171,8 @@ fn draw_named<H: Files + AllocGlobal, R: Read + Drop, W: Write, E: Write>(
     output: &mut W,
     errors: &mut E,
 ) -> u8
-    ensures answer { (file : List ℕ) × IfSome (R.remaining input) (λ bytes. IsPictureBy bytes file drawing (W.contents output.old) (W.contents output.new) (E.contents errors.old) (E.contents errors.new) result) }
+    ensures answer { (file : List ℕ) × IfSome (R.remaining input) (λ bytes. IsPictureBy bytes file drawing
+        (W.contents output.old) (W.contents output.new) (E.contents errors.old) (E.contents errors.new) result) }
     ensures silent { (result ≡ 2) ⊎ (result ≡ 3) → output.new ≡ output.old }
     ensures status { result ≤ 4 }
 {
@@ -184,7 +191,8 @@ fn draw_with<R: Read + Drop, W: Write, E: Write>(
     output: &mut W,
     errors: &mut E,
 ) -> u8
-    ensures answer { IfSome (R.remaining input) (λ bytes. IsPictureBy bytes file.now drawing (W.contents output.old) (W.contents output.new) (E.contents errors.old) (E.contents errors.new) result) }
+    ensures answer { IfSome (R.remaining input) (λ bytes. IsPictureBy bytes file.now drawing (W.contents output.old)
+        (W.contents output.new) (E.contents errors.old) (E.contents errors.new) result) }
     ensures silent { (result ≡ 2) ⊎ (result ≡ 3) → output.new ≡ output.old }
     ensures status { result ≤ 4 }
 {
@@ -203,7 +211,9 @@ fn draw_input<R: Read + Drop, W: Write, E: Write>(
     output: &mut W,
     errors: &mut E,
 ) -> u8
-    ensures answer { IfSome (R.remaining input) (λ bytes. IsPictureAnswer bytes drawing (names_in (option_map (λ c. c.now) names.entry)) (W.contents output.old) (W.contents output.new) (E.contents errors.old) (E.contents errors.new) result) }
+    ensures answer { IfSome (R.remaining input) (λ bytes.
+        IsPictureAnswer bytes drawing (names_in (option_map (λ c. c.now) names.entry)) (W.contents output.old)
+        (W.contents output.new) (E.contents errors.old) (E.contents errors.new) result) }
     ensures silent { (result ≡ 2) ⊎ (result ≡ 3) → output.new ≡ output.old }
     ensures status { result ≤ 4 }
 {
@@ -238,9 +248,12 @@ fn draw_finished<W: Write, E: Write>(
     output: &mut W,
     errors: &mut E,
 ) -> u8
-    ensures answer { ((picture : List ℕ) × IsPictureOf drawing film.now.finished (names_in (option_map (λ c. c.now) names.entry)) picture × (((result ≡ verdict_status film.now.finished.verdict) × Appends (W.contents output.old) (W.contents output.new) picture × (errors.new ≡ errors.old))
+    ensures answer { ((picture : List ℕ) × IsPictureOf drawing film.now.finished
+        (names_in (option_map (λ c. c.now) names.entry)) picture × (((result ≡ verdict_status film.now.finished.verdict)
+        × Appends (W.contents output.old) (W.contents output.new) picture × (errors.new ≡ errors.old))
         ⊎ ((result ≡ 4) × Tells (E.contents errors.old) (E.contents errors.new) (stop_line Stop.Write))))
-        ⊎ ((result ≡ 4) × (output.new ≡ output.old) × Tells (E.contents errors.old) (E.contents errors.new) (stop_line Stop.OutOfMemory)) }
+        ⊎ ((result ≡ 4) × (output.new ≡ output.old)
+        × Tells (E.contents errors.old) (E.contents errors.new) (stop_line Stop.OutOfMemory)) }
     ensures status { (result ≤ 1) ⊎ (result ≡ 4) }
 {
     match picture_of(alloc, film, drawing, names) {
@@ -261,7 +274,8 @@ fn picture_of(
     drawing: Drawing,
     names: Option<&Config>,
 ) -> Result<String, OutOfMemory>
-    ensures { IfOk result (λ picture. IsPictureOf drawing film.now.finished (names_in (option_map (λ c. c.now) names.entry)) (string_bytes picture)) }
+    ensures { IfOk result (λ picture.
+        IsPictureOf drawing film.now.finished (names_in (option_map (λ c. c.now) names.entry)) (string_bytes picture)) }
 {
     let below = below(alloc, film)?;
     let names = names_of(alloc, names)?;
@@ -282,7 +296,8 @@ fn picture_in(
     names: &[&str],
     below: &str,
 ) -> Result<String, OutOfMemory>
-    ensures { IfOk result (λ picture. IsPictureIn drawing.form drawing.claims finished.now (map (λ s. s.now) names.now) below.now (string_bytes picture)) }
+    ensures { IfOk result (λ picture. IsPictureIn drawing.form drawing.claims finished.now
+        (map (λ s. s.now) names.now) below.now (string_bytes picture)) }
 {
     match drawing.form {
         Form::Text => text_picture(alloc, finished, below),
@@ -307,7 +322,8 @@ fn svg_of(
     names: &[&str],
     below: &str,
 ) -> Result<String, OutOfMemory>
-    ensures { IfOk result (λ picture. IsSvgOf claims around finished.now (map (λ s. s.now) names.now) below.now (string_bytes picture)) }
+    ensures { IfOk result (λ picture.
+        IsSvgOf claims around finished.now (map (λ s. s.now) names.now) below.now (string_bytes picture)) }
 {
     svg_picture(alloc, finished, names, claims, around, below)
 }
@@ -320,7 +336,8 @@ fn page_of(
     names: &[&str],
     below: &str,
 ) -> Result<String, OutOfMemory>
-    ensures { IfOk result (λ page. IsPictureIn Form.Page claims finished.now (map (λ s. s.now) names.now) below.now (string_bytes page)) }
+    ensures { IfOk result (λ page.
+        IsPictureIn Form.Page claims finished.now (map (λ s. s.now) names.now) below.now (string_bytes page)) }
 {
     let picture = svg_of(alloc, finished, claims, Around::Page, names, "")?;
     html_page(alloc, finished, picture.as_str(), names, claims, below)

@@ -1,4 +1,5 @@
-ghost use Rattle.std.specs.Prelude.{◌≡◌, ◌≤◌, ◌⊎◌, ◌++◌, ℕ, List, None, IfOk, IfSome, MatchOption, is_some, string_bytes};
+ghost use Rattle.std.specs.Prelude.{◌≡◌, ◌≤◌, ◌⊎◌, ◌++◌, ℕ, List, None, IfOk, IfSome, MatchOption, is_some};
+ghost use Rattle.std.specs.Prelude.{string_bytes};
 ghost use Rattle.std.specs.Io.KnownBytes.{Appends};
 ghost use Rattle.bully.specs.Answer.{Tells, is_given, row_line, stop_line, verdict_status};
 ghost use Rattle.bully.specs.ConfigAnswer.{IsStopped};
@@ -27,8 +28,8 @@ use std::io::{Read, Write};
 use std::rt::Files;
 use std::str;
 
-/// Explains the verdict on the trace on the input, or the first fault of a configuration, as the words say, and tells the status. Bad words
-/// are a FILE or `--json` beside `--config`.
+/// Explains the verdict on the trace on the input, or the first fault of a configuration, as the words say, and tells
+/// the status. Bad words are a FILE or `--json` beside `--config`.
 pub fn answer_explain<H: Files + AllocGlobal, R: Read + Drop, W: Write, E: Write>(
     rt: &H,
     words: &ExplainWords<'_>,
@@ -36,7 +37,11 @@ pub fn answer_explain<H: Files + AllocGlobal, R: Read + Drop, W: Write, E: Write
     output: &mut W,
     errors: &mut E,
 ) -> u8
-    ensures answer { MatchOption (text_of words.now.config) (IfSome (bounded_left R.remaining input) (λ bytes. IsExplainAnswer (is_given (text_of words.now.json)) bytes (W.contents output.old) (W.contents output.new) (E.contents errors.old) (E.contents errors.new) result)) (λ _. IsConfigExplained (is_some (text_of words.now.file)) (is_given (text_of words.now.json)) (W.contents output.old) (W.contents output.new) (E.contents errors.old) (E.contents errors.new) result) }
+    ensures answer { MatchOption (text_of words.now.config)
+        (IfSome (bounded_left R.remaining input) (λ bytes. IsExplainAnswer (is_given (text_of words.now.json)) bytes
+        (W.contents output.old) (W.contents output.new) (E.contents errors.old) (E.contents errors.new) result)) (λ _.
+        IsConfigExplained (is_some (text_of words.now.file)) (is_given (text_of words.now.json)) (W.contents output.old)
+        (W.contents output.new) (E.contents errors.old) (E.contents errors.new) result) }
     ensures silent { (result ≡ 2) ⊎ (result ≡ 3) → output.new ≡ output.old }
     ensures status { result ≤ 4 }
 {
@@ -61,8 +66,8 @@ pub fn answer_explain<H: Files + AllocGlobal, R: Read + Drop, W: Write, E: Write
     answer_explain_config(rt, path, output, errors)
 }
 
-// Explains the verdict on the trace on the input, with its sheet on the output, as text or as JSON, and tells the status, which is that of
-// `check`. The sheet of a fault of form stands on the errors, behind the line of the fault.
+// Explains the verdict on the trace on the input, with its sheet on the output, as text or as JSON, and tells the
+// status, which is that of `check`. The sheet of a fault of form stands on the errors, behind the line of the fault.
 fn explain_trace<R: Read + Drop, W: Write, E: Write>(
     alloc: Global,
     is_json: bool,
@@ -70,7 +75,8 @@ fn explain_trace<R: Read + Drop, W: Write, E: Write>(
     output: &mut W,
     errors: &mut E,
 ) -> u8
-    ensures answer { IfSome (bounded_left R.remaining input) (λ bytes. IsExplainAnswer is_json bytes (W.contents output.old) (W.contents output.new) (E.contents errors.old) (E.contents errors.new) result) }
+    ensures answer { IfSome (bounded_left R.remaining input) (λ bytes. IsExplainAnswer is_json bytes
+        (W.contents output.old) (W.contents output.new) (E.contents errors.old) (E.contents errors.new) result) }
     ensures silent { (result ≡ 2) ⊎ (result ≡ 3) → output.new ≡ output.old }
     ensures status { result ≤ 4 }
 {
@@ -99,8 +105,10 @@ fn answer_sheet<W: Write, E: Write>(
     output: &mut W,
     errors: &mut E,
 ) -> u8
-    ensures answer { ((result ≡ verdict_status verdict) × Appends (W.contents output.old) (W.contents output.new) (sheet_told is_json verdict sheet.now) × (errors.new ≡ errors.old))
-        ⊎ IsStopped (W.contents output.old) (W.contents output.new) (E.contents errors.old) (E.contents errors.new) result }
+    ensures answer { ((result ≡ verdict_status verdict) × Appends (W.contents output.old) (W.contents output.new)
+        (sheet_told is_json verdict sheet.now) × (errors.new ≡ errors.old))
+        ⊎ IsStopped (W.contents output.old) (W.contents output.new) (E.contents errors.old)
+        (E.contents errors.new) result }
     ensures status { (result ≤ 1) ⊎ (result ≡ 4) }
 {
     let status = verdict_status(verdict);
@@ -120,7 +128,8 @@ pub fn write_sheet<W: Write, E: Write>(
     output: &mut W,
     errors: &mut E,
 ) -> u8
-    ensures { ((result ≡ status) × Appends (W.contents output.old) (W.contents output.new) sheet.now × (errors.new ≡ errors.old))
+    ensures { ((result ≡ status) × Appends (W.contents output.old) (W.contents output.new) sheet.now
+        × (errors.new ≡ errors.old))
         ⊎ ((result ≡ 4) × Tells (E.contents errors.old) (E.contents errors.new) (stop_line Stop.Write)) }
 {
     if output.write_all(sheet.as_bytes()).is_err() {
@@ -129,8 +138,8 @@ pub fn write_sheet<W: Write, E: Write>(
     finish(status, output, errors)
 }
 
-// Tells a fault of a trace's form on the errors, with its sheet behind the line. The status is 3, and 4 where there is no
-// memory for both.
+// Tells a fault of a trace's form on the errors, with its sheet behind the line. The status is 3, and 4 where there is
+// no memory for both.
 fn answer_form<E: Write>(alloc: Global, fault: TraceFault, sheet: &str, errors: &mut E) -> u8
     ensures { ((result ≡ 3) × Tells (E.contents errors.old) (E.contents errors.new) (row_line fault ++ sheet.now))
         ⊎ ((result ≡ 4) × Tells (E.contents errors.old) (E.contents errors.new) (stop_line Stop.OutOfMemory)) }
@@ -153,15 +162,16 @@ fn form_lines(alloc: Global, fault: TraceFault, sheet: &str) -> Result<String, O
     Ok(lines)
 }
 
-/// Explains the first fault of the configuration at the path, on the errors behind its line, and tells the status; where it
-/// has none, that stands on the output.
+/// Explains the first fault of the configuration at the path, on the errors behind its line, and tells the status;
+/// where it has none, that stands on the output.
 pub fn answer_explain_config<H: Files + AllocGlobal, W: Write, E: Write>(
     rt: &H,
     path: &str,
     output: &mut W,
     errors: &mut E,
 ) -> u8
-    ensures answer { (bytes : List ℕ) × IsConfigExplainAnswer bytes (W.contents output.old) (W.contents output.new) (E.contents errors.old) (E.contents errors.new) result }
+    ensures answer { (bytes : List ℕ) × IsConfigExplainAnswer bytes (W.contents output.old) (W.contents output.new)
+        (E.contents errors.old) (E.contents errors.new) result }
     ensures silent { (result ≡ 2) ⊎ (result ≡ 3) → output.new ≡ output.old }
     ensures status { result ≤ 4 }
 {
@@ -178,7 +188,8 @@ pub fn explain_bytes<W: Write, E: Write>(
     output: &mut W,
     errors: &mut E,
 ) -> u8
-    ensures answer { IsConfigExplainAnswer bytes.now (W.contents output.old) (W.contents output.new) (E.contents errors.old) (E.contents errors.new) result }
+    ensures answer { IsConfigExplainAnswer bytes.now (W.contents output.old) (W.contents output.new)
+        (E.contents errors.old) (E.contents errors.new) result }
     ensures silent { (result ≡ 2) ⊎ (result ≡ 3) → output.new ≡ output.old }
     ensures status { result ≤ 4 }
 {
@@ -195,7 +206,8 @@ pub fn explain_bytes<W: Write, E: Write>(
 
 // Explains the first fault of the configuration that this text is, and tells the status.
 fn explain_text<W: Write, E: Write>(alloc: Global, text: &str, output: &mut W, errors: &mut E) -> u8
-    ensures answer { IsUtf8 text.now → IsConfigExplainAnswer text.now (W.contents output.old) (W.contents output.new) (E.contents errors.old) (E.contents errors.new) result }
+    ensures answer { IsUtf8 text.now → IsConfigExplainAnswer text.now (W.contents output.old) (W.contents output.new)
+        (E.contents errors.old) (E.contents errors.new) result }
     ensures silent { (result ≡ 2) ⊎ (result ≡ 3) → output.new ≡ output.old }
     ensures status { result ≤ 4 }
 {
@@ -210,7 +222,8 @@ fn explain_text<W: Write, E: Write>(alloc: Global, text: &str, output: &mut W, e
 
 // Tells the fault of a configuration on the errors, with its sheet behind the line.
 fn answer_fault_of<E: Write>(alloc: Global, fault: ConfigFault, sheet: &str, errors: &mut E) -> u8
-    ensures { ((result ≡ 3) × Tells (E.contents errors.old) (E.contents errors.new) (refusal_line (Refusal.Config fault) ++ sheet.now))
+    ensures { ((result ≡ 3)
+        × Tells (E.contents errors.old) (E.contents errors.new) (refusal_line (Refusal.Config fault) ++ sheet.now))
         ⊎ ((result ≡ 4) × Tells (E.contents errors.old) (E.contents errors.new) (stop_line Stop.OutOfMemory)) }
 {
     match fault_lines(alloc, fault, sheet) {

@@ -14,7 +14,8 @@ use bully_rows::{Header, Row, RowReader, TraceFault, TraceSink, feed_trace};
 use std::alloc::Global;
 use std::io::Read;
 
-/// What a film of a trace shows, and the lines of the rules that the row breaks which decided; none where they weren't asked for.
+/// What a film of a trace shows, and the lines of the rules that the row breaks which decided; none where they weren't
+/// asked for.
 #[derive(Drop)]
 pub struct RuledFilm {
     pub finished: FinishedFilm,
@@ -53,7 +54,8 @@ pub fn film_with_rules<R: Read + Drop>(
 
 // What a film of all rows of a text shows, with the rules by their account.
 fn ruled_film(alloc: Global, film: Film, account: &Account) -> Result<RuledFilm, OutOfMemory>
-    ensures told { (known : Option (List ℕ)) (window : WindowState) → AreAllFilmed known window film → IfOk result (λ film. OfTrace known (IsFilmOf window film.finished)) }
+    ensures told { (known : Option (List ℕ)) (window : WindowState) → AreAllFilmed known window film
+        → IfOk result (λ film. OfTrace known (IsFilmOf window film.finished)) }
 {
     let finished = finished_film(alloc, film)?;
     let rules = account_rules(alloc, account)?;

@@ -29,7 +29,8 @@ impl Explainer for SheetExplainer {
     }
 }
 
-/// Follows the trace on the input, with what changes on the output, and tells the status. A regular file is one that grows.
+/// Follows the trace on the input, with what changes on the output, and tells the status. A regular file is one that
+/// grows.
 pub fn answer_follow<C: Clock, R: Read + Drop, F: Read + OpenFile + Drop, W: Write, E: Write>(
     clock: &C,
     alloc: Global,
@@ -38,7 +39,8 @@ pub fn answer_follow<C: Clock, R: Read + Drop, F: Read + OpenFile + Drop, W: Wri
     output: &mut W,
     errors: &mut E,
 ) -> u8
-    ensures answer { IfSome (bounded_in (remaining_in R.remaining F.remaining input)) (λ bytes. IsFollowAnswer bytes (E.contents errors.old) (E.contents errors.new) result) }
+    ensures answer { IfSome (bounded_in (remaining_in R.remaining F.remaining input)) (λ bytes.
+        IsFollowAnswer bytes (E.contents errors.old) (E.contents errors.new) result) }
     ensures words { result ≢ 2 }
     ensures status { result ≤ 4 }
 {
@@ -67,7 +69,8 @@ fn follow_input<C: Clock, R: Read + Drop, W: Write, E: Write>(
     output: &mut W,
     errors: &mut E,
 ) -> u8
-    ensures answer { IfSome (R.remaining input) (λ bytes. IsFollowAnswer bytes (E.contents errors.old) (E.contents errors.new) result) }
+    ensures answer { IfSome (R.remaining input) (λ bytes.
+        IsFollowAnswer bytes (E.contents errors.old) (E.contents errors.new) result) }
     ensures words { result ≢ 2 }
     ensures status { result ≤ 4 }
 {

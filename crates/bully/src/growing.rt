@@ -10,7 +10,8 @@ use std::{io, thread};
 /// How many milliseconds a file is left alone once all of it was read.
 const PAUSE_MILLIS: u64 = 10;
 
-/// A file. If it grows, its end is never reached: it is waited for more. If it gets shorter than what was read of it, a read fails.
+/// A file. If it grows, its end is never reached: it is waited for more. If it gets shorter than what was read of it, a
+/// read fails.
 #[derive(Drop)]
 pub struct Growing<'a, C: Clock, F: Read + OpenFile> {
     pub file: F,

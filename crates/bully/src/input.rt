@@ -29,7 +29,8 @@ impl<R: Read, F: Read> Read for Input<R, F> {
     }
 }
 
-/// Tells on the errors why the file at the path can't be opened: want of memory as ever, else the path and the reason. The status is 4.
+/// Tells on the errors why the file at the path can't be opened: want of memory as ever, else the path and the reason.
+/// The status is 4.
 pub fn answer_unopened<E: Write>(alloc: Global, path: &str, error: &io::Error, errors: &mut E) -> u8
     ensures { IsUnopened path.now (E.contents errors.old) (E.contents errors.new) result }
 {

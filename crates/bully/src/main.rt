@@ -1,10 +1,11 @@
-//! The program `bully`: it judges, follows, explains, draws, upgrades and annotates recorded traces, plays groups, runs them in threads,
-//! plans tables, and completes its own words.
+//! The program `bully`: it judges, follows, explains, draws, upgrades and annotates recorded traces, plays groups, runs
+//! them in threads, plans tables, and completes its own words.
 //!
-//! It stands on bully_nodes, bully_follow, bully_explain, bully_draft, bully_page, bully_picture, bully_annotate, bully_json,
-//! bully_config, bully_table, the crates below them, bully_paint and bully_cli. No crate stands on it; its callers rely on the
-//! statuses: 0 done, lawful or help asked for; 1 refused or differs; 2 bad words; 3 a fault of form in a trace or a configuration,
-//! or a trace too long to annotate; 4 what stops it from outside, as Read, Write, Spawn, Finish or OutOfMemory.
+//! It stands on bully_nodes, bully_follow, bully_explain, bully_draft, bully_page, bully_picture, bully_annotate,
+//! bully_json, bully_config, bully_table, the crates below them, bully_paint and bully_cli. No crate stands on it; its
+//! callers rely on the statuses: 0 done, lawful or help asked for; 1 refused or differs; 2 bad words; 3 a fault of form
+//! in a trace or a configuration, or a trace too long to annotate; 4 what stops it from outside, as Read, Write, Spawn,
+//! Finish or OutOfMemory.
 #![tactic(auto)]
 
 mod annotating;

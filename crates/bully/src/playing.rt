@@ -23,7 +23,8 @@ pub fn answer_play<H: Files + AllocGlobal, W: Write, E: Write>(
     output: &mut W,
     errors: &mut E,
 ) -> u8
-    ensures answer { (bytes : List ℕ) × IsPlayAnswer bytes (W.contents output.old) (W.contents output.new) (E.contents errors.old) (E.contents errors.new) result }
+    ensures answer { (bytes : List ℕ) × IsPlayAnswer bytes (W.contents output.old) (W.contents output.new)
+        (E.contents errors.old) (E.contents errors.new) result }
     ensures silent { (result ≡ 2) ⊎ (result ≡ 3) → output.new ≡ output.old }
     ensures status { result ≤ 4 }
 {
@@ -41,7 +42,8 @@ pub fn play_bytes<W: Write, E: Write>(
     output: &mut W,
     errors: &mut E,
 ) -> u8
-    ensures answer { IsPlayAnswer bytes.now (W.contents output.old) (W.contents output.new) (E.contents errors.old) (E.contents errors.new) result }
+    ensures answer { IsPlayAnswer bytes.now (W.contents output.old) (W.contents output.new) (E.contents errors.old)
+        (E.contents errors.new) result }
     ensures silent { (result ≡ 2) ⊎ (result ≡ 3) → output.new ≡ output.old }
     ensures status { result ≤ 4 }
 {
@@ -59,8 +61,10 @@ fn answer_config<W: Write, E: Write>(
     errors: &mut E,
 ) -> u8
     ensures { ((result ≡ 0) × (errors.new ≡ errors.old)
-        × ((events : List Event) × IsPlay config.now events × IsScheduled config.now events × Appends (W.contents output.old) (W.contents output.new) (trace_text (trace_with config.now.setup events))))
-        ⊎ ((result ≡ 4) × (stop : Stop) × (stop ≢ Stop.Write → output.new ≡ output.old) × Tells (E.contents errors.old) (E.contents errors.new) (stop_line stop)) }
+        × ((events : List Event) × IsPlay config.now events × IsScheduled config.now events
+        × Appends (W.contents output.old) (W.contents output.new) (trace_text (trace_with config.now.setup events))))
+        ⊎ ((result ≡ 4) × (stop : Stop) × (stop ≢ Stop.Write → output.new ≡ output.old)
+        × Tells (E.contents errors.old) (E.contents errors.new) (stop_line stop)) }
 {
     match play(alloc, config, output) {
         Ok(()) => finish(0, output, errors),

@@ -1,6 +1,7 @@
 ghost use Rattle.std.specs.Prelude.{◌≡◌, ◌⊎◌, IfOk, IfErr, string_bytes};
 ghost use Rattle.bully.specs.Answer.{Tells, stop_line};
-ghost use Rattle.bully.specs.RefusalText.{refusal_line, refusal_of_config, refusal_of_plan, refusal_of_table, refusal_status};
+ghost use Rattle.bully.specs.RefusalText.{refusal_line, refusal_of_config, refusal_of_plan, refusal_of_table};
+ghost use Rattle.bully.specs.RefusalText.{refusal_status};
 
 use crate::telling::{Stop, answer_stop, tell};
 use bully_base::OutOfMemory;
@@ -58,7 +59,9 @@ impl From<PlanFault> for Refusal {
 /// Tells a refusal on the errors, and its status: 2 for words, 3 for a configuration's form, and 4 for what
 /// failed from outside and where there is no memory for the line.
 pub fn answer_refusal<E: Write>(alloc: Global, refusal: Refusal, errors: &mut E) -> u8
-    ensures { ((result ≡ refusal_status refusal) × Tells (E.contents errors.old) (E.contents errors.new) (refusal_line refusal)) ⊎ ((result ≡ 4) × Tells (E.contents errors.old) (E.contents errors.new) (stop_line Stop.OutOfMemory)) }
+    ensures { ((result ≡ refusal_status refusal)
+        × Tells (E.contents errors.old) (E.contents errors.new) (refusal_line refusal))
+        ⊎ ((result ≡ 4) × Tells (E.contents errors.old) (E.contents errors.new) (stop_line Stop.OutOfMemory)) }
 {
     match refusal {
         Refusal::Config(fault) => answer_line(config_line(alloc, fault), 3, errors),
@@ -73,8 +76,10 @@ pub fn answer_refusal<E: Write>(alloc: Global, refusal: Refusal, errors: &mut E)
 
 // Tells a line on the errors, with its status, or that there is no memory for it.
 fn answer_line<E: Write>(line: Result<String, OutOfMemory>, status: u8, errors: &mut E) -> u8
-    ensures told { IfOk line (λ line. (result ≡ status) × Tells (E.contents errors.old) (E.contents errors.new) (string_bytes line)) }
-    ensures memory { IfErr line (λ _. (result ≡ 4) × Tells (E.contents errors.old) (E.contents errors.new) (stop_line Stop.OutOfMemory)) }
+    ensures told { IfOk line (λ line. (result ≡ status)
+        × Tells (E.contents errors.old) (E.contents errors.new) (string_bytes line)) }
+    ensures memory { IfErr line (λ _. (result ≡ 4)
+        × Tells (E.contents errors.old) (E.contents errors.new) (stop_line Stop.OutOfMemory)) }
 {
     match line {
         Ok(line) => {

@@ -29,7 +29,8 @@ pub fn answer_run<H: Files + AllocGlobal + Threads + Wait + Sync, W: Write, E: W
     output: &mut W,
     errors: &mut E,
 ) -> u8
-    ensures answer { (bytes : List ℕ) × IsRunAnswer bytes (W.contents output.old) (W.contents output.new) (E.contents errors.old) (E.contents errors.new) result }
+    ensures answer { (bytes : List ℕ) × IsRunAnswer bytes (W.contents output.old) (W.contents output.new)
+        (E.contents errors.old) (E.contents errors.new) result }
     ensures silent { (result ≡ 2) ⊎ (result ≡ 3) → output.new ≡ output.old }
     ensures status { result ≤ 4 }
 {
@@ -47,7 +48,8 @@ pub fn run_bytes<H: AllocGlobal + Threads + Wait + Sync, W: Write, E: Write>(
     output: &mut W,
     errors: &mut E,
 ) -> u8
-    ensures answer { IsRunAnswer bytes.now (W.contents output.old) (W.contents output.new) (E.contents errors.old) (E.contents errors.new) result }
+    ensures answer { IsRunAnswer bytes.now (W.contents output.old) (W.contents output.new) (E.contents errors.old)
+        (E.contents errors.new) result }
     ensures silent { (result ≡ 2) ⊎ (result ≡ 3) → output.new ≡ output.old }
     ensures status { result ≤ 4 }
 {
@@ -65,9 +67,12 @@ fn run_config<H: AllocGlobal + Threads + Wait + Sync, W: Write, E: Write>(
     errors: &mut E,
 ) -> u8
     ensures { ((result ≡ 0) × (errors.new ≡ errors.old)
-        × ((events : List Event) × IsPlay config.now events × Appends (W.contents output.old) (W.contents output.new) (trace_text (trace_with config.now.setup events))))
-        ⊎ ((result ≡ 4) × (fault : NodesFault) × IsNodesFault fault × (output.new ≡ output.old) × Tells (E.contents errors.old) (E.contents errors.new) (nodes_line fault))
-        ⊎ ((result ≡ 4) × (stop : Stop) × (stop ≢ Stop.Write → output.new ≡ output.old) × Tells (E.contents errors.old) (E.contents errors.new) (stop_line stop)) }
+        × ((events : List Event) × IsPlay config.now events
+        × Appends (W.contents output.old) (W.contents output.new) (trace_text (trace_with config.now.setup events))))
+        ⊎ ((result ≡ 4) × (fault : NodesFault) × IsNodesFault fault × (output.new ≡ output.old)
+        × Tells (E.contents errors.old) (E.contents errors.new) (nodes_line fault))
+        ⊎ ((result ≡ 4) × (stop : Stop) × (stop ≢ Stop.Write → output.new ≡ output.old)
+        × Tells (E.contents errors.old) (E.contents errors.new) (stop_line stop)) }
 {
     match run_nodes(rt, rt.alloc(), config, &OpenGate) {
         Ok(closed) => {
@@ -96,8 +101,10 @@ fn answer_history<W: Write, E: Write>(
     errors: &mut E,
 ) -> u8
     ensures { ((result ≡ 0) × (errors.new ≡ errors.old)
-        × Appends (W.contents output.old) (W.contents output.new) (trace_text (trace_with closed.now.view.setup (map event_of closed.now.history))))
-        ⊎ ((result ≡ 4) × (stop : Stop) × (stop ≢ Stop.Write → output.new ≡ output.old) × Tells (E.contents errors.old) (E.contents errors.new) (stop_line stop)) }
+        × Appends (W.contents output.old) (W.contents output.new)
+        (trace_text (trace_with closed.now.view.setup (map event_of closed.now.history))))
+        ⊎ ((result ≡ 4) × (stop : Stop) × (stop ≢ Stop.Write → output.new ≡ output.old)
+        × Tells (E.contents errors.old) (E.contents errors.new) (stop_line stop)) }
 {
     match write_history(alloc, output, closed) {
         Ok(()) => finish(0, output, errors),

@@ -1,4 +1,5 @@
-ghost use Rattle.std.specs.Prelude.{◌≡◌, ◌≢◌, ◌≤◌, ◌⊎◌, ℕ, List, All, None, Some, length, map, option_map, IfOk, IfErr, IfSome, string_bytes};
+ghost use Rattle.std.specs.Prelude.{◌≡◌, ◌≢◌, ◌≤◌, ◌⊎◌, ℕ, List, All, None, Some, length, map, option_map, IfOk, IfErr};
+ghost use Rattle.std.specs.Prelude.{IfSome, string_bytes};
 ghost use Rattle.std.specs.Option.{option_copied};
 ghost use Rattle.std.specs.Io.KnownBytes.{Appends};
 ghost use Rattle.bully.specs.Answer.{Tells, is_given, stop_line};
@@ -28,7 +29,9 @@ pub fn answer_table<H: Files + AllocGlobal, W: Write, E: Write>(
     output: &mut W,
     errors: &mut E,
 ) -> u8
-    ensures answer { (bytes : List ℕ) × IsTableAnswer (is_given (words_text words.now.json)) bytes (map (λ s. s.now) words.now.members.items) (option_map (λ s. s.now) words.now.old) (W.contents output.old) (W.contents output.new) (E.contents errors.old) (E.contents errors.new) result }
+    ensures answer { (bytes : List ℕ) × IsTableAnswer (is_given (words_text words.now.json)) bytes
+        (map (λ s. s.now) words.now.members.items) (option_map (λ s. s.now) words.now.old) (W.contents output.old)
+        (W.contents output.new) (E.contents errors.old) (E.contents errors.new) result }
     ensures silent { (result ≡ 2) ⊎ (result ≡ 3) → output.new ≡ output.old }
     ensures status { result ≤ 4 }
 {
@@ -47,7 +50,9 @@ pub fn plan_bytes<W: Write, E: Write>(
     output: &mut W,
     errors: &mut E,
 ) -> u8
-    ensures answer { IsTableAnswer (is_given (words_text words.now.json)) bytes.now (map (λ s. s.now) words.now.members.items) (option_map (λ s. s.now) words.now.old) (W.contents output.old) (W.contents output.new) (E.contents errors.old) (E.contents errors.new) result }
+    ensures answer { IsTableAnswer (is_given (words_text words.now.json)) bytes.now
+        (map (λ s. s.now) words.now.members.items) (option_map (λ s. s.now) words.now.old) (W.contents output.old)
+        (W.contents output.new) (E.contents errors.old) (E.contents errors.new) result }
     ensures silent { (result ≡ 2) ⊎ (result ≡ 3) → output.new ≡ output.old }
     ensures status { result ≤ 4 }
 {
@@ -59,7 +64,8 @@ pub fn plan_bytes<W: Write, E: Write>(
 
 // The plan that the words ask for, over the configuration of these bytes.
 fn plan_of(alloc: Global, bytes: &[u8], words: &TableWords<'_>) -> Result<TablePlan, Refusal>
-    ensures { IsPlanOf (Wants bytes.now (map (λ s. s.now) words.now.members.items) (option_map (λ s. s.now) words.now.old)) result }
+    ensures { IsPlanOf
+        (Wants bytes.now (map (λ s. s.now) words.now.members.items) (option_map (λ s. s.now) words.now.old)) result }
 {
     match config_of(alloc, bytes) {
         Ok(config) => plan_with(alloc, &config, words),
@@ -69,7 +75,8 @@ fn plan_of(alloc: Global, bytes: &[u8], words: &TableWords<'_>) -> Result<TableP
 
 // The plan that the words ask for, over this configuration.
 fn plan_with(alloc: Global, config: &Config, words: &TableWords<'_>) -> Result<TablePlan, Refusal>
-    ensures { IsPlanOf (λ answer. wanted_in config.now (map (λ s. s.now) words.now.members.items) (option_map (λ s. s.now) words.now.old) ≡ answer) result }
+    ensures { IsPlanOf (λ answer. wanted_in config.now (map (λ s. s.now) words.now.members.items)
+        (option_map (λ s. s.now) words.now.old) ≡ answer) result }
 {
     let members = members_of(config, words.members.as_slice())?;
     plan_after(alloc, config.setup(), &members, words.old)
@@ -83,7 +90,8 @@ fn plan_after(
     old: Option<&str>,
 ) -> Result<TablePlan, Refusal>
     requires { All (λ m. m ≤ setup.now.nodes) members.now }
-    ensures { IsPlanOf (λ answer. wanted_after setup.now members.now (option_map (λ s. s.now) old.entry) ≡ answer) result }
+    ensures { IsPlanOf (λ answer. wanted_after setup.now members.now (option_map (λ s. s.now) old.entry)
+        ≡ answer) result }
 {
     match old {
         Some(owners) => match Table::read_in(alloc, setup, owners.as_bytes()) {
@@ -114,7 +122,8 @@ fn plan_for(
 // The set of the nodes of these names.
 fn members_of(config: &Config, names: &[&str]) -> Result<NodeSet, Refusal>
     ensures ok { IfOk result (λ members. members_named config.now.names (map (λ s. s.now) names.now) ≡ Some members) }
-    ensures none { IfErr result (λ refusal. (refusal ≡ Refusal.Member) × (members_named config.now.names (map (λ s. s.now) names.now) ≡ None)) }
+    ensures none { IfErr result (λ refusal. (refusal ≡ Refusal.Member)
+        × (members_named config.now.names (map (λ s. s.now) names.now) ≡ None)) }
 {
     let mut members = NodeSet::new();
     for name in names {
@@ -134,7 +143,9 @@ fn answer_plan<W: Write, E: Write>(
     output: &mut W,
     errors: &mut E,
 ) -> u8
-    ensures { ((result ≡ 0) × ((text : List ℕ) × IsPlanTold is_json plan.now text × Appends (W.contents output.old) (W.contents output.new) text) × (errors.new ≡ errors.old)) ⊎ ((result ≡ 4) × (stop : Stop) × (stop ≢ Stop.Write → output.new ≡ output.old) × Tells (E.contents errors.old) (E.contents errors.new) (stop_line stop)) }
+    ensures { ((result ≡ 0) × ((text : List ℕ) × IsPlanTold is_json plan.now text × Appends (W.contents output.old)
+        (W.contents output.new) text) × (errors.new ≡ errors.old)) ⊎ ((result ≡ 4) × (stop : Stop) × (stop ≢ Stop.Write
+        → output.new ≡ output.old) × Tells (E.contents errors.old) (E.contents errors.new) (stop_line stop)) }
 {
     let Some(text) = told_text(alloc, is_json, plan) else {
         return answer_stop(Stop::OutOfMemory, errors);

@@ -36,7 +36,8 @@ impl From<PlayFault> for Stop {
 
 /// Ends what was done with this status: flushes the output. Where that fails the status is 4.
 pub fn finish<W: Write, E: Write>(status: u8, output: &mut W, errors: &mut E) -> u8
-    ensures { ((result ≡ status) × Keeps (W.contents output.old) (W.contents output.new) × (errors.new ≡ errors.old)) ⊎ ((result ≡ 4) × Tells (E.contents errors.old) (E.contents errors.new) (stop_line Stop.Write)) }
+    ensures { ((result ≡ status) × Keeps (W.contents output.old) (W.contents output.new) × (errors.new ≡ errors.old))
+        ⊎ ((result ≡ 4) × Tells (E.contents errors.old) (E.contents errors.new) (stop_line Stop.Write)) }
 {
     if output.flush().is_err() {
         return answer_stop(Stop::Write, errors);
@@ -47,8 +48,11 @@ pub fn finish<W: Write, E: Write>(status: u8, output: &mut W, errors: &mut E) ->
 /// Tells a fault of a trace on the errors. The status is 3 for a fault of form, and 4 for each other one and
 /// where there is no memory for the line.
 pub fn answer_fault<E: Write>(alloc: Global, fault: TraceFault, errors: &mut E) -> u8
-    ensures form { stop_of fault.cause ≡ None → ((result ≡ 3) × Tells (E.contents errors.old) (E.contents errors.new) (row_line fault)) ⊎ ((result ≡ 4) × Tells (E.contents errors.old) (E.contents errors.new) (stop_line Stop.OutOfMemory)) }
-    ensures other { (stop : Stop) → stop_of fault.cause ≡ Some stop → (result ≡ 4) × Tells (E.contents errors.old) (E.contents errors.new) (stop_line stop) }
+    ensures form { stop_of fault.cause ≡ None
+        → ((result ≡ 3) × Tells (E.contents errors.old) (E.contents errors.new) (row_line fault))
+        ⊎ ((result ≡ 4) × Tells (E.contents errors.old) (E.contents errors.new) (stop_line Stop.OutOfMemory)) }
+    ensures other { (stop : Stop) → stop_of fault.cause ≡ Some stop
+        → (result ≡ 4) × Tells (E.contents errors.old) (E.contents errors.new) (stop_line stop) }
 {
     if let Some(stop) = stop_of(fault.cause) {
         return answer_stop(stop, errors);
@@ -71,10 +75,13 @@ pub fn answer_stop<E: Write>(stop: Stop, errors: &mut E) -> u8
     4
 }
 
-/// Tells on the errors why the words can't be read, and the status: 4 for want of memory, and 2 where a word is no text.
+/// Tells on the errors why the words can't be read, and the status: 4 for want of memory, and 2 where a word is no
+/// text.
 pub fn answer_unread<E: Write>(error: &io::Error, errors: &mut E) -> u8
-    ensures memory { error_kind error.now ≡ ErrorKind.OutOfMemory → (result ≡ 4) × Tells (E.contents errors.old) (E.contents errors.new) (stop_line Stop.OutOfMemory) }
-    ensures other { error_kind error.now ≢ ErrorKind.OutOfMemory → (result ≡ 2) × Tells (E.contents errors.old) (E.contents errors.new) (codes "error: a word isn't UTF-8\n") }
+    ensures memory { error_kind error.now ≡ ErrorKind.OutOfMemory
+        → (result ≡ 4) × Tells (E.contents errors.old) (E.contents errors.new) (stop_line Stop.OutOfMemory) }
+    ensures other { error_kind error.now ≢ ErrorKind.OutOfMemory
+        → (result ≡ 2) × Tells (E.contents errors.old) (E.contents errors.new) (codes "error: a word isn't UTF-8\n") }
 {
     if error.kind() == ErrorKind::OutOfMemory {
         return answer_stop(Stop::OutOfMemory, errors);

@@ -37,7 +37,8 @@ abbrev pub rows_before : Option Stop → List Row → List Row
 rows_before None rows = rows
 rows_before (Some stop) rows = take (stop.number - 2) rows
 
--- the account of these rows: the judge took them, the row that decided is one of them, and what is remembered is that of the rows before it
+-- the account of these rows: the judge took them, the row that decided is one of them, and what is remembered is that
+-- of the rows before it
 pub record HasTaken (setup : Setup) (rows : List Row) (account : AccountState) : Type 0 where
   pub judged : HasJudged setup rows account.judge
   pub decided : IfSome account.stop (λ s. IsRowAt rows s.number s.row)

@@ -19,7 +19,8 @@ TellsPossible w i test = (event_kind : EventKind) → (test event_kind ≡ true)
 
 -- these are the kinds of event of node i that are possible, each once and in their order
 abbrev pub ArePossible : WorldState → ℕ → List EventKind → Type 0
-ArePossible w i event_kinds = (test : EventKind → Bool) × TellsPossible w i test × (event_kinds ≡ filter test every_event_kind)
+ArePossible w i event_kinds = (test : EventKind → Bool) × TellsPossible w i test
+    × (event_kinds ≡ filter test every_event_kind)
 
 -- nothing refuses the event of this kind; a plan is judged by whether some table can be planned
 abbrev pub passes : WorldState → ℕ → Bool → EventKind → Bool

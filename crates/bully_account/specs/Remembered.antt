@@ -1,5 +1,6 @@
 -- What is remembered of a node's rows, and what one more row makes of it.
-use Rattle.std.specs.Prelude.{ℕ, ◌-◌, ◌+◌, ◌==◌, ◌&&◌, Bool, not, List, [], ◌∷◌, ◌++◌, Option, Some, None, drop, length, if◌then◌else◌}
+use Rattle.std.specs.Prelude.{ℕ, ◌-◌, ◌+◌, ◌==◌, ◌&&◌, Bool, not, List, [], ◌∷◌, ◌++◌, Option, Some, None, drop, length}
+use Rattle.std.specs.Prelude.{if◌then◌else◌}
 use Rattle.bully_calls.specs.declared.call.Call.{Call}
 use Rattle.bully_calls.specs.declared.event.Event.{Event}
 use Rattle.bully_calls.specs.declared.kind.EventKind.{EventKind}
@@ -14,8 +15,8 @@ use Rattle.bully_account.specs.declared.memory.Note.{Note}
 use Rattle.bully_account.specs.declared.memory.What.{What}
 use Rattle.bully_account.specs.declared.moving.Moves.{Moves}
 
--- the last rows, in their order; the row in which the node's last call was started; the table of its last plan, and of how
--- many partitions one fits in
+-- the last rows, in their order; the row in which the node's last call was started; the table of its last plan, and of
+-- how many partitions one fits in
 pub record Remembered : Type 0 where
   pub notes : List Note
   pub started : Option ℕ
@@ -49,7 +50,8 @@ with_plan i table j m = if (j == i) && (length table == m.room) then record m { 
 abbrev pub with_halt : ℕ → Option Call → ℕ → Bool → ℕ → Remembered → Remembered
 with_halt caller None row moved j m = m
 with_halt caller (Some call) row moved j m =
-    if is_halt call.kind then with_note call.callee (record { row = row; what = What.HaltedBy caller; moved = moved }) j m else m
+    if is_halt call.kind
+    then with_note call.callee (record { row = row; what = What.HaltedBy caller; moved = moved }) j m else m
 
 abbrev pub started_or : Option Call → What
 started_or None = What.Did (EventKind.Node NodeEventKind.Start)
@@ -66,7 +68,8 @@ moved_by None w i = not (is_idle (point w i))
 moved_by (Some moved) w i = moved
 
 abbrev pub own_note : World → Event → ℕ → Moves → Note
-own_note w e row moves = record { row = row; what = what_with e (call_at w (node_of e)); moved = moved_by moves.own w (node_of e) }
+own_note w e row moves =
+    record { row = row; what = what_with e (call_at w (node_of e)); moved = moved_by moves.own w (node_of e) }
 
 abbrev pub with_own : World → Event → ℕ → Moves → ℕ → Remembered → Remembered
 with_own w e row moves j m = with_note (node_of e) (own_note w e row moves) j m

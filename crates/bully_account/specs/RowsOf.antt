@@ -1,5 +1,6 @@
 -- Which rows of a trace are remembered of a node: the last ones that did something to it.
-use Rattle.std.specs.Prelude.{◌≡◌, ◌≢◌, ◌↔◌, ℕ, ◌+◌, ◌≤◌, ◌==◌, ◌&&◌, true, List, [], ◌∷◌, ◌++◌, Option, Some, None, length, map, All, ⊤, MatchOption, if◌then◌else◌}
+use Rattle.std.specs.Prelude.{◌≡◌, ◌≢◌, ◌↔◌, ℕ, ◌+◌, ◌≤◌, ◌==◌, ◌&&◌, true, List, [], ◌∷◌, ◌++◌, Option, Some, None}
+use Rattle.std.specs.Prelude.{length, map, All, ⊤, MatchOption, if◌then◌else◌}
 use Rattle.bully_base.specs.Setup.{Setup}
 use Rattle.bully_calls.specs.declared.call.Call.{Call}
 use Rattle.bully_calls.specs.declared.event.Event.{Event}
@@ -66,7 +67,8 @@ deeds w i e = (if i == node_of e then own_deed w e else []) ++ halt_deed w i e
 abbrev pub what_in : Note → What
 what_in note = note.what
 
--- the note is of the row of this number, which led from v to w, and has moved exactly if node i's point is another one behind it
+-- the note is of the row of this number, which led from v to w, and has moved exactly if node i's point is another one
+-- behind it
 pub record IsNoteOf (v w : World) (number i : ℕ) (note : Note) : Type 0 where
   pub row : note.row ≡ number
   pub moved : (note.moved ≡ true) ↔ (point w i ≢ point v i)
@@ -79,7 +81,8 @@ pub record AreNotesOf (v w : World) (number i : ℕ) (e : Event) (notes : List N
 -- of the event of a row behind these
 abbrev pub AreNotesBehind : Setup → ℕ → List Row → Row → List Note → Event → Type 0
 AreNotesBehind setup i before row notes e =
-    (v : World) × (w : World) × IsBehind setup before v × IsBehind setup (before ++ row ∷ []) w × AreNotesOf v w (length before + 2) i e notes
+    (v : World) × (w : World) × IsBehind setup before v × IsBehind setup (before ++ row ∷ []) w
+    × AreNotesOf v w (length before + 2) i e notes
 
 -- of a row behind these; none of a claim
 abbrev pub AreNotesAt : Setup → ℕ → List Row → Row → List Note → Type 0
@@ -89,7 +92,8 @@ AreNotesAt setup i before row notes = MatchOption (event_in row) (notes ≡ []) 
 abbrev pub AreNotesFrom : Setup → ℕ → List Row → List Row → List Note → Type 0
 AreNotesFrom setup i before [] notes = notes ≡ []
 AreNotesFrom setup i before (row ∷ rows) notes =
-    (here : List Note) × (others : List Note) × (notes ≡ here ++ others) × AreNotesAt setup i before row here × AreNotesFrom setup i (before ++ row ∷ []) rows others
+    (here : List Note) × (others : List Note) × (notes ≡ here ++ others) × AreNotesAt setup i before row here
+    × AreNotesFrom setup i (before ++ row ∷ []) rows others
 
 -- ---- what is remembered
 
@@ -98,17 +102,19 @@ abbrev pub IsLastStart : List Row → ℕ → Option ℕ → Type 0
 IsLastStart rows i started =
     MatchOption started
     ((number : ℕ) → IsEventAt rows number (Event.Start i) → ⊥)
-    (λ last. IsEventAt rows last (Event.Start i) × ((number : ℕ) → IsEventAt rows number (Event.Start i) → number ≤ last))
+    (λ last. IsEventAt rows last (Event.Start i)
+    × ((number : ℕ) → IsEventAt rows number (Event.Start i) → number ≤ last))
 
 -- the table is that of the last plan of node i; none where no row is one
 abbrev pub IsLastPlan : List Row → ℕ → Option (List ℕ) → Type 0
 IsLastPlan rows i planned =
     MatchOption planned
     ((number : ℕ) (table : List ℕ) → IsEventAt rows number (Event.Plan i table) → ⊥)
-    (λ table. (last : ℕ) × IsEventAt rows last (Event.Plan i table) × ((number : ℕ) (other : List ℕ) → IsEventAt rows number (Event.Plan i other) → number ≤ last))
+    (λ table. (last : ℕ) × IsEventAt rows last (Event.Plan i table)
+    × ((number : ℕ) (other : List ℕ) → IsEventAt rows number (Event.Plan i other) → number ≤ last))
 
--- what is remembered of node i behind these rows, none of which decides: exactly the last of all its notes, in their order, the row of its
--- last start, and the table of its last plan
+-- what is remembered of node i behind these rows, none of which decides: exactly the last of all its notes, in their
+-- order, the row of its last start, and the table of its last plan
 pub record IsRemembered (setup : Setup) (rows : List Row) (i : ℕ) (memory : Remembered) : Type 0 where
   pub all : List Note
   pub are : AreNotesFrom setup i [] rows all
@@ -120,4 +126,5 @@ pub record IsRemembered (setup : Setup) (rows : List Row) (i : ℕ) (memory : Re
 -- the same of the nodes from node i on, in rising order
 abbrev pub AreRemembered : Setup → List Row → ℕ → List Remembered → Type 0
 AreRemembered setup rows i [] = ⊤
-AreRemembered setup rows i (memory ∷ memories) = IsRemembered setup rows i memory × AreRemembered setup rows (i + 1) memories
+AreRemembered setup rows i (memory ∷ memories) =
+    IsRemembered setup rows i memory × AreRemembered setup rows (i + 1) memories

@@ -10,8 +10,8 @@ use Rattle.bully_trace.specs.Verdict.{IsVerdict}
 use Rattle.bully_account.specs.declared.showing.NodeSheet.{NodeSheet}
 use Rattle.bully_account.specs.NodeSummary.{ShowsAll}
 
--- the trace has this verdict, as `check` tells it, and the sheets show the world to which its rows were taken: where a row
--- decided, the world before it
+-- the trace has this verdict, as `check` tells it, and the sheets show the world to which its rows were taken: where a
+-- row decided, the world before it
 pub record Explains (verdict : Verdict) (sheets : List NodeSheet) (trace : Trace) : Type 0 where
   pub world : WorldState
   pub reached : IsReached world
@@ -19,7 +19,8 @@ pub record Explains (verdict : Verdict) (sheets : List NodeSheet) (trace : Trace
   pub judged : IsVerdict trace verdict (world_of world)
   pub shown : ShowsAll world sheets
 
--- where the bytes are known: the verdict on the trace that they mean, with these sheets; or the fault that ends their reading
+-- where the bytes are known: the verdict on the trace that they mean, with these sheets; or the fault that ends their
+-- reading
 abbrev pub IsToldOf : Option (List ℕ) → List NodeSheet → Result Verdict TraceFault → Type 0
 IsToldOf known sheets told = MatchResult told (λ verdict. OfTrace known (Explains verdict sheets)) (EndsReading known)
 

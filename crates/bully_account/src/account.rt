@@ -27,8 +27,8 @@ pub struct Stop {
     pub row: Row,
 }
 
-/// What the rows of a trace came to: the judge that took them, the row that decided, where one did, and what is remembered of
-/// each node's rows.
+/// What the rows of a trace came to: the judge that took them, the row that decided, where one did, and what is
+/// remembered of each node's rows.
 #[derive(Drop)]
 pub struct Account {
     judge: Judge,
@@ -47,7 +47,8 @@ impl Model for Account {
 }
 
 impl Account {
-    ghost use Rattle.std.specs.Prelude.{◌≡◌, ◌↔◌, ◌+◌, ◌-◌, ◌<◌, ◌++◌, ◌∷◌, [], List, length, IfOk, IfSome, IsNone, slice_get};
+    ghost use Rattle.std.specs.Prelude.{◌≡◌, ◌↔◌, ◌+◌, ◌-◌, ◌<◌, ◌++◌, ◌∷◌, [], List, length, IfOk, IfSome, IsNone};
+    ghost use Rattle.std.specs.Prelude.{slice_get};
     ghost use Rattle.std.specs.Option.{option_copied};
     ghost use Rattle.bully_account.specs.Accounts.{HasTaken, StopsAt, rows_before};
     ghost use Rattle.bully_account.specs.NodeSummary.{ShowsAll};
@@ -75,7 +76,8 @@ impl Account {
     /// false of it, decides: that row is kept, and no later one changes anything.
     pub fn feed_row<R: Read + Drop>(&mut self, rows: &RowReader<TailReader<R>>, row: Row)
         ensures version { self.new.judge.version ≡ self.old.judge.version }
-        ensures taken { (setup : SetupState) (before : List RowState) → length before + 2 ≡ rows.now.number → HasTaken setup before self.old → HasTaken setup (before ++ row ∷ []) self.new }
+        ensures taken { (setup : SetupState) (before : List RowState) → length before + 2 ≡ rows.now.number
+            → HasTaken setup before self.old → HasTaken setup (before ++ row ∷ []) self.new }
     {
         let number = rows.number();
         let moves = moves_of(self.judge.world(), &row);
@@ -110,8 +112,8 @@ impl Account {
         self.judge.world()
     }
 
-    /// What the world that the rows were taken to has of each node, from node 1 on: where a row decided, the world before it.
-    /// Refused where an allocation fails.
+    /// What the world that the rows were taken to has of each node, from node 1 on: where a row decided, the world
+    /// before it. Refused where an allocation fails.
     pub fn nodes(&self, alloc: Global) -> Result<Vec<NodeSheet>, OutOfMemory>
         ensures { IfOk result (λ sheets. ShowsAll self.now.judge.world sheets.items) }
     {
@@ -122,23 +124,26 @@ impl Account {
     pub fn stop(&self) -> Option<&Stop>
         ensures kept { option_copied result ≡ self.now.stop }
         ensures stops { StopsAt self.now.judge.stopped self.now.stop }
-        ensures row { (setup : SetupState) (rows : List RowState) → HasTaken setup rows self.now → IfSome result (λ stop. IsRowAt rows stop.now.number stop.now.row) }
+        ensures row { (setup : SetupState) (rows : List RowState) → HasTaken setup rows self.now
+            → IfSome result (λ stop. IsRowAt rows stop.now.number stop.now.row) }
     {
         self.stop.as_ref()
     }
 
-    /// What is remembered of the node's rows: of all that were taken, or of those before the one that decided. None of a node that the
-    /// group doesn't have.
+    /// What is remembered of the node's rows: of all that were taken, or of those before the one that decided. None of
+    /// a node that the group doesn't have.
     pub fn memory(&self, node: Node) -> Option<&Memory>
         ensures memory { option_copied result ≡ slice_get self.now.memories (node - 1) }
         ensures none { IsNone result ↔ (self.now.judge.world.setup.nodes < node) }
-        ensures rows { (setup : SetupState) (rows : List RowState) → HasTaken setup rows self.now → IfSome result (λ memory. IsRemembered setup (rows_before self.now.stop rows) node memory.now) }
+        ensures rows { (setup : SetupState) (rows : List RowState) → HasTaken setup rows self.now
+            → IfSome result (λ memory. IsRemembered setup (rows_before self.now.stop rows) node memory.now) }
     {
         self.memories.of(node)
     }
 }
 
-// Keeps the row that was read last as the one that decided, where none was kept yet. It ends at this place of what the source gave.
+// Keeps the row that was read last as the one that decided, where none was kept yet. It ends at this place of what the
+// source gave.
 fn keep<R: Read + Drop>(
     stop: &mut Option<Stop>,
     rows: &RowReader<TailReader<R>>,
@@ -147,7 +152,8 @@ fn keep<R: Read + Drop>(
     row: Row,
 )
     ensures kept { stop.old ≡ None → IsSomeAnd stop.new (λ s. (s.number ≡ rows.now.number) × (s.row ≡ row)) }
-    ensures line { stop.old ≡ None → IsSomeAnd stop.new (λ s. s.line ≡ start_line end.line (ends_line source.now (end.byte - 1)) rows.now.fields) }
+    ensures line { stop.old ≡ None
+        → IsSomeAnd stop.new (λ s. s.line ≡ start_line end.line (ends_line source.now (end.byte - 1)) rows.now.fields) }
     ensures other { IfSome stop.old (λ s. stop.new ≡ stop.old) }
 {
     if stop.is_some() {
@@ -160,7 +166,8 @@ fn keep<R: Read + Drop>(
 
 // Which nodes the row takes to another point, where it doesn't decide.
 fn moves_of(world: &World, row: &Row) -> Moves
-    ensures { IfSome (event_in row.now) (λ e. node_of e ≤ world.now.setup.nodes → result ≡ moves_in (world_of world.now) e) }
+    ensures { IfSome (event_in row.now) (λ e. node_of e ≤ world.now.setup.nodes
+        → result ≡ moves_in (world_of world.now) e) }
 {
     match row {
         Row::Event(event) => moves_by(world, event),

@@ -1,10 +1,12 @@
-//! What the rows of a trace came to: the judge that took them, what is remembered of each node's rows, what the world has of
-//! each node, which kinds of event are possible there, and what is told of the trace, a verdict or its first fault of form.
+//! What the rows of a trace came to: the judge that took them, what is remembered of each node's rows, what the world
+//! has of each node, which kinds of event are possible there, and what is told of the trace, a verdict or its first
+//! fault of form.
 //!
-//! It stands on bully_trace, whose judge decides, and on the crates below it. bully_explain, which makes the sheet of all this,
-//! relies on the verdict being that of `check`, on what is shown of a node being what the world before the row has of it, on the
-//! kinds of event that are listed as possible being those that nothing refuses, on what is remembered of a node being its last rows, and
-//! on nothing being told where a read fails. That `csv` tells where a row ends is tested.
+//! It stands on bully_trace, whose judge decides, and on the crates below it. bully_explain, which makes the sheet of
+//! all this, relies on the verdict being that of `check`, on what is shown of a node being what the world before the
+//! row has of it, on the kinds of event that are listed as possible being those that nothing refuses, on what is
+//! remembered of a node being its last rows, and on nothing being told where a read fails. That `csv` tells where a row
+//! ends is tested.
 #![tactic(auto)]
 
 mod account;

@@ -35,8 +35,8 @@ pub struct Note {
     pub moved: bool,
 }
 
-/// What is remembered of a node's rows: the last [`ROWS_KEPT`], in which row its last call was started, and the table of
-/// its last plan.
+/// What is remembered of a node's rows: the last [`ROWS_KEPT`], in which row its last call was started, and the table
+/// of its last plan.
 #[derive(Drop)]
 pub struct Memory {
     notes: Vec<Note>,
@@ -52,9 +52,11 @@ impl Model for Memory {
 
     ghost Value = { Remembered };
 
-    ghost view = { λ m. record { notes = m.notes.items; started = m.started; planned = m.planned.table; room = m.planned.size } };
+    ghost view = { λ m.
+        record { notes = m.notes.items; started = m.started; planned = m.planned.table; room = m.planned.size } };
 
-    ghost invariant = { λ m. (vec_len m.notes ≤ ROWS_KEPT) × (ROWS_KEPT ≤ vec_capacity m.notes) × (m.planned.size ≡ m.partitions) };
+    ghost invariant = { λ m. (vec_len m.notes ≤ ROWS_KEPT) × (ROWS_KEPT ≤ vec_capacity m.notes)
+        × (m.planned.size ≡ m.partitions) };
 }
 
 impl Memory {
@@ -111,7 +113,8 @@ impl Memory {
 
     /// This table was planned. One of another number of partitions than there is room for is passed over.
     pub fn plan(&mut self, table: &Table)
-        ensures { self.new ≡ (if length table.now == self.old.room then record self.old { planned = Some table.now } else self.old) }
+        ensures { self.new ≡ (if length table.now == self.old.room then record self.old { planned = Some table.now }
+            else self.old) }
     {
         if table.len() == usize::from(self.partitions) {
             self.planned.put(table);
@@ -175,7 +178,8 @@ impl Memories {
     ghost use Rattle.std.specs.Prelude.{◌-◌, ◌↔◌, IfOk, IsNone, MatchOption, slice_get};
     ghost use Rattle.std.specs.Option.{option_copied};
     ghost use Rattle.bully_world.specs.State.{world_of};
-    ghost use Rattle.bully_account.specs.Remembered.{behind_event, each_from, with_halt, with_more, with_note, with_plan, with_start};
+    ghost use Rattle.bully_account.specs.Remembered.{behind_event, each_from, with_halt, with_more, with_note};
+    ghost use Rattle.bully_account.specs.Remembered.{with_plan, with_start};
     ghost use Rattle.bully_account.specs.RowsOf.{event_in};
 
     /// Before any row. Refused where an allocation fails.
@@ -199,12 +203,14 @@ impl Memories {
         self.nodes.get(usize::from(node.number() - 1))
     }
 
-    /// Remembers the row of this number, which led to the world, and which nodes it took to another point; where that isn't told of its
-    /// own, it did if the node isn't idle now. A Halt that ran is remembered of the callee, too, and a claim of nobody.
+    /// Remembers the row of this number, which led to the world, and which nodes it took to another point; where that
+    /// isn't told of its own, it did if the node isn't idle now. A Halt that ran is remembered of the callee, too, and
+    /// a claim of nobody.
     pub fn feed_row(&mut self, world: &World, number: u32, row: &Row, moves: Moves)
         ensures count { vec_len self.new.nodes ≡ vec_len self.old.nodes }
         ensures taken { MatchOption (event_in row.now) (self.new.nodes.items ≡ self.old.nodes.items)
-            (λ e. node_of e ≤ world.now.setup.nodes → self.new.nodes.items ≡ each_from 1 (behind_event (world_of world.now) e number moves) self.old.nodes.items) }
+            (λ e. node_of e ≤ world.now.setup.nodes → self.new.nodes.items
+            ≡ each_from 1 (behind_event (world_of world.now) e number moves) self.old.nodes.items) }
     {
         match row {
             Row::Event(event) => self.feed_event(world, number, event, moves),
@@ -216,7 +222,8 @@ impl Memories {
     // Remembers the event of this row.
     fn feed_event(&mut self, world: &World, row: u32, event: &Event, moves: Moves)
         ensures count { vec_len self.new.nodes ≡ vec_len self.old.nodes }
-        ensures taken { node_of event.now ≤ world.now.setup.nodes → self.new.nodes.items ≡ each_from 1 (behind_event (world_of world.now) event.now row moves) self.old.nodes.items }
+        ensures taken { node_of event.now ≤ world.now.setup.nodes → self.new.nodes.items
+            ≡ each_from 1 (behind_event (world_of world.now) event.now row moves) self.old.nodes.items }
     {
         let node = event.node();
         if node.number() > world.setup().nodes() {
@@ -233,7 +240,8 @@ impl Memories {
     fn take_more(&mut self, world: &World, row: u32, event: &Event, cuts: bool)
         requires { node_of event.now ≤ world.now.setup.nodes }
         ensures count { vec_len self.new.nodes ≡ vec_len self.old.nodes }
-        ensures more { self.new.nodes.items ≡ each_from 1 (with_more (world_of world.now) event.now row cuts) self.old.nodes.items }
+        ensures more { self.new.nodes.items
+            ≡ each_from 1 (with_more (world_of world.now) event.now row cuts) self.old.nodes.items }
     {
         match event {
             Event::Start(node) => self.start(*node, row),
@@ -243,7 +251,8 @@ impl Memories {
         }
     }
 
-    // The call of the caller, which is in its slot, ran in this row: a Halt stopped its callee, which it took to another point or not.
+    // The call of the caller, which is in its slot, ran in this row: a Halt stopped its callee, which it took to
+    // another point or not.
     fn halt(&mut self, caller: Node, call: Option<Call>, row: u32, moved: bool)
         ensures count { vec_len self.new.nodes ≡ vec_len self.old.nodes }
         ensures halted { self.new.nodes.items ≡ each_from 1 (with_halt caller call row moved) self.old.nodes.items }
@@ -294,7 +303,8 @@ impl Memories {
 // Appends what is remembered of one more node before any row.
 fn push_memory(alloc: Global, nodes: &mut Vec<Memory>, setup: &Setup) -> Result<(), OutOfMemory>
     ensures count { OnOk result (vec_len nodes.new ≡ vec_len nodes.old + 1) }
-    ensures remembered { OnOk result (AreRemembered setup.now [] 1 nodes.old.items → AreRemembered setup.now [] 1 nodes.new.items) }
+    ensures remembered { OnOk result (AreRemembered setup.now [] 1 nodes.old.items
+        → AreRemembered setup.now [] 1 nodes.new.items) }
 {
     nodes.push(Memory::new(alloc, setup)?)?;
     Ok(())

@@ -14,7 +14,8 @@ use bully_steps::Point;
 use bully_trace::call_at;
 use bully_world::{Event, World};
 
-/// Which nodes an event takes to another point, where nothing refuses it. A call takes its caller on where it returns, and not before.
+/// Which nodes an event takes to another point, where nothing refuses it. A call takes its caller on where it returns,
+/// and not before.
 #[derive(Clone, Copy)]
 pub struct Moves {
     /// Its own node; none where that is seen behind it alone: a check or a timeout may leave an idle node idle.
@@ -47,8 +48,8 @@ pub fn no_moves() -> Moves
     }
 }
 
-/// Whether the event took its own node to another point, by what was told before it, and the world behind it: where none was told, it did
-/// if the node isn't idle now.
+/// Whether the event took its own node to another point, by what was told before it, and the world behind it: where
+/// none was told, it did if the node isn't idle now.
 pub fn has_moved(own: Option<bool>, world: &World, node: Node) -> bool
     ensures { result ≡ moved_by own (world_of world.now) node }
 {

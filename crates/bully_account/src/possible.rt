@@ -8,8 +8,8 @@ use bully_trace::reached;
 use bully_world::{Event, World};
 use std::alloc::Global;
 
-/// The kinds of event of the node that nothing refuses now, in the order of the profile's table of rows. A plan is among them where
-/// some table can be planned. The node is at most the setup's last. Refused where an allocation fails.
+/// The kinds of event of the node that nothing refuses now, in the order of the profile's table of rows. A plan is
+/// among them where some table can be planned. The node is at most the setup's last. Refused where an allocation fails.
 pub fn possible_now(alloc: Global, world: &World, node: Node) -> Result<Vec<EventKind>, OutOfMemory>
     requires { node ≤ world.now.setup.nodes }
     ensures { IfOk result (λ event_kinds. ArePossible world.now node event_kinds.items) }
@@ -25,7 +25,8 @@ fn event_kinds_passing(
     node: Node,
     can_plan: bool,
 ) -> Result<Vec<EventKind>, OutOfMemory>
-    ensures { IfOk result (λ event_kinds. event_kinds.items ≡ filter (passes world.now node can_plan) every_event_kind) }
+    ensures { IfOk result (λ event_kinds.
+        event_kinds.items ≡ filter (passes world.now node can_plan) every_event_kind) }
 {
     EVERY_EVENT_KIND
         .iter()
@@ -44,8 +45,8 @@ fn passes(world: &World, node: Node, event_kind: EventKind, can_plan: bool) -> b
     }
 }
 
-// Whether nothing refuses a plan of the node: that with the table which the rule of plans gives, if the node is Planning.
-// Any other table is refused no less.
+// Whether nothing refuses a plan of the node: that with the table which the rule of plans gives, if the node is
+// Planning. Any other table is refused no less.
 fn can_plan(alloc: Global, world: &World, node: Node) -> Result<bool, OutOfMemory>
     requires { node ≤ world.now.setup.nodes }
     ensures { IfOk result (λ can. (can ≡ true) ↔ IsPossible world.now node EventKind.Plan) }

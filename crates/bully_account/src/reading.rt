@@ -9,15 +9,16 @@ use bully_rows::{Header, Row, RowReader, TraceFault, TraceFeed, TraceSink, feed_
 use std::alloc::Global;
 use std::io::Read;
 
-/// Takes all rows of a text to the account, which the header makes. Refused as `check` refuses the trace; the account is
-/// then that of the rows before the one at fault.
+/// Takes all rows of a text to the account, which the header makes. Refused as `check` refuses the trace; the account
+/// is then that of the rows before the one at fault.
 pub fn read_each<R: Read + Drop>(
     alloc: Global,
     rows: &mut RowReader<TailReader<R>>,
     account: &mut Option<Account>,
 ) -> Result<(), TraceFault>
     requires { account.old ≡ None }
-    ensures taken { (known : Option (List ℕ)) → IsUnread known rows.old → OnOk result (AreTakenToEnd known account.new) }
+    ensures taken { (known : Option (List ℕ)) → IsUnread known rows.old
+        → OnOk result (AreTakenToEnd known account.new) }
     ensures fault { (known : Option (List ℕ)) → IsUnread known rows.old → IfErr result (EndsReading known) }
 {
     let mut feed: TraceFeed<(), Account> = TraceFeed {

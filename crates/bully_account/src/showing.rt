@@ -24,8 +24,8 @@ pub struct NodeSummary {
     pub call: Option<PendingCall>,
 }
 
-/// What a sheet tells of a node: what is shown of it, and the kinds of event that nothing refuses now, in the order of the profile's
-/// table of rows.
+/// What a sheet tells of a node: what is shown of it, and the kinds of event that nothing refuses now, in the order of
+/// the profile's table of rows.
 #[derive(Drop)]
 pub struct NodeSheet {
     pub shown: NodeSummary,

@@ -7,8 +7,8 @@ use csv::{ByteRecord, Position};
 use std::io;
 use std::io::Read;
 
-/// A reader that keeps what it gave last, so that it can be told whether a line ended at a place within that; and whether it
-/// had nothing more to give.
+/// A reader that keeps what it gave last, so that it can be told whether a line ended at a place within that; and
+/// whether it had nothing more to give.
 #[derive(Drop)]
 pub struct TailReader<R: Read> {
     reader: R,
@@ -32,7 +32,8 @@ impl<R: Read> Read for TailReader<R> {
 
     fn read(&mut self, buf: &mut [u8]) -> io::Result<usize>
         ensures bound { ReadsAtMost result buf.new }
-        ensures bytes { ReadConsumes (R.remaining (source_of self.old)) (R.remaining (source_of self.new)) result buf.new }
+        ensures bytes { ReadConsumes (R.remaining (source_of self.old))
+            (R.remaining (source_of self.new)) result buf.new }
         ensures noted { IfOk result (λ count. Notes (length buf.new) (take count buf.new) self.old self.new) }
     {
         let given = self.reader.read(buf)?;
@@ -98,9 +99,9 @@ impl<R: Read> TailReader<R> {
         end.byte == self.before.saturating_add(self.count as u64)
     }
 
-    /// Whether a line ended with the byte before which there are so many others; not where it isn't kept any more, nor where
-    /// there was nothing more: then it was the end of the input that ended the last row, and what stands there is within it, or
-    /// there is no line feed.
+    /// Whether a line ended with the byte before which there are so many others; not where it isn't kept any more, nor
+    /// where there was nothing more: then it was the end of the input that ended the last row, and what stands there is
+    /// within it, or there is no line feed.
     pub fn ends_line(&self, place: u64) -> bool
         ensures { result ≡ ends_line self.now place }
     {
@@ -112,8 +113,8 @@ impl<R: Read> TailReader<R> {
     }
 }
 
-/// The line at which a row starts that ends at this place of what the reader gave, and has these fields, counted from 1 by
-/// line feeds: that of its end, less the line feed that ended it, if one did, and those within its fields.
+/// The line at which a row starts that ends at this place of what the reader gave, and has these fields, counted from 1
+/// by line feeds: that of its end, less the line feed that ended it, if one did, and those within its fields.
 pub fn line_of<R: Read>(source: &TailReader<R>, end: Position, fields: &ByteRecord) -> u64
     ensures { result ≡ start_line end.line (ends_line source.now (end.byte - 1)) (fields_of fields.now) }
 {

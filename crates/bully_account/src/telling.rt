@@ -13,27 +13,31 @@ use bully_trace::{Verdict, reached};
 use std::alloc::Global;
 use std::io::Read;
 
-/// What is told of a trace, a verdict or a fault of form; and what is shown of each node, from node 1 on, where it is a verdict.
+/// What is told of a trace, a verdict or a fault of form; and what is shown of each node, from node 1 on, where it is a
+/// verdict.
 #[derive(Drop)]
 pub struct TraceReport {
     pub verdict: Result<Verdict, TraceFault>,
     pub nodes: Vec<NodeSheet>,
 }
 
-/// Takes all rows of a text, of which none was read, to the account, which the header makes, and tells the verdict as `check`
-/// does, or the first fault of form. With a verdict the account is there. Refused where there is nothing to tell: as `Read` where the reader fails, at the row behind
-/// those that were read; and as `OutOfMemory`, at row 0, where the account or what is shown can't be made.
+/// Takes all rows of a text, of which none was read, to the account, which the header makes, and tells the verdict as
+/// `check` does, or the first fault of form. With a verdict the account is there. Refused where there is nothing to
+/// tell: as `Read` where the reader fails, at the row behind those that were read; and as `OutOfMemory`, at row 0,
+/// where the account or what is shown can't be made.
 pub fn tell<R: Read + Drop>(
     alloc: Global,
     rows: &mut RowReader<TailReader<R>>,
     account: &mut Option<Account>,
 ) -> Result<TraceReport, TraceFault>
     requires { account.old ≡ None }
-    ensures told { (known : Option (List ℕ)) → IsUnread known rows.old → IfOk result (λ told. IsToldOf known told.nodes.items told.verdict) }
+    ensures told { (known : Option (List ℕ)) → IsUnread known rows.old
+        → IfOk result (λ told. IsToldOf known told.nodes.items told.verdict) }
     ensures form { IfOk result (λ told. IfErr told.verdict (λ fault. is_of_form fault.cause ≡ true)) }
     ensures account { IfOk result (λ told. IfOk told.verdict (λ verdict. IsSome account.new)) }
     ensures taken { (known : Option (List ℕ)) → IsUnread known rows.old
-        → IfOk result (λ told. IfOk told.verdict (λ verdict. IfSome account.new (λ a. OfTrace known (λ trace. HasTaken trace.setup trace.rows a)))) }
+        → IfOk result (λ told. IfOk told.verdict (λ verdict.
+        IfSome account.new (λ a. OfTrace known (λ trace. HasTaken trace.setup trace.rows a)))) }
     ensures sheets { IfOk result (λ told. IfErr told.verdict (λ fault. told.nodes.items ≡ [])) }
     ensures fault { (known : Option (List ℕ)) → IsUnread known rows.old → IfErr result (EndsReading known) }
     ensures untold { IfErr result IsUntold }
@@ -49,7 +53,8 @@ pub fn tell<R: Read + Drop>(
 
 // The verdict, and what is shown of each node.
 fn verdict_told(alloc: Global, account: &Account) -> Result<TraceReport, TraceFault>
-    ensures told { (known : Option (List ℕ)) → AreAllTaken known account.now → IfOk result (λ told. IsToldOf known told.nodes.items told.verdict) }
+    ensures told { (known : Option (List ℕ)) → AreAllTaken known account.now
+        → IfOk result (λ told. IsToldOf known told.nodes.items told.verdict) }
     ensures verdict { IfOk result (λ told. (verdict : VerdictState) × (told.verdict ≡ Ok verdict)) }
     ensures fault { IfErr result (λ fault. fault ≡ no_memory) }
 {
@@ -64,7 +69,8 @@ fn verdict_told(alloc: Global, account: &Account) -> Result<TraceReport, TraceFa
 
 // The fault, where it is one of form; another one isn't told.
 fn fault_told(alloc: Global, fault: TraceFault) -> Result<TraceReport, TraceFault>
-    ensures told { IfOk result (λ told. (told.verdict ≡ Err fault) × (told.nodes.items ≡ []) × (is_of_form fault.cause ≡ true)) }
+    ensures told { IfOk result (λ told. (told.verdict ≡ Err fault) × (told.nodes.items ≡ [])
+        × (is_of_form fault.cause ≡ true)) }
     ensures other { IfErr result (λ other. (other ≡ fault) × IsUntold fault) }
 {
     if !is_of_form(fault.cause) {

@@ -46,7 +46,8 @@ IsRefused Premise old e why = IsRefusedAt Premise old.setup old.node old.events 
 
 -- an agent of node i, which is Down and has kept this task, with so many events told before
 abbrev pub new_agent : Setup → ℕ → ℕ → Option (List ℕ) → AgentState
-new_agent setup i events task = record { setup = setup; node = i; events = events; number = events; node_state = down_state setup.partitions task }
+new_agent setup i events task =
+    record { setup = setup; node = i; events = events; number = events; node_state = down_state setup.partitions task }
 
 -- what a world has of such a node
 abbrev pub down_node_state : Option (List ℕ) → NodeState
@@ -54,7 +55,8 @@ down_node_state task = record { vector = record empty_vector { task = task }; po
 
 -- what it wants to do next: to await where a call is in its slot, else what its point offers
 abbrev pub wanted : AgentState → Want
-wanted a = if is_some a.node_state.slot.content then Want.Await else offered a.setup a.node_state.vector.vector.coordinator a.node_state.point
+wanted a = if is_some a.node_state.slot.content then Want.Await else
+    offered a.setup a.node_state.vector.vector.coordinator a.node_state.point
 
 -- an event of this kind is one that a node takes by itself: it needs no other node, no request and no reply
 abbrev pub IsAlone : EventKind → Type 0
@@ -70,7 +72,11 @@ number_after e events number = number
 
 -- the agent after such an event
 abbrev pub agent_after : Event → AgentState → AgentState
-agent_after e a = record a { events = a.events + 1; number = number_after e a.events a.number; node_state = node_after a.setup e a.node_state }
+agent_after e a = record a {
+  events = a.events + 1;
+  number = number_after e a.events a.number;
+  node_state = node_after a.setup e a.node_state;
+}
 
 -- the agent took the event, for which there was room: it tells event and answer, is what the event makes of it, and the
 -- event leads on in every world of which it may be a part

@@ -1,4 +1,5 @@
--- What comes to an agent from other nodes, or of its own call: what the world has of it, and what the agent makes of it.
+-- What comes to an agent from other nodes, or of its own call: what the world has of it, and what the agent makes of
+-- it.
 use Rattle.std.specs.Prelude.{◌≡◌, ◌≢◌, ◌≤◌, ◌<◌, ◌+◌, ℕ, true, Option, Some, None, IfSome, if◌then◌else◌}
 use Rattle.bully_base.specs.declared.node.Status.TheVariants.{Down}
 use Rattle.bully_base.specs.Setup.{Setup, IsNode}
@@ -41,7 +42,8 @@ pub record SuitsNode (setup : Setup) (i : ℕ) (request : Request) : Type 0 wher
 -- the request of the agent's call, while that is under way
 abbrev pub request_in : AgentState → Option SlotCall → Option Request
 request_in a None = None
-request_in a (Some p) = if is_sent p.phase then Some (record { caller = a.node; number = a.number; call = p.call; table = p.table }) else None
+request_in a (Some p) = if is_sent p.phase
+    then Some (record { caller = a.node; number = a.number; call = p.call; table = p.table }) else None
 
 abbrev pub request_of : AgentState → Option Request
 request_of a = request_in a a.node_state.slot.content
@@ -52,8 +54,8 @@ pub record IsWaiting (i : ℕ) (w : World) : Type 0 where
   pub is : pending w i ≡ Some call
   pub sent : call.phase ≡ Phase.Sent
 
--- the request that is given out, if any, is one that its callee may serve: in each world of which the agent may be a part, and
--- where its call waits, this is its call
+-- the request that is given out, if any, is one that its callee may serve: in each world of which the agent may be a
+-- part, and where its call waits, this is its call
 abbrev pub GivesOut : AgentState → Option Request → Type 0
 GivesOut a given = IfSome given (λ r. (w : World) → PartOf a w → IsWaiting a.node w → IsRequested r.call.callee r w)
 
@@ -64,22 +66,31 @@ pub record CanServe (setup : Setup) (i events : ℕ) (m : StoredNode) (request :
   pub suits : SuitsNode setup i request
   pub up : m.vector.vector.status ≢ Down
 
--- why a request is refused, the first of these that holds: no room for the event, a caller above the setup's last node, a
--- request that may not come to node i, a node that is Down
+-- why a request is refused, the first of these that holds: no room for the event, a caller above the setup's last node,
+-- a request that may not come to node i, a node that is Down
 abbrev pub RefusesRequest : Setup → ℕ → ℕ → StoredNode → Request → Refused → Type 0
 RefusesRequest setup i events m r Refused.Full = setup.events_max ≤ events
 RefusesRequest setup i events m r Refused.BadNode = (events < setup.events_max) × (setup.nodes < r.caller)
-RefusesRequest setup i events m r Refused.NoCall = (events < setup.events_max) × IsNode setup r.caller × (SuitsNode setup i r → ⊥)
-RefusesRequest setup i events m r Refused.CalleeDown = (events < setup.events_max) × IsNode setup r.caller × SuitsNode setup i r × (m.vector.vector.status ≡ Down)
+RefusesRequest setup i events m r Refused.NoCall = (events < setup.events_max) × IsNode setup r.caller
+    × (SuitsNode setup i r → ⊥)
+RefusesRequest setup i events m r Refused.CalleeDown = (events < setup.events_max) × IsNode setup r.caller
+    × SuitsNode setup i r × (m.vector.vector.status ≡ Down)
 RefusesRequest setup i events m r _ = ⊥
 
--- the request ran at the agent, where nothing refused it: it tells the event and the reply, is what the call makes of it,
--- and the event leads on in every world of which it may be a part, and in which this is the caller's call
+-- the request ran at the agent, where nothing refused it: it tells the event and the reply, is what the call makes of
+-- it, and the event leads on in every world of which it may be a part, and in which this is the caller's call
 pub record IsServed (old : AgentState) (request : Request) (new : AgentState) (served : Served) : Type 0 where
   pub can : CanServe old.setup old.node old.events old.node_state request
   pub event : served.event ≡ Event.Run request.caller
-  pub answered : served.reply ≡ record { caller = request.caller; number = request.number; answer = reply request.call.kind old.node_state.vector.vector }
-  pub after : new ≡ record old { events = old.events + 1; node_state = heard_state request.caller request.call request.table old.node_state }
+  pub answered : served.reply ≡ record {
+    caller = request.caller;
+    number = request.number;
+    answer = reply request.call.kind old.node_state.vector.vector;
+  }
+  pub after : new ≡ record old {
+    events = old.events + 1;
+    node_state = heard_state request.caller request.call request.table old.node_state;
+  }
   pub follows : Follows (IsRequested old.node request) old (Event.Run request.caller) served.reply.answer new
 
 -- node i's call ran with this answer
@@ -88,8 +99,8 @@ pub record HasRun (i : ℕ) (answer : Answer) (w : World) : Type 0 where
   pub is : pending w i ≡ Some call
   pub ran : call.phase ≡ Phase.Ran answer
 
--- the reply tells what the run comes to: wherever that leads from a world of which the agent may be a part, and in which the
--- request is the caller's call, that call ran with this answer
+-- the reply tells what the run comes to: wherever that leads from a world of which the agent may be a part, and in
+-- which the request is the caller's call, that call ran with this answer
 abbrev pub TellsRun : AgentState → Request → Reply → Type 0
 TellsRun a request reply =
     (w w' : World) (answer : Answer) → PartOf a w → IsRequested a.node request w
@@ -124,7 +135,10 @@ pub record IsReturned (old : AgentState) (reply : Reply) (new : AgentState) (tak
   pub due : IsDue old reply
   pub event : taken.event ≡ Event.Return old.node
   pub answer : taken.answer ≡ returned_answer old.node (Phase.Ran reply.answer) old.node_state
-  pub after : new ≡ record old { events = old.events + 1; node_state = returned_by old.setup old.node (Phase.Ran reply.answer) old.node_state }
+  pub after : new ≡ record old {
+    events = old.events + 1;
+    node_state = returned_by old.setup old.node (Phase.Ran reply.answer) old.node_state;
+  }
   pub follows : Follows (HasRun old.node reply.answer) old (Event.Return old.node) taken.answer new
 
 -- why a reply is refused: the agent told as many events as the setup bounds, or else it isn't one to its call
@@ -142,17 +156,20 @@ pub record IsAwaited (a : AgentState) (number : ℕ) : Type 0 where
   pub number_is : number ≡ a.number
   pub sent : holds_call is_sent a.node_state.slot ≡ true
 
--- the agent's call, the one of this number, failed, which leads on in every world of which the agent may be a part and where
--- the callee is Down, and returned, which leads on from there; there was room for both events
+-- the agent's call, the one of this number, failed, which leads on in every world of which the agent may be a part and
+-- where the callee is Down, and returned, which leads on from there; there was room for both events
 pub record IsFailed (old : AgentState) (number : ℕ) (new : AgentState) (failed : FailedCall) : Type 0 where
   pub room : old.events + 1 < old.setup.events_max
   pub awaited : IsAwaited old number
   pub lost : failed.lost ≡ Event.Lose old.node
   pub event : failed.returned.event ≡ Event.Return old.node
   pub answer : failed.returned.answer ≡ returned_answer old.node Phase.Failed old.node_state
-  pub after : new ≡ record old { events = old.events + 2; node_state = returned_by old.setup old.node Phase.Failed old.node_state }
-  pub loses : FollowsAt (CalleeIsDown old.node_state.slot) old.setup old.node old.node_state (Event.Lose old.node) Answer.Done (phased_state Phase.Failed old.node_state)
-  pub follows : FollowsAt Always old.setup old.node (phased_state Phase.Failed old.node_state) (Event.Return old.node) failed.returned.answer new.node_state
+  pub after : new
+      ≡ record old { events = old.events + 2; node_state = returned_by old.setup old.node Phase.Failed old.node_state }
+  pub loses : FollowsAt (CalleeIsDown old.node_state.slot) old.setup old.node old.node_state
+      (Event.Lose old.node) Answer.Done (phased_state Phase.Failed old.node_state)
+  pub follows : FollowsAt Always old.setup old.node (phased_state Phase.Failed old.node_state)
+      (Event.Return old.node) failed.returned.answer new.node_state
 
 -- why a failure is refused: there isn't room for two events, or else no such call is under way
 abbrev pub RefusesFailure : AgentState → ℕ → Refused → Type 0

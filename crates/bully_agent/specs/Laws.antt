@@ -27,11 +27,12 @@ AreParts setup kept w = (k : ℕ) → IsNode setup k → IsPart setup k (kept k)
 abbrev pub with_part : (ℕ → StoredNode) → ℕ → StoredNode → ℕ → StoredNode
 with_part kept i next k = if k == i then next else kept k
 
--- Where a lawful list leads to a world of which all nodes are parts, and with room for one event more: a step at node i,
--- after which what comes of it is a part of the world, makes the list longer by one, and lawful still, and all nodes are
--- parts of the world to which it leads.
+-- Where a lawful list leads to a world of which all nodes are parts, and with room for one event more: a step at node
+-- i, after which what comes of it is a part of the world, makes the list longer by one, and lawful still, and all nodes
+-- are parts of the world to which it leads.
 abbrev pub GroupGoesOn : Type 0
-GroupGoesOn = (setup : Setup) (events : List Event) (answers : List Answer) (w w' : World) (kept : ℕ → StoredNode) (i : ℕ) (e : Event) (a : Answer) (next : StoredNode)
+GroupGoesOn = (setup : Setup) (events : List Event) (answers : List Answer) (w w' : World) (kept : ℕ
+    → StoredNode) (i : ℕ) (e : Event) (a : Answer) (next : StoredNode)
     → IsLawful setup events answers w → length events < setup.events_max → AreParts setup kept w
     → Step setup w e w' a → place_of w e ≡ i → IsPart setup i next w'
     → IsLawful setup (events ++ e ∷ []) (answers ++ a ∷ []) w' × AreParts setup (with_part kept i next) w'

@@ -33,8 +33,8 @@ pub record IsPart (setup : Setup) (i : ℕ) (m : StoredNode) (w : World) : Type 
 abbrev pub Always : World → Type 0
 Always w = Unit {0}
 
--- In every world of which m is node i, and in which the premise holds, the event leads on with this answer, and what comes
--- of m is node i of the world to which it leads.
+-- In every world of which m is node i, and in which the premise holds, the event leads on with this answer, and what
+-- comes of m is node i of the world to which it leads.
 abbrev pub FollowsAt : (World → Type 0) → Setup → ℕ → StoredNode → Event → Answer → StoredNode → Type 0
 FollowsAt Premise setup i m e answer next =
     (w : World) → IsPart setup i m w → Premise w → (w' : World) × Step setup w e w' answer × IsPart setup i next w'

@@ -6,8 +6,10 @@ ghost use Rattle.bully_base.specs.NodeSet.{with_node};
 ghost use Rattle.bully_table.specs.Planning.{planned};
 ghost use Rattle.bully_calls.specs.declared.kind.EventKind.{EventKind};
 ghost use Rattle.bully_calls.specs.Events.{event_at, kind_of, node_of};
-ghost use Rattle.bully_agent.specs.Agent.{IsAlone, IsRefused, IsTaken, PartOf, down_node_state, new_agent, number_after, wanted};
-ghost use Rattle.bully_agent.specs.Calls.{GivesOut, IsAwaited, IsDue, IsFailed, IsReplyTo, IsRequested, IsReturned, IsServed, RefusesFailure, RefusesReply, RefusesRequest, TellsRun, request_of};
+ghost use Rattle.bully_agent.specs.Agent.{IsAlone, IsRefused, IsTaken, PartOf, down_node_state, new_agent};
+ghost use Rattle.bully_agent.specs.Agent.{number_after, wanted};
+ghost use Rattle.bully_agent.specs.Calls.{GivesOut, IsAwaited, IsDue, IsFailed, IsReplyTo, IsRequested, IsReturned};
+ghost use Rattle.bully_agent.specs.Calls.{IsServed, RefusesFailure, RefusesReply, RefusesRequest, TellsRun, request_of};
 ghost use Rattle.bully_agent.specs.Part.{Always};
 
 use crate::applying::apply_alone;
@@ -25,9 +27,9 @@ use std::marker::Model;
 
 /// One node on its own.
 ///
-/// Each call that changes it is refused and changes nothing, or is an event of the group, which it tells for the log. Its
-/// contract says so of every world of which the agent may be a part; some calls have a premise that the agent can't see,
-/// and that whoever carries requests and replies has to keep: docs/NODE.md.
+/// Each call that changes it is refused and changes nothing, or is an event of the group, which it tells for the log.
+/// Its contract says so of every world of which the agent may be a part; some calls have a premise that the agent can't
+/// see, and that whoever carries requests and replies has to keep: docs/NODE.md.
 #[derive(Drop, Debug)]
 pub struct Agent {
     setup: Setup,
@@ -42,7 +44,8 @@ impl Model for Agent {
 
     ghost Value = { AgentState };
 
-    ghost view = { λ a. record { setup = a.setup; node = a.node; events = a.events; number = a.number; node_state = a.node_state } };
+    ghost view = { λ a.
+        record { setup = a.setup; node = a.node; events = a.events; number = a.number; node_state = a.node_state } };
 
     ghost invariant = { λ a. IsAgentOf a.setup a.node a.events a.node_state };
 }
@@ -66,9 +69,9 @@ pub struct FailedCall {
 }
 
 impl Agent {
-    /// The agent of a node, which is at most the setup's last, while the node is Down. The node's log has so many events,
-    /// none at first; and it has kept this task, if any, which has the setup's partitions. It reserves room for a task and for a
-    /// call's table, so that no call which changes it takes memory. Refused where an allocation fails.
+    /// The agent of a node, which is at most the setup's last, while the node is Down. The node's log has so many
+    /// events, none at first; and it has kept this task, if any, which has the setup's partitions. It reserves room for
+    /// a task and for a call's table, so that no call which changes it takes memory. Refused where an allocation fails.
     pub fn new(
         alloc: Global,
         setup: &Setup,
@@ -80,7 +83,8 @@ impl Agent {
         requires task { IfSome (option_copied task) (λ t. length t ≡ setup.now.partitions) }
         ensures state { IfOk result (λ a. a ≡ new_agent setup.now node events (option_copied task.entry)) }
         ensures first { IfOk result (λ a. option_copied task.entry ≡ None → PartOf a (first_world setup.now)) }
-        ensures part { IfOk result (λ a. (w : World) → WorldInvariant setup.now w → node_state w node ≡ down_node_state (option_copied task.entry) → PartOf a w) }
+        ensures part { IfOk result (λ a. (w : World) → WorldInvariant setup.now w
+            → node_state w node ≡ down_node_state (option_copied task.entry) → PartOf a w) }
     {
         // `number` also shows the proof that this is a node.
         let _number = node.number();
@@ -162,8 +166,8 @@ impl Agent {
         self.node_state.offer(&self.setup, self.node)
     }
 
-    /// The request of the node's call, while that is under way: to be sent to its callee, once. Only a Ready takes memory,
-    /// for its table; refused where an allocation fails.
+    /// The request of the node's call, while that is under way: to be sent to its callee, once. Only a Ready takes
+    /// memory, for its table; refused where an allocation fails.
     pub fn request(&self) -> Result<Option<Request>, OutOfMemory>
         ensures request { IfOk result (λ request. request ≡ request_of self.now) }
         ensures requested { IfOk result (GivesOut self.now) }
@@ -187,7 +191,8 @@ impl Agent {
     /// [`Agent::plan`] takes at Planning. Refused where an allocation fails.
     pub fn prepare(&self, alloc: Global, old: Option<&Table>) -> Result<Table, OutOfMemory>
         requires { IfSome (option_copied old) (λ t. length t ≡ self.now.setup.partitions) }
-        ensures { IfOk result (λ table. table ≡ planned self.now.setup (option_copied old.entry) (with_node self.now.node self.now.node_state.vector.vector.up)) }
+        ensures { IfOk result (λ table. table ≡ planned self.now.setup (option_copied old.entry)
+            (with_node self.now.node self.now.node_state.vector.vector.up)) }
     {
         let up = self.node_state.vector().up();
         match planned_table(alloc, &self.setup, self.node, up, old) {
@@ -196,9 +201,10 @@ impl Agent {
         }
     }
 
-    /// The node takes the event of this kind by itself: any but a Run, which is [`Agent::serve`], a Lose and a Return, which are
-    /// [`Agent::failed`] and [`Agent::replied`]. Of a process that dies nobody takes its Crash: whoever sees its death logs that. Once
-    /// a Start is taken, [`Agent::request`] has what is to be sent. What each does: docs/ALGORITHM.md. Refused as
+    /// The node takes the event of this kind by itself: any but a Run, which is [`Agent::serve`], a Lose and a Return,
+    /// which are [`Agent::failed`] and [`Agent::replied`]. Of a process that dies nobody takes its Crash: whoever sees
+    /// its death logs that. Once a Start is taken, [`Agent::request`] has what is to be sent. What each does:
+    /// docs/ALGORITHM.md. Refused as
     ///
     /// - `Full`; `IsDown`, but a Recover as `IsUp`;
     /// - a Check and a Timeout as `Busy`;
@@ -225,14 +231,16 @@ impl Agent {
     /// The request runs at the node. Refused as `Full`; `BadNode`, where its caller is above the setup's last node;
     /// `NoCall`, where no node makes such a call to this one; `CalleeDown`.
     ///
-    /// Premise: the request is the caller's call, which was sent and didn't run yet. What [`Agent::request`] of the caller gives
-    /// out is that, until the call runs or is over.
+    /// Premise: the request is the caller's call, which was sent and didn't run yet. What [`Agent::request`] of the
+    /// caller gives out is that, until the call runs or is over.
     pub fn serve(&mut self, request: &Request) -> Result<Served, Refused>
         ensures served { IfOk result (IsServed self.old request.now self.new) }
         ensures told { IfOk result (λ served. TellsRun self.old request.now served.reply) }
         ensures due { IfOk result (λ served. IsReplyTo request.now served.reply) }
-        ensures why { IfErr result (IsRefused (IsRequested self.old.node request.now) self.old (Event.Run request.now.caller)) }
-        ensures refusal { IfErr result (RefusesRequest self.old.setup self.old.node self.old.events self.old.node_state request.now) }
+        ensures why { IfErr result
+            (IsRefused (IsRequested self.old.node request.now) self.old (Event.Run request.now.caller)) }
+        ensures refusal { IfErr result
+            (RefusesRequest self.old.setup self.old.node self.old.events self.old.node_state request.now) }
         ensures unchanged { IfErr result (λ _. self.new ≡ self.old) }
     {
         let cause = request_cause(
@@ -263,8 +271,8 @@ impl Agent {
         })
     }
 
-    /// The node's call returns with this reply. Refused as `Full`; `NoCall`, where it is no reply to the call that the node
-    /// has under way.
+    /// The node's call returns with this reply. Refused as `Full`; `NoCall`, where it is no reply to the call that the
+    /// node has under way.
     ///
     /// Premise: the call ran at its callee and was answered so. The reply of [`Agent::serve`] of the callee tells that.
     pub fn replied(&mut self, reply: Reply) -> Result<AppliedStep, Refused>
@@ -293,8 +301,8 @@ impl Agent {
         })
     }
 
-    /// The node's call of this number failed, and returns: two events. Refused as `Full`, where there isn't room for both;
-    /// `NoCall`, where the node has no such call under way.
+    /// The node's call of this number failed, and returns: two events. Refused as `Full`, where there isn't room for
+    /// both; `NoCall`, where the node has no such call under way.
     ///
     /// Premise: the callee is Down.
     pub fn failed(&mut self, number: u32) -> Result<FailedCall, Refused>

@@ -9,7 +9,8 @@ use bully_base::Setup;
 use bully_calls::Answer;
 use bully_world::{Event, NodeState, Refused, is_full_for, own_cause};
 
-/// Why such an event is refused, with so many events told; none where it isn't. `node_state` is that of the event's node.
+/// Why such an event is refused, with so many events told; none where it isn't. `node_state` is that of the event's
+/// node.
 // (inlined, as `Agent::apply_event` is)
 #[inline(always)]
 pub fn alone_cause(
@@ -42,7 +43,8 @@ fn recover_cause(is_down: bool) -> Option<Refused>
     if is_down { None } else { Some(Refused::IsUp) }
 }
 
-/// Such an event is taken, where nothing refuses it. `node_state` is that of the event's node, which told so many events.
+/// Such an event is taken, where nothing refuses it. `node_state` is that of the event's node, which told so many
+/// events.
 // (inlined, as `Agent::apply_event` is)
 #[inline(always)]
 pub fn apply_alone(
@@ -58,7 +60,8 @@ pub fn apply_alone(
     ensures room { OnOk result (events < setup.now.events_max) }
     ensures small { OnOk result (events + 1 < 2 ^ 32) }
     ensures is { OnOk result (IsAgentOf setup.now (node_of event.now) (events + 1) node_state.new) }
-    ensures follows { IfOk result (λ answer. FollowsAt Always setup.now (node_of event.now) node_state.old event.now answer node_state.new) }
+    ensures follows { IfOk result (λ answer.
+        FollowsAt Always setup.now (node_of event.now) node_state.old event.now answer node_state.new) }
     ensures why { IfErr result (IsRefusedAt Always setup.now (node_of event.now) events node_state.old event.now) }
     ensures unchanged { IfErr result (λ _. node_state.new ≡ node_state.old) }
 {

@@ -1,10 +1,10 @@
 //! One node on its own: what a process keeps of it, without IO, lock, thread or clock. What it does is a step of the
 //! group, whatever the other nodes are.
 //!
-//! It stands on bully_world, bully_agree, bully_calls and the crates below them. Whoever builds on it relies on each call
-//! of an `Agent` being a step in every world of which the agent may be a part, under the premise that its contract names;
-//! on what agents give out meeting the premises of `serve` and `replied`; on the law that such a step leaves all other
-//! agents parts of the same world; and on the law that they agree.
+//! It stands on bully_world, bully_agree, bully_calls and the crates below them. Whoever builds on it relies on each
+//! call of an `Agent` being a step in every world of which the agent may be a part, under the premise that its contract
+//! names; on what agents give out meeting the premises of `serve` and `replied`; on the law that such a step leaves all
+//! other agents parts of the same world; and on the law that they agree.
 #![tactic(auto)]
 
 ghost use Rattle.bully_agent.specs.Laws.{GroupGoesOn, KeepsOthers, PartsAgree, RunsStay};
@@ -23,15 +23,17 @@ pub fn others_stay()
     ensures { KeepsOthers }
 {}
 
-/// The law of replies. A call that ran with an answer stays one that ran with it, whatever the others do and hear, and until
-/// its caller loses it, takes its return, drops it or crashes. So a reply may be on its way for as long as it takes.
+/// The law of replies. A call that ran with an answer stays one that ran with it, whatever the others do and hear, and
+/// until its caller loses it, takes its return, drops it or crashes. So a reply may be on its way for as long as it
+/// takes.
 pub fn runs_stay()
     ensures { RunsStay }
 {}
 
-/// The law of groups. Where all agents are parts of a world that a lawful list of events leads to, and one of them takes a
-/// step from there, the list with that event is lawful as long as there is room for it, and all agents are parts of the
-/// world to which it leads. So nothing else is needed for any number of agents than that each call meets its premise.
+/// The law of groups. Where all agents are parts of a world that a lawful list of events leads to, and one of them
+/// takes a step from there, the list with that event is lawful as long as there is room for it, and all agents are
+/// parts of the world to which it leads. So nothing else is needed for any number of agents than that each call meets
+/// its premise.
 pub fn group_goes_on()
     ensures { GroupGoesOn }
 {}

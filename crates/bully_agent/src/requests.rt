@@ -22,7 +22,8 @@ pub fn request_cause(
     node_state: &NodeState,
     request: &Request,
 ) -> Option<Refused>
-    ensures why { IfSome result (IsRefusedAt (IsRequested node request.now) setup.now node events node_state.now (Event.Run request.now.caller)) }
+    ensures why { IfSome result (IsRefusedAt (IsRequested node request.now) setup.now node events node_state.now
+        (Event.Run request.now.caller)) }
     ensures refusal { IfSome result (RefusesRequest setup.now node events node_state.now request.now) }
     ensures can { IfNone result (CanServe setup.now node events node_state.now request.now) }
     ensures small { IfNone result (events + 1 < 2 ^ 32) }
@@ -56,7 +57,8 @@ pub fn serve_request(
     ensures after { node_state.new ≡ heard_state request.now.caller request.now.call request.now.table node_state.old }
     ensures answer { result ≡ reply request.now.call.kind node_state.old.vector.vector }
     ensures is { IsAgentOf setup.now node (events + 1) node_state.new }
-    ensures follows { FollowsAt (IsRequested node request.now) setup.now node node_state.old (Event.Run request.now.caller) result node_state.new }
+    ensures follows { FollowsAt (IsRequested node request.now) setup.now node node_state.old
+        (Event.Run request.now.caller) result node_state.new }
 {
     node_state.hear(request.caller, request.call, table_of(request))
 }

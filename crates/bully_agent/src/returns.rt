@@ -27,7 +27,8 @@ pub fn return_reply(
     ensures after { node_state.new ≡ returned_by setup.now node (Phase.Ran answer) node_state.old }
     ensures answer { result ≡ returned_answer node (Phase.Ran answer) node_state.old }
     ensures is { IsAgentOf setup.now node (events + 1) node_state.new }
-    ensures follows { FollowsAt (HasRun node answer) setup.now node node_state.old (Event.Return node) result node_state.new }
+    ensures follows { FollowsAt (HasRun node answer) setup.now node node_state.old
+        (Event.Return node) result node_state.new }
 {
     node_state.ran(answer);
     node_state.take_back(setup, node)
@@ -41,8 +42,10 @@ pub fn return_failure(setup: &Setup, node: Node, events: u32, node_state: &mut N
     ensures after { node_state.new ≡ returned_by setup.now node Phase.Failed node_state.old }
     ensures answer { result ≡ returned_answer node Phase.Failed node_state.old }
     ensures is { IsAgentOf setup.now node (events + 2) node_state.new }
-    ensures loses { FollowsAt (CalleeIsDown node_state.old.slot) setup.now node node_state.old (Event.Lose node) Answer.Done (phased_state Phase.Failed node_state.old) }
-    ensures follows { FollowsAt Always setup.now node (phased_state Phase.Failed node_state.old) (Event.Return node) result node_state.new }
+    ensures loses { FollowsAt (CalleeIsDown node_state.old.slot) setup.now node node_state.old
+        (Event.Lose node) Answer.Done (phased_state Phase.Failed node_state.old) }
+    ensures follows { FollowsAt Always setup.now node (phased_state Phase.Failed node_state.old)
+        (Event.Return node) result node_state.new }
 {
     node_state.lose();
     node_state.take_back(setup, node)

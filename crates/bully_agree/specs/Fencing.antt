@@ -12,7 +12,8 @@ abbrev pub has_plan : List Event → Bool
 has_plan [] = false
 has_plan (e ∷ events) = is_plan e || has_plan events
 
--- a plan in a list of events: whose it is, its table, and its token, which is how many events there are up to it and with it
+-- a plan in a list of events: whose it is, its table, and its token, which is how many events there are up to it and
+-- with it
 pub record Planned : Type 0 where
   pub planner : ℕ
   pub table : List ℕ

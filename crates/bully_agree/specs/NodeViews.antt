@@ -13,7 +13,8 @@ task_shown normal Normal own = normal
 task_shown normal status own = own
 
 abbrev pub shown_with : Option (List ℕ) → KeptNode → NodeView
-shown_with normal k = record { status = k.status; coordinator = k.coordinator; task = task_shown normal k.status k.task }
+shown_with normal k =
+    record { status = k.status; coordinator = k.coordinator; task = task_shown normal k.status k.task }
 
 -- what is kept of a node: no task of its own where it is Normal
 abbrev pub kept_by : Vector → KeptNode

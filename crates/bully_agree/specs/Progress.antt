@@ -1,4 +1,5 @@
--- How far the call at hand has come, as a list of events is gone through; and the fault of a run as that of whole calls.
+-- How far the call at hand has come, as a list of events is gone through; and the fault of a run as that of whole
+-- calls.
 use Rattle.std.specs.Prelude.{Bool, true}
 use Rattle.bully_calls.specs.declared.event.Event.{Event}
 use Rattle.bully_agree.specs.declared.whole_calls.Progress.{Progress}

@@ -47,9 +47,11 @@ ShowsPart s = (s.status ≡ Reorganization) ⊎ (s.status ≡ Normal)
 -- same; any two Normal nodes have a task, and the same
 pub record ViewAgrees (v : View) : Type 0 where
   pub has_coordinator : (i : ℕ) → ShowsPart (shown v i) → IsSome (shown v i).coordinator
-  pub same_coordinator : (i j : ℕ) → ShowsPart (shown v i) → ShowsPart (shown v j) → (shown v i).coordinator ≡ (shown v j).coordinator
+  pub same_coordinator : (i j : ℕ) → ShowsPart (shown v i) → ShowsPart (shown v j)
+      → (shown v i).coordinator ≡ (shown v j).coordinator
   pub has_task : (i : ℕ) → (shown v i).status ≡ Normal → IsSome (shown v i).task
-  pub same_task : (i j : ℕ) → (shown v i).status ≡ Normal → (shown v j).status ≡ Normal → (shown v i).task ≡ (shown v j).task
+  pub same_task : (i j : ℕ) → (shown v i).status ≡ Normal → (shown v j).status ≡ Normal
+      → (shown v i).task ≡ (shown v j).task
 
 -- it is the view of a world that a lawful list leads to, of as many events as the view counts
 pub record IsViewed (v : View) : Type 0 where

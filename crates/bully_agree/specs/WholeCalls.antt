@@ -37,4 +37,5 @@ MayGoOn events = (rest : List Event) × (is_whole (events ++ rest) ≡ true)
 abbrev pub BreaksAt : List Event → ℕ → Type 0
 BreaksAt events index =
     MayGoOn (take index events)
-    × (((index < length events) × ¬ MayGoOn (take (index + 1) events)) ⊎ ((index ≡ length events) × (is_whole events ≡ false)))
+    × (((index < length events) × ¬ MayGoOn (take (index + 1) events))
+    ⊎ ((index ≡ length events) × (is_whole events ≡ false)))

@@ -43,12 +43,14 @@ pub fn agreement()
 pub fn causes()
     ensures { (setup : Setup) (events : List Event) (answers : List Answer) (w : World) (count : ℕ) (e : Event)
         → IsLawful setup events answers w
-        → ((cause setup w count e ≡ None) ↔ ((count < setup.events_max) × (w' : World) × (a : Answer) × Step setup w e w' a)) }
+        → ((cause setup w count e ≡ None)
+        ↔ ((count < setup.events_max) × (w' : World) × (a : Answer) × Step setup w e w' a)) }
 {}
 
 /// The law of plans. Where a node may plan, no node is Normal: nobody does its part by an older table then.
 pub fn plans_alone()
-    ensures { (setup : Setup) (events : List Event) (answers : List Answer) (w w' : World) (i j : ℕ) (table : List ℕ) (a : Answer)
+    ensures { (setup : Setup) (events : List Event) (answers : List Answer) (w w' : World) (i j : ℕ) (table : List ℕ)
+        (a : Answer)
         → IsLawful setup events answers w → Step setup w (Event.Plan i table) w' a → (vector w j).status ≢ Normal }
 {}
 
@@ -56,16 +58,19 @@ pub fn plans_alone()
 /// of which the node's coordinator is the planner and its task the table. And a list has one last plan.
 pub fn last_plan()
     ensures goes_by { (setup : Setup) (events : List Event) (answers : List Answer) (w : World) (i : ℕ)
-        → IsLawful setup events answers w → (vector w i).status ≡ Normal → (p : Planned) × IsLastPlan events p × GoesBy w i p }
+        → IsLawful setup events answers w → (vector w i).status ≡ Normal
+        → (p : Planned) × IsLastPlan events p × GoesBy w i p }
     ensures one { (events : List Event) (p q : Planned) → IsLastPlan events p → IsLastPlan events q → p ≡ q }
 {}
 
-/// The law of fencing, of the tokens of last plans. Of two Normal nodes, one in the world of a lawful list and one in the
-/// world of a longer list that begins with it, the later one's token is no lower; and where the tokens are equal, both
-/// have the same coordinator and the same task. So a resource that keeps the highest token it has seen, and refuses lower
-/// ones, is used by one coordinator and one table under one token, and by no older plan behind a newer one.
+/// The law of fencing, of the tokens of last plans. Of two Normal nodes, one in the world of a lawful list and one in
+/// the world of a longer list that begins with it, the later one's token is no lower; and where the tokens are equal,
+/// both have the same coordinator and the same task. So a resource that keeps the highest token it has seen, and
+/// refuses lower ones, is used by one coordinator and one table under one token, and by no older plan behind a newer
+/// one.
 pub fn tokens_fence()
-    ensures { (setup : Setup) (events more : List Event) (answers others : List Answer) (w v : World) (i j : ℕ) (p q : Planned)
+    ensures { (setup : Setup) (events more : List Event) (answers others : List Answer) (w v : World) (i j : ℕ)
+        (p q : Planned)
         → IsLawful setup events answers w → IsLawful setup (events ++ more) others v
         → (vector w i).status ≡ Normal → (vector v j).status ≡ Normal
         → IsLastPlan events p → IsLastPlan (events ++ more) q

@@ -1,4 +1,5 @@
-ghost use Rattle.std.specs.Prelude.{◌≡◌, Some, None, length, true, false, IfErr, IfOk, IfNone, IfSome, OnOk, if◌then◌else◌};
+ghost use Rattle.std.specs.Prelude.{◌≡◌, Some, None, length, true, false, IfErr, IfOk, IfNone, IfSome, OnOk};
+ghost use Rattle.std.specs.Prelude.{if◌then◌else◌};
 ghost use Rattle.bully_agree.specs.Runs.{CanRun, IsWholeFault, RunsTo};
 ghost use Rattle.bully_agree.specs.Progress.{may_stand, progress_after, whole_fault};
 ghost use Rattle.bully_agree.specs.View.{ViewAgrees, view_of};
@@ -99,7 +100,8 @@ impl Progress {
 
 // The progress behind an event while no call is at hand.
 fn after_no_call(event: &Event) -> Option<Progress>
-    ensures { result ≡ (if may_stand Progress.Between event.now then Some (progress_after Progress.Between event.now) else None) }
+    ensures { result ≡ (if may_stand Progress.Between event.now then Some (progress_after Progress.Between event.now)
+        else None) }
 {
     match event {
         Event::Start(caller) => Some(Progress::Started(*caller)),

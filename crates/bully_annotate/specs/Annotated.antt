@@ -1,4 +1,5 @@
--- A trace with everything said: of each call what it is and what was answered, and behind each event the vector that it changed.
+-- A trace with everything said: of each call what it is and what was answered, and behind each event the vector that it
+-- changed.
 use Rattle.std.specs.Prelude.{ℕ, Bool, List, [], ◌∷◌, ◌++◌, Option, Some, None, ◌&&◌, if◌then◌else◌}
 use Rattle.bully_base.specs.NodeSetEq.{same_set}
 use Rattle.bully_base.specs.Setup.{Setup}
@@ -23,7 +24,8 @@ said_row e (Some detailed) = Row.Detailed detailed
 
 abbrev pub same_vector : Vector → Vector → Bool
 same_vector a b =
-    same_status a.status b.status && same_node a.coordinator b.coordinator && same_node a.halter b.halter && same_set a.up b.up && same_task a.task b.task
+    same_status a.status b.status && same_node a.coordinator b.coordinator && same_node a.halter b.halter
+    && same_set a.up b.up && same_task a.task b.task
 
 -- all of a node's vector
 abbrev pub shown_row : World → ℕ → Row
@@ -56,4 +58,8 @@ rows_said setup w (Row.Whole whole ∷ rows) = shown_row w whole.claim.node ∷ 
 
 -- the trace of version 3 with everything said
 abbrev pub annotated : Trace → Trace
-annotated trace = record { version = Version.Three; setup = trace.setup; rows = rows_said trace.setup (first_world trace.setup) trace.rows }
+annotated trace = record {
+  version = Version.Three;
+  setup = trace.setup;
+  rows = rows_said trace.setup (first_world trace.setup) trace.rows;
+}

@@ -23,10 +23,12 @@ use Rattle.bully_annotate.specs.Annotated.{annotated}
 
 -- this is said of an event of node i, in whose slot the call is in this world
 abbrev pub IsSaidOf : World → ℕ → (Call → Detail) → Option DetailedEvent → Type 0
-IsSaidOf w i detail said = (call : Call) × (call_at w i ≡ Some call) × (said ≡ Some (record { node = i; detail = detail call }))
+IsSaidOf w i detail said = (call : Call) × (call_at w i ≡ Some call)
+    × (said ≡ Some (record { node = i; detail = detail call }))
 
--- this is said of an event that leads from w to w' and is answered so: of a Start the call that it leaves in the slot of its node; of a
--- Run, a Lose, a Return and a Drop the call that is there before it; of a Run and a Return the answer, too; of any other event nothing
+-- this is said of an event that leads from w to w' and is answered so: of a Start the call that it leaves in the slot
+-- of its node; of a Run, a Lose, a Return and a Drop the call that is there before it; of a Run and a Return the
+-- answer, too; of any other event nothing
 abbrev pub IsSaidInFull : World → Event → World → Answer → Option DetailedEvent → Type 0
 IsSaidInFull w (Event.Start i) w' a said = IsSaidOf w' i (λ call. unanswered NodeEventKind.Start call) said
 IsSaidInFull w (Event.Run i) w' a said = IsSaidOf w i (λ call. answered NodeEventKind.Run call a) said
@@ -50,4 +52,5 @@ IsInFull (Row.Whole whole) = ⊤
 
 -- each row of the annotated trace of a lawful one does
 abbrev pub AnnotatedIsInFull : Type 0
-AnnotatedIsInFull = (trace : Trace) (count : ℕ) (w : World) → IsVerdict trace (Verdict.Lawful count) w → All IsInFull (annotated trace).rows
+AnnotatedIsInFull = (trace : Trace) (count : ℕ) (w : World) → IsVerdict trace (Verdict.Lawful count) w
+    → All IsInFull (annotated trace).rows

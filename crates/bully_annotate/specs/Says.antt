@@ -17,16 +17,19 @@ use Rattle.bully_annotate.specs.Annotated.{annotated, event_rows, rows_said, sho
 
 -- these rows are lawful from this world on
 abbrev pub IsLawfulFrom : WorldState → ℕ → List Row → ℕ → World → Type 0
-IsLawfulFrom world number rows after w = IsJudged world.setup (world_of world) world.events number rows (Verdict.Lawful after) w
+IsLawfulFrom world number rows after w =
+    IsJudged world.setup (world_of world) world.events number rows (Verdict.Lawful after) w
 
 -- this was added to a text
 abbrev pub Adds : List ℕ → List ℕ → List ℕ → Type 0
 Adds text text' more = text' ≡ text ++ more
 
 -- of this row so many rows were written, and the others go on from the world behind it
-pub record Says (before behind : WorldState) (number : ℕ) (row : Row) (more : List Row) (after : ℕ) (w : World) (Writes : List ℕ → Type 0) (count : ℕ) : Type 0 where
+pub record Says (before behind : WorldState) (number : ℕ) (row : Row) (more : List Row) (after : ℕ) (w : World)
+    (Writes : List ℕ → Type 0) (count : ℕ) : Type 0 where
   pub rows : List Row
-  pub all : rows_said before.setup (world_of before) (row ∷ more) ≡ rows ++ rows_said behind.setup (world_of behind) more
+  pub all : rows_said before.setup (world_of before) (row ∷ more) ≡ rows
+      ++ rows_said behind.setup (world_of behind) more
   pub counted : length rows ≡ count
   pub written : Writes (rows_text rows)
   pub lawful : IsLawfulFrom behind (number + 1) more after w
@@ -43,7 +46,8 @@ pub record Steps (before behind : WorldState) (e : Event) (text text' : List ℕ
 
 -- the vector of node i was written as one row
 abbrev pub Shows : WorldState → ℕ → List ℕ → List ℕ → ℕ → Type 0
-Shows world i text text' count = IsNode world.setup i → (count ≡ 1) × (text' ≡ text ++ rows_text (shown_row (world_of world) i ∷ []))
+Shows world i text text' count = IsNode world.setup i
+    → (count ≡ 1) × (text' ≡ text ++ rows_text (shown_row (world_of world) i ∷ []))
 
 -- the rows are lawful from this world on, wherever they stand
 abbrev pub IsSomewhereLawful : WorldState → List Row → Type 0
@@ -52,7 +56,8 @@ IsSomewhereLawful world rows = (number : ℕ) × (after : ℕ) × (w : World) ×
 -- all rows were written with everything said, if those are no more than a trace may have
 abbrev pub IsWrittenOf : WorldState → List Row → (List ℕ → Type 0) → Bool → Type 0
 IsWrittenOf world rows Writes true =
-    Writes (rows_text (rows_said world.setup (world_of world) rows)) × (length (rows_said world.setup (world_of world) rows) ≤ ROWS_MAX)
+    Writes (rows_text (rows_said world.setup (world_of world) rows))
+    × (length (rows_said world.setup (world_of world) rows) ≤ ROWS_MAX)
 IsWrittenOf world rows Writes false = ROWS_MAX < length (rows_said world.setup (world_of world) rows)
 
 -- the same of the whole trace
@@ -61,7 +66,8 @@ IsTraceWritten trace Writes true = Writes (trace_text (annotated trace)) × (len
 IsTraceWritten trace Writes false = ROWS_MAX < length (annotated trace).rows
 
 -- from the first world on so many rows were written, and the others go on from this world
-pub record GoesOn (first world : WorldState) (all others : List Row) (known known' : Option (List ℕ)) (count : ℕ) : Type 0 where
+pub record GoesOn (first world : WorldState) (all others : List Row) (known known' : Option (List ℕ))
+    (count : ℕ) : Type 0 where
   pub rows : List Row
   pub said : rows_said first.setup (world_of first) all ≡ rows ++ rows_said world.setup (world_of world) others
   pub counted : length rows ≡ count

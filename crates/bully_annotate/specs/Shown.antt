@@ -28,4 +28,5 @@ abbrev pub TellsTheVector : Type 0
 TellsTheVector =
     (setup : Setup) (events : List Event) (answers : List Answer) (w : World) (whole : Whole) (bound : ℕ)
     → IsLawful setup events answers w → IsFallingBelow bound whole.up
-    → (is_whole setup w whole ≡ true) ↔ (IsNode setup whole.claim.node × (whole ≡ whole_of whole.claim.node (vector w whole.claim.node)))
+    → (is_whole setup w whole ≡ true)
+    ↔ (IsNode setup whole.claim.node × (whole ≡ whole_of whole.claim.node (vector w whole.claim.node)))

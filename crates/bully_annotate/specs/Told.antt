@@ -11,9 +11,11 @@ use Rattle.bully_annotate.specs.Annotated.{annotated}
 -- the annotated trace of a lawful one that a text can tell is such a one, unless it has more rows than a trace may
 abbrev pub AnnotatedIsTold : Type 0
 AnnotatedIsTold =
-    (trace : Trace) (count : ℕ) (w : World) → IsTold trace → IsVerdict trace (Verdict.Lawful count) w → length (annotated trace).rows ≤ ROWS_MAX → IsTold (annotated trace)
+    (trace : Trace) (count : ℕ) (w : World) → IsTold trace → IsVerdict trace (Verdict.Lawful count) w
+    → length (annotated trace).rows ≤ ROWS_MAX → IsTold (annotated trace)
 
 -- it has the same events
 abbrev pub AnnotatedHasEvents : Type 0
 AnnotatedHasEvents =
-    (trace : Trace) (count : ℕ) (w : World) → IsTold trace → IsVerdict trace (Verdict.Lawful count) w → events_of (annotated trace).rows ≡ events_of trace.rows
+    (trace : Trace) (count : ℕ) (w : World) → IsTold trace → IsVerdict trace (Verdict.Lawful count) w
+    → events_of (annotated trace).rows ≡ events_of trace.rows

@@ -28,25 +28,27 @@ pub enum Annotation {
     TooLong,
 }
 
-/// Annotates a lawful trace: reads one of any version, and writes the one of version 3 with the same setup and the same events, in
-/// which everything is said: of each event of a call which call it is and what was answered; each claim with all of its
-/// node's vector; and behind each event such a claim of the node whose vector it changed, if it changed one. Where nothing stood
-/// before, what is written means that very trace. Where the trace isn't lawful, its verdict is told and nothing is written, nor where
-/// that would have more rows than a trace may.
-/// Refused as [`bully_rows::read_trace`] refuses the trace, and then nothing was written; as `OutOfMemory` where a world or a line
-/// can't be made, with nothing written; then as `Write`, and then a prefix of the text may have been written. The last two are at
-/// row 0. The rows are kept as they were read, beside a world and the longest line: of what is written, no more than a line lies in
-/// memory at a time, and each is handed to the writer by itself. This project's profile: docs/FORMATS.md.
+/// Annotates a lawful trace: reads one of any version, and writes the one of version 3 with the same setup and the same
+/// events, in which everything is said: of each event of a call which call it is and what was answered; each claim with
+/// all of its node's vector; and behind each event such a claim of the node whose vector it changed, if it changed one.
+/// Where nothing stood before, what is written means that very trace. Where the trace isn't lawful, its verdict is told
+/// and nothing is written, nor where that would have more rows than a trace may. Refused as [`bully_rows::read_trace`]
+/// refuses the trace, and then nothing was written; as `OutOfMemory` where a world or a line can't be made, with
+/// nothing written; then as `Write`, and then a prefix of the text may have been written. The last two are at row 0.
+/// The rows are kept as they were read, beside a world and the longest line: of what is written, no more than a line
+/// lies in memory at a time, and each is handed to the writer by itself. This project's profile: docs/FORMATS.md.
 pub fn annotate<R: Read + Drop, W: Write>(
     alloc: Global,
     reader: R,
     writer: &mut W,
 ) -> Result<Annotation, TraceFault>
     ensures annotated { IfOk result (λ told. OfTrace (R.remaining reader)
-        (λ trace. IsAnnotationOf trace told (Appends (W.contents writer.old) (W.contents writer.new)) (writer.new ≡ writer.old))) }
+        (λ trace. IsAnnotationOf trace told (Appends (W.contents writer.old) (W.contents writer.new)) (writer.new
+        ≡ writer.old))) }
     ensures events { IfOk result (λ told. is_written told ≡ true → OfTrace (R.remaining reader)
         (λ trace. events_of (annotated trace).rows ≡ events_of trace.rows)) }
-    ensures read_back { IfOk result (λ told. is_written told ≡ true → W.contents writer.old ≡ Some [] → OfTrace (R.remaining reader)
+    ensures read_back { IfOk result (λ told. is_written told ≡ true → W.contents writer.old ≡ Some []
+        → OfTrace (R.remaining reader)
         (λ trace. IsTraceOf (W.contents writer.new) (annotated trace))) }
     ensures unwritten { IfOk result (λ told. is_written told ≡ false → writer.new ≡ writer.old) }
     ensures fault { IfErr result (IsFirstFault (R.remaining reader)) }
@@ -70,7 +72,8 @@ fn annotate_trace<W: Write>(
     trace: &Trace,
     writer: &mut W,
 ) -> Result<Annotation, TraceFault>
-    ensures annotated { IfOk result (λ told. IsAnnotationOf trace.now told (Appends (W.contents writer.old) (W.contents writer.new)) (writer.new ≡ writer.old)) }
+    ensures annotated { IfOk result (λ told. IsAnnotationOf trace.now told
+        (Appends (W.contents writer.old) (W.contents writer.new)) (writer.new ≡ writer.old)) }
     ensures unwritten { IfOk result (λ told. is_written told ≡ false → writer.new ≡ writer.old) }
     ensures fault { IfErr result IsOfWriting }
     ensures silent { IfErr result (λ fault. fault.cause ≡ TraceCause.OutOfMemory → writer.new ≡ writer.old) }
@@ -108,7 +111,8 @@ fn write_lawful<W: Write>(
     writer: &mut W,
 ) -> Result<Annotation, TraceFault>
     requires { (w : World) × IsVerdict trace.now (VerdictState.Lawful count) w }
-    ensures annotated { IfOk result (λ told. IsAnnotationOf trace.now told (Appends (W.contents writer.old) (W.contents writer.new)) (writer.new ≡ writer.old)) }
+    ensures annotated { IfOk result (λ told. IsAnnotationOf trace.now told
+        (Appends (W.contents writer.old) (W.contents writer.new)) (writer.new ≡ writer.old)) }
     ensures unwritten { IfOk result (λ told. is_written told ≡ false → writer.new ≡ writer.old) }
     ensures fault { IfErr result IsOfWriting }
     ensures silent { IfErr result (λ fault. fault.cause ≡ TraceCause.OutOfMemory → writer.new ≡ writer.old) }
@@ -125,7 +129,8 @@ fn write_lawful<W: Write>(
     }
 }
 
-// Writes this trace, which is lawful, with everything said to nobody, and tells whether it has no more rows than a trace may.
+// Writes this trace, which is lawful, with everything said to nobody, and tells whether it has no more rows than a
+// trace may.
 fn rehearse(alloc: Global, line: &mut String, trace: &Trace) -> Result<bool, OutOfMemory>
     requires { (count : ℕ) × (w : World) × IsVerdict trace.now (VerdictState.Lawful count) w }
     ensures { IfOk result (IsTraceWritten trace.now (λ _. ⊤)) }

@@ -7,7 +7,8 @@ use bully_world::Event;
 use std::alloc::Global;
 use std::marker::Model;
 
-/// What writes the rows of a lawful trace with everything said, one by one. Contracts see the world that they were taken to.
+/// What writes the rows of a lawful trace with everything said, one by one. Contracts see the world that they were
+/// taken to.
 #[derive(Drop)]
 pub struct Annotator {
     walk: Walk,
@@ -45,10 +46,13 @@ impl Annotator {
         })
     }
 
-    /// Appends the row with everything said, and tells how many rows that is. Rows that aren't lawful are written up to there.
+    /// Appends the row with everything said, and tells how many rows that is. Rows that aren't lawful are written up to
+    /// there.
     pub fn say(&mut self, text: &mut String, row: &Row) -> Result<u32, OutOfMemory>
-        ensures said { (number : ℕ) (more : List RowState) (after : ℕ) (w : WorldOf) → IsLawfulFrom self.old number (row.now ∷ more) after w
-            → IfOk result (Says self.old self.new number row.now more after w (Adds (string_bytes text.old) (string_bytes text.new))) }
+        ensures said { (number : ℕ) (more : List RowState) (after : ℕ) (w : WorldOf)
+            → IsLawfulFrom self.old number (row.now ∷ more) after w
+            → IfOk result (Says self.old self.new number row.now more after w
+            (Adds (string_bytes text.old) (string_bytes text.new))) }
         ensures few { IfOk result (λ count. count ≤ 2) }
     {
         match row {
@@ -61,7 +65,8 @@ impl Annotator {
 
     // Takes an event, where nothing refuses it, and appends what it leads to.
     fn say_event(&mut self, text: &mut String, event: &Event) -> Result<u32, OutOfMemory>
-        ensures steps { cause_in self.old event.now ≡ None → IfOk result (Steps self.old self.new event.now (string_bytes text.old) (string_bytes text.new)) }
+        ensures steps { cause_in self.old event.now ≡ None
+            → IfOk result (Steps self.old self.new event.now (string_bytes text.old) (string_bytes text.new)) }
         ensures few { IfOk result (λ count. count ≤ 2) }
     {
         if self.walk.world().cause(event).is_some() {
@@ -73,7 +78,8 @@ impl Annotator {
     // Takes an event that nothing refuses, and appends what it leads to.
     fn step(&mut self, text: &mut String, event: &Event) -> Result<u32, OutOfMemory>
         requires { cause_in self.old event.now ≡ None }
-        ensures steps { IfOk result (Steps self.old self.new event.now (string_bytes text.old) (string_bytes text.new)) }
+        ensures steps { IfOk result
+            (Steps self.old self.new event.now (string_bytes text.old) (string_bytes text.new)) }
         ensures few { IfOk result (λ count. count ≤ 2) }
     {
         let place = begin(text, self.walk.world(), &mut self.seen, event)?;

@@ -1,7 +1,7 @@
 //! Traces with everything said.
 //!
-//! It stands on bully_trace and the crates below it. The crates above rely on an annotated trace being as lawful as the one
-//! that was read.
+//! It stands on bully_trace and the crates below it. The crates above rely on an annotated trace being as lawful as the
+//! one that was read.
 #![tactic(auto)]
 
 ghost use Rattle.bully_annotate.specs.InFull.{AnnotatedIsInFull, SaysEachCall};
@@ -16,30 +16,30 @@ mod writing;
 
 pub use annotation::{Annotation, annotate};
 
-/// The law of what is said of calls. Of each Start, Run, Lose, Return and Drop that is possible in a world that a lawful list leads to it
-/// is said which call it is, and of a Run and a Return what was answered; so the annotated trace of a lawful one has no row of such an
-/// event that says less, and no claim of a part of a vector.
+/// The law of what is said of calls. Of each Start, Run, Lose, Return and Drop that is possible in a world that a
+/// lawful list leads to it is said which call it is, and of a Run and a Return what was answered; so the annotated
+/// trace of a lawful one has no row of such an event that says less, and no claim of a part of a vector.
 pub fn calls_said()
     ensures each { SaysEachCall }
     ensures in_full { AnnotatedIsInFull }
 {}
 
-/// The law of what is shown behind an event. In a world that a lawful list leads to, an event that is possible changes the vector of
-/// one node at most, and behind it the vector of each node that it changed is shown, and no other one.
+/// The law of what is shown behind an event. In a world that a lawful list leads to, an event that is possible changes
+/// the vector of one node at most, and behind it the vector of each node that it changed is shown, and no other one.
 pub fn changes_shown()
     ensures each { ShowsEachChange }
     ensures no_more { ShowsNoMore }
 {}
 
-/// The law of claims that tell all of a vector, the up set in falling order, as that of each `NodeSet`. In a world that a lawful
-/// list leads to, such a claim is true, as [`bully_trace::check`] asks, exactly where the group has the node and the claim is all
-/// of that node's vector.
+/// The law of claims that tell all of a vector, the up set in falling order, as that of each `NodeSet`. In a world that
+/// a lawful list leads to, such a claim is true, as [`bully_trace::check`] asks, exactly where the group has the node
+/// and the claim is all of that node's vector.
 pub fn vector_told()
     ensures { TellsTheVector }
 {}
 
-/// The law of what is read back. The annotated trace of a lawful one that a text can tell is one that a text can tell, too, unless it
-/// has more rows than a trace may, and has the same events.
+/// The law of what is read back. The annotated trace of a lawful one that a text can tell is one that a text can tell,
+/// too, unless it has more rows than a trace may, and has the same events.
 pub fn annotated_told()
     ensures told { AnnotatedIsTold }
     ensures events { AnnotatedHasEvents }

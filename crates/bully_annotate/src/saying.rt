@@ -17,7 +17,8 @@ use bully_world::{Event, World};
 /// Appends the event with all that there is to say of it in the world before it. Its node is at most the setup's last.
 pub fn push_said(text: &mut String, world: &World, event: &Event) -> Result<(), OutOfMemory>
     requires { node_of event.now ≤ world.now.setup.nodes }
-    ensures { OnOk result (string_bytes text.new ≡ string_bytes text.old ++ line_of (row_fields (said_row event.now (said_of world.now.setup (world_of world.now) event.now)))) }
+    ensures { OnOk result (string_bytes text.new ≡ string_bytes text.old
+        ++ line_of (row_fields (said_row event.now (said_of world.now.setup (world_of world.now) event.now)))) }
 {
     match said_of(world, event) {
         Some(detailed) => push_detailed(text, &detailed),
@@ -25,8 +26,8 @@ pub fn push_said(text: &mut String, world: &World, event: &Event) -> Result<(), 
     }
 }
 
-/// Sees the vector that the event may change, appends the event, and tells whose vector that is. The event's node is at most the
-/// setup's last.
+/// Sees the vector that the event may change, appends the event, and tells whose vector that is. The event's node is at
+/// most the setup's last.
 pub fn begin(
     text: &mut String,
     world: &World,
@@ -35,10 +36,12 @@ pub fn begin(
 ) -> Result<Node, OutOfMemory>
     requires node { node_of event.now ≤ world.now.setup.nodes }
     requires room { seen.old.room ≡ world.now.setup.partitions }
-    ensures place { IfOk result (λ place. (place ≡ place_of (world_of world.now) event.now) × (place ≤ world.now.setup.nodes)) }
+    ensures place { IfOk result (λ place. (place ≡ place_of (world_of world.now) event.now)
+        × (place ≤ world.now.setup.nodes)) }
     ensures seen { IfOk result (λ place. seen.new.vector ≡ vector (world_of world.now) place) }
     ensures room { seen.new.room ≡ seen.old.room }
-    ensures written { OnOk result (string_bytes text.new ≡ string_bytes text.old ++ line_of (row_fields (said_row event.now (said_of world.now.setup (world_of world.now) event.now)))) }
+    ensures written { OnOk result (string_bytes text.new ≡ string_bytes text.old
+        ++ line_of (row_fields (said_row event.now (said_of world.now.setup (world_of world.now) event.now)))) }
 {
     let place = world.place_at(event.node(), event.kind());
     seen.see(world.vector(place));
@@ -46,8 +49,8 @@ pub fn begin(
     Ok(place)
 }
 
-/// Appends the vector of the node, where it isn't the one that was seen, and tells how many rows the event has with that. The node
-/// is at most the setup's last.
+/// Appends the vector of the node, where it isn't the one that was seen, and tells how many rows the event has with
+/// that. The node is at most the setup's last.
 pub fn push_change(
     text: &mut String,
     world: &World,
@@ -55,8 +58,10 @@ pub fn push_change(
     node: Node,
 ) -> Result<u32, OutOfMemory>
     requires { node ≤ world.now.setup.nodes }
-    ensures counted { IfOk result (λ count. count ≡ length (shown_unless (same_vector seen.now.vector (vector (world_of world.now) node)) (world_of world.now) node) + 1) }
-    ensures written { OnOk result (string_bytes text.new ≡ string_bytes text.old ++ rows_text (shown_unless (same_vector seen.now.vector (vector (world_of world.now) node)) (world_of world.now) node)) }
+    ensures counted { IfOk result (λ count. count ≡ length
+        (shown_unless (same_vector seen.now.vector (vector (world_of world.now) node)) (world_of world.now) node) + 1) }
+    ensures written { OnOk result (string_bytes text.new ≡ string_bytes text.old ++ rows_text
+        (shown_unless (same_vector seen.now.vector (vector (world_of world.now) node)) (world_of world.now) node)) }
     ensures few { IfOk result (λ count. count ≤ 2) }
 {
     if is_unchanged(world, seen, node) {
@@ -77,7 +82,8 @@ fn is_unchanged(world: &World, seen: &Seen, node: Node) -> bool
 /// Appends the vector of the node, which is at most the setup's last.
 pub fn push_shown(text: &mut String, world: &World, node: Node) -> Result<(), OutOfMemory>
     requires { node ≤ world.now.setup.nodes }
-    ensures { OnOk result (string_bytes text.new ≡ string_bytes text.old ++ rows_text (shown_row (world_of world.now) node ∷ [])) }
+    ensures { OnOk result (string_bytes text.new ≡ string_bytes text.old
+        ++ rows_text (shown_row (world_of world.now) node ∷ [])) }
 {
     push_vector(text, node, world.vector(node))
 }

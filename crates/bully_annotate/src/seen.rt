@@ -20,7 +20,11 @@ impl Model for Seen {
 
     ghost Value = { StoredVector };
 
-    ghost view = { λ s. record { vector = record { status = s.status; coordinator = s.coordinator; halter = s.halter; up = s.up; task = s.task.table }; room = s.task.size } };
+    ghost view = { λ s. record {
+      vector =
+          record { status = s.status; coordinator = s.coordinator; halter = s.halter; up = s.up; task = s.task.table };
+      room = s.task.size;
+    } };
 }
 
 impl Seen {

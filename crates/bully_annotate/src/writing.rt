@@ -16,8 +16,9 @@ use bully_rows::{ROWS_MAX, Row, Trace, Version, push_header};
 use std::io;
 use std::io::Write;
 
-/// Writes the lawful trace with everything said, by an annotator that took no row yet, line by line. Tells whether it has no more rows
-/// than a trace may, and writes no further than that. Each line is made in `line`, which keeps its room.
+/// Writes the lawful trace with everything said, by an annotator that took no row yet, line by line. Tells whether it
+/// has no more rows than a trace may, and writes no further than that. Each line is made in `line`, which keeps its
+/// room.
 pub fn write_annotated<W: Write>(
     writer: &mut W,
     line: &mut String,
@@ -36,7 +37,8 @@ pub fn write_annotated<W: Write>(
 
 // Writes the header of a trace in which everything is said.
 fn write_header<W: Write>(writer: &mut W, line: &mut String, setup: &Setup) -> io::Result<()>
-    ensures { OnOk result (Appends (W.contents writer.old) (W.contents writer.new) (line_of (header_fields VersionOf.Three setup.now))) }
+    ensures { OnOk result
+        (Appends (W.contents writer.old) (W.contents writer.new) (line_of (header_fields VersionOf.Three setup.now))) }
 {
     line.clear();
     push_header(line, Version::Three, setup)?;
@@ -51,7 +53,8 @@ fn write_rows<W: Write>(
     rows: &[Row],
 ) -> io::Result<bool>
     requires { IsSomewhereLawful annotator.old rows.now }
-    ensures { IfOk result (IsWrittenOf annotator.old rows.now (Appends (W.contents writer.old) (W.contents writer.new))) }
+    ensures { IfOk result
+        (IsWrittenOf annotator.old rows.now (Appends (W.contents writer.old) (W.contents writer.new))) }
 {
     let mut count = 0;
     for row in rows {
@@ -70,8 +73,10 @@ fn write_row<W: Write>(
     annotator: &mut Annotator,
     row: &Row,
 ) -> io::Result<u32>
-    ensures said { (number : ℕ) (more : List RowState) (after : ℕ) (w : World) → IsLawfulFrom annotator.old number (row.now ∷ more) after w
-        → IfOk result (Says annotator.old annotator.new number row.now more after w (Appends (W.contents writer.old) (W.contents writer.new))) }
+    ensures said { (number : ℕ) (more : List RowState) (after : ℕ) (w : World)
+        → IsLawfulFrom annotator.old number (row.now ∷ more) after w
+        → IfOk result (Says annotator.old annotator.new number row.now more after w
+        (Appends (W.contents writer.old) (W.contents writer.new))) }
     ensures few { IfOk result (λ count. count ≤ 2) }
 {
     line.clear();

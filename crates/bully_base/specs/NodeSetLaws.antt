@@ -1,5 +1,6 @@
 -- The words of a set can be read off its members.
-use Rattle.std.proofs.Common.{◌≡◌, ℕ, zero, suc, ◌+◌, ◌*◌, ◌/◌, ◌<◌, ◌%◌, ◌^◌, List, [], ◌∷◌, length, arith, refl, sym, ◌∙◌, ap, mod-eq_of_lt, ◌⊎◌, inl, inr}
+use Rattle.std.proofs.Common.{◌≡◌, ℕ, zero, suc, ◌+◌, ◌*◌, ◌/◌, ◌<◌, ◌%◌, ◌^◌, List, [], ◌∷◌, length, arith, refl, sym}
+use Rattle.std.proofs.Common.{◌∙◌, ap, mod-eq_of_lt, ◌⊎◌, inl, inr}
 use Rattle.std.specs.Int.{bit_at}
 use Rattle.std.proofs.lemmas.Bool.Decides.{nat_tests}
 use Rattle.std.proofs.lemmas.Nat.{mod-pow-add, mul-add-lt, mod_low, shr_high, pow-add, pow_pos}
@@ -24,7 +25,8 @@ unfolding members_among word_of
 word_of-members_among number zero = omega arith
 word_of-members_among number (suc n) = by_bit (word_of-members_among number n) (is_bit number n)
   where
-    by_bit : word_of (members_among number n) ≡ number % 2 ^ n → (bit_at number n ≡ 1) ⊎ (bit_at number n ≡ 0) → word_of (members_among number (suc n)) ≡ number % 2 ^ suc n
+    by_bit : word_of (members_among number n) ≡ number % 2 ^ n → (bit_at number n ≡ 1) ⊎ (bit_at number n ≡ 0)
+        → word_of (members_among number (suc n)) ≡ number % 2 ^ suc n
     by_bit more (inl e) = grind (arith, nat_tests, e, next_bit number n, more)
     by_bit more (inr e) = grind (arith, nat_tests, e, next_bit number n, more)
 
@@ -33,9 +35,11 @@ pub number_of-lt : (ws : List ℕ) → AreWords ws → number_of ws < 2 ^ (64 * 
 unfolding number_of
 number_of-lt [] h = pow_pos (64 * 0)
 number_of-lt (w ∷ ws) h =
-    let step : number_of ws * 2 ^ 64 + w < 2 ^ 64 * 2 ^ (64 * length ws) = mul-add-lt (number_of ws) (2 ^ 64) w (2 ^ (64 * length ws)) (number_of-lt ws h.1) h.0 in
+    let step : number_of ws * 2 ^ 64 + w < 2 ^ 64 * 2 ^ (64 * length ws) =
+    mul-add-lt (number_of ws) (2 ^ 64) w (2 ^ (64 * length ws)) (number_of-lt ws h.1) h.0 in
     let e : 64 + 64 * length ws ≡ 64 * suc (length ws) = omega arith in
-    let room : 2 ^ 64 * 2 ^ (64 * length ws) ≡ 2 ^ (64 * suc (length ws)) = sym (pow-add 2 64 (64 * length ws)) ∙ ap (λ (k : ℕ). 2 ^ k) e in
+    let room : 2 ^ 64 * 2 ^ (64 * length ws) ≡ 2 ^ (64 * suc (length ws)) =
+    sym (pow-add 2 64 (64 * length ws)) ∙ ap (λ (k : ℕ). 2 ^ k) e in
     rw room at step
 
 -- the words are those of the number that they make
@@ -58,4 +62,5 @@ word_of-members_of ws size h = word_of-members_among (number_of ws) NODES_MAX �
 
 pub words_of-members_of : (ws : List ℕ) → length ws ≡ WORDS → AreWords ws → words_of (members_of ws) ≡ ws
 words_of-members_of ws size h =
-    ap (λ (n : ℕ). words_among n WORDS) (word_of-members_of ws size h) ∙ (ap (λ (k : ℕ). words_among (number_of ws) k) (sym size) ∙ words_among-number_of ws h)
+    ap (λ (n : ℕ). words_among n WORDS) (word_of-members_of ws size h)
+    ∙ (ap (λ (k : ℕ). words_among (number_of ws) k) (sym size) ∙ words_among-number_of ws h)

@@ -8,5 +8,7 @@ use Rattle.bully_base.specs.NodeSetLaws.{words_of-members_of}
 abbrev with_words : List ℕ → ℕ → Inside
 with_words words used = record { words = words; used = used }
 
-pub inverse_of_view : (a : Inside) → IsRow a.words a.used → with_words (words_of (members_of a.words)) (used_of (words_of (members_of a.words))) ≡ a
-inverse_of_view a h = ap (λ (ws : List ℕ). with_words ws (used_of ws)) (words_of-members_of a.words h.0 h.1) ∙ ap (with_words a.words) (sym h.2)
+pub inverse_of_view : (a : Inside) → IsRow a.words a.used
+    → with_words (words_of (members_of a.words)) (used_of (words_of (members_of a.words))) ≡ a
+inverse_of_view a h = ap (λ (ws : List ℕ). with_words ws (used_of ws)) (words_of-members_of a.words h.0 h.1)
+    ∙ ap (with_words a.words) (sym h.2)

@@ -1,10 +1,11 @@
 -- What a group is set up with.
-use Rattle.std.specs.Prelude.{◌≡◌, ℕ, ◌-◌, ◌<◌, ◌≤◌, Bool, false, List, ◌++◌, ◌&&◌, not, nat_lt, nat_le, ◌==◌, All, length, replicate, slice_index_or}
+use Rattle.std.specs.Prelude.{◌≡◌, ℕ, ◌-◌, ◌<◌, ◌≤◌, Bool, false, List, ◌++◌, ◌&&◌, not, nat_lt, nat_le, ◌==◌, All}
+use Rattle.std.specs.Prelude.{length, replicate, slice_index_or}
 use Rattle.std.specs.List.{list_all}
 use Rattle.bully_base.specs.declared.TheConstants.{NODES_MAX, PARTITIONS_MAX, EVENTS_MAX, WEIGHT_MAX}
 
--- the numbers of nodes and of partitions, the most events that are applied, whether a task is kept over a crash, and the
--- weight of each node, that of node 1 first
+-- the numbers of nodes and of partitions, the most events that are applied, whether a task is kept over a crash, and
+-- the weight of each node, that of node 1 first
 pub record Setup : Type 0 where
   pub nodes : ℕ
   pub partitions : ℕ
@@ -22,7 +23,13 @@ abbrev pub limits_of : Setup → Limits
 limits_of setup = record { nodes = setup.nodes; partitions = setup.partitions; events_max = setup.events_max }
 
 abbrev pub setup_of : Limits → Bool → List ℕ → Setup
-setup_of limits keeps weights = record { nodes = limits.nodes; partitions = limits.partitions; events_max = limits.events_max; keeps = keeps; weights = weights }
+setup_of limits keeps weights = record {
+  nodes = limits.nodes;
+  partitions = limits.partitions;
+  events_max = limits.events_max;
+  keeps = keeps;
+  weights = weights;
+}
 
 -- a number of a node of some group
 abbrev pub IsNodeNumber : ℕ → Type 0
@@ -70,7 +77,13 @@ padded nodes weights = weights ++ replicate (NODES_MAX - nodes) 0
 
 -- the setup of these numbers, in which all nodes weigh 1 and no task is kept
 abbrev pub even_setup : ℕ → ℕ → ℕ → Setup
-even_setup nodes partitions events_max = record { nodes = nodes; partitions = partitions; events_max = events_max; keeps = false; weights = replicate nodes 1 }
+even_setup nodes partitions events_max = record {
+  nodes = nodes;
+  partitions = partitions;
+  events_max = events_max;
+  keeps = false;
+  weights = replicate nodes 1;
+}
 
 -- all nodes weigh 1 and no task is kept
 abbrev pub is_even : Setup → Bool

@@ -7,6 +7,7 @@ use Rattle.bully_base.specs.Setup.{IsSetup, setup_of, padded}
 abbrev with_weights : Inside → List ℕ → Inside
 with_weights a weights = record { limits = a.limits; keeps = a.keeps; weights = weights }
 
-pub inverse_of_view : (a : Inside) → IsSetup (setup_of a.limits a.keeps (take a.limits.nodes a.weights)) × (a.weights ≡ padded a.limits.nodes (take a.limits.nodes a.weights)) →
+pub inverse_of_view : (a : Inside) → IsSetup (setup_of a.limits a.keeps (take a.limits.nodes a.weights))
+    × (a.weights ≡ padded a.limits.nodes (take a.limits.nodes a.weights)) →
     with_weights a (padded a.limits.nodes (take a.limits.nodes a.weights)) ≡ a
 inverse_of_view a h = ap (with_weights a) (sym h.1)

@@ -1,5 +1,7 @@
-ghost use Rattle.std.specs.Prelude.{◌≡◌, ◌≢◌, ◌↔◌, ◌⊎◌, ◌+◌, ◌-◌, ◌*◌, ◌/◌, ◌%◌, ◌^◌, ◌<◌, ◌≤◌, ℕ, [], Some, length, All, Contains, IfSome, IsTrue};
-ghost use Rattle.bully_base.specs.NodeSet.{members_of, with_node, without_node, below_node, highest_of, lowest_of, IsFallingBelow, IsHighestBit, IsLowestBit};
+ghost use Rattle.std.specs.Prelude.{◌≡◌, ◌≢◌, ◌↔◌, ◌⊎◌, ◌+◌, ◌-◌, ◌*◌, ◌/◌, ◌%◌, ◌^◌, ◌<◌, ◌≤◌, ℕ, [], Some, length};
+ghost use Rattle.std.specs.Prelude.{All, Contains, IfSome, IsTrue};
+ghost use Rattle.bully_base.specs.NodeSet.{members_of, with_node, without_node, below_node, highest_of, lowest_of};
+ghost use Rattle.bully_base.specs.NodeSet.{IsFallingBelow, IsHighestBit, IsLowestBit};
 ghost use Rattle.bully_base.specs.UsedWords.{used_of, used_words};
 ghost use Rattle.bully_base.specs.Setup.{IsNodeNumber};
 ghost use Rattle.bully_base.specs.declared.TheConstants.{NODES_MAX};

@@ -1,12 +1,13 @@
 ghost use Rattle.std.specs.Prelude.{◌≡◌, ◌≢◌, ◌↔◌, ◌≤◌, ◌==◌, All, IfOk, Err, IsTrue};
 ghost use Rattle.std.specs.List.{list_all};
-ghost use Rattle.bully_base.specs.Setup.{AreLimits, IsSetup, IsNodeNumber, IsPartitionCount, IsEventsBound, IsWeight, AreWeights, limits_of, setup_of, even_setup, is_even, weight_of};
+ghost use Rattle.bully_base.specs.Setup.{AreLimits, IsSetup, IsNodeNumber, IsPartitionCount, IsEventsBound, IsWeight};
+ghost use Rattle.bully_base.specs.Setup.{AreWeights, limits_of, setup_of, even_setup, is_even, weight_of};
 
 use crate::{EVENTS_MAX, NODES_MAX, Node, NodeSet, PARTITIONS_MAX, WEIGHT_MAX};
 use std::marker::Model;
 
-/// The numbers that a group is set up with, without its weights: how many nodes (1 to [`NODES_MAX`]), how many partitions
-/// its task has (1 to [`PARTITIONS_MAX`]), and how many events are applied at most (1 to [`EVENTS_MAX`]).
+/// The numbers that a group is set up with, without its weights: how many nodes (1 to [`NODES_MAX`]), how many
+/// partitions its task has (1 to [`PARTITIONS_MAX`]), and how many events are applied at most (1 to [`EVENTS_MAX`]).
 #[derive(Clone, Copy, PartialEq, Eq, Debug)]
 pub struct Limits {
     nodes: u16,
@@ -21,7 +22,8 @@ impl Model for Limits {
 
     ghost view = { λ l. record { nodes = l.nodes; partitions = l.partitions; events_max = l.events_max } };
 
-    ghost invariant = { λ l. AreLimits (record { nodes = l.nodes; partitions = l.partitions; events_max = l.events_max }) };
+    ghost invariant = { λ l.
+        AreLimits (record { nodes = l.nodes; partitions = l.partitions; events_max = l.events_max }) };
 
     ghost inverse = { λ v. record { nodes = v.nodes; partitions = v.partitions; events_max = v.events_max } };
 }
@@ -43,7 +45,8 @@ impl Model for Setup {
 
     ghost view = { λ s. setup_of s.limits s.keeps (take s.limits.nodes s.weights) };
 
-    ghost invariant = { λ s. IsSetup (setup_of s.limits s.keeps (take s.limits.nodes s.weights)) × (s.weights ≡ padded s.limits.nodes (take s.limits.nodes s.weights)) };
+    ghost invariant = { λ s. IsSetup (setup_of s.limits s.keeps (take s.limits.nodes s.weights))
+        × (s.weights ≡ padded s.limits.nodes (take s.limits.nodes s.weights)) };
 
     ghost inverse = { λ v. record { limits = limits_of v; keeps = v.keeps; weights = padded v.nodes v.weights } };
 
@@ -89,11 +92,14 @@ pub enum SetupFault {
 impl Limits {
     // The limits of these numbers. Refused, in this order, as `BadNodes`, `BadPartitions`, `BadLimit`.
     fn new(nodes: u16, partitions: u16, events_max: u32) -> Result<Limits, SetupFault>
-        ensures numbers { IfOk result (λ l. l ≡ record { nodes = nodes; partitions = partitions; events_max = events_max }) }
+        ensures numbers { IfOk result (λ l.
+            l ≡ record { nodes = nodes; partitions = partitions; events_max = events_max }) }
         ensures within { IfOk result AreLimits }
         ensures bad_nodes { (result ≡ Err SetupFault.BadNodes) ↔ ¬ IsNodeNumber nodes }
-        ensures bad_partitions { (result ≡ Err SetupFault.BadPartitions) ↔ (IsNodeNumber nodes × ¬ IsPartitionCount partitions) }
-        ensures bad_limit { (result ≡ Err SetupFault.BadLimit) ↔ (IsNodeNumber nodes × IsPartitionCount partitions × ¬ IsEventsBound events_max) }
+        ensures bad_partitions { (result ≡ Err SetupFault.BadPartitions)
+            ↔ (IsNodeNumber nodes × ¬ IsPartitionCount partitions) }
+        ensures bad_limit { (result ≡ Err SetupFault.BadLimit)
+            ↔ (IsNodeNumber nodes × IsPartitionCount partitions × ¬ IsEventsBound events_max) }
         ensures no_other { result ≢ Err SetupFault.BadWeights }
     {
         if nodes == 0 || nodes > NODES_MAX {
@@ -151,14 +157,16 @@ impl Limits {
 }
 
 impl Setup {
-    /// The setup of these numbers, in which all nodes weigh 1 and no task is kept over a crash. Refused, in this order, as
-    /// `BadNodes`, `BadPartitions`, `BadLimit`.
+    /// The setup of these numbers, in which all nodes weigh 1 and no task is kept over a crash. Refused, in this order,
+    /// as `BadNodes`, `BadPartitions`, `BadLimit`.
     pub fn new(nodes: u16, partitions: u16, events_max: u32) -> Result<Setup, SetupFault>
         ensures numbers { IfOk result (λ s. s ≡ even_setup nodes partitions events_max) }
         ensures within { IfOk result IsSetup }
         ensures bad_nodes { (result ≡ Err SetupFault.BadNodes) ↔ ¬ IsNodeNumber nodes }
-        ensures bad_partitions { (result ≡ Err SetupFault.BadPartitions) ↔ (IsNodeNumber nodes × ¬ IsPartitionCount partitions) }
-        ensures bad_limit { (result ≡ Err SetupFault.BadLimit) ↔ (IsNodeNumber nodes × IsPartitionCount partitions × ¬ IsEventsBound events_max) }
+        ensures bad_partitions { (result ≡ Err SetupFault.BadPartitions)
+            ↔ (IsNodeNumber nodes × ¬ IsPartitionCount partitions) }
+        ensures bad_limit { (result ≡ Err SetupFault.BadLimit)
+            ↔ (IsNodeNumber nodes × IsPartitionCount partitions × ¬ IsEventsBound events_max) }
         ensures no_other { result ≢ Err SetupFault.BadWeights }
     {
         let limits = Limits::new(nodes, partitions, events_max)?;
@@ -166,8 +174,8 @@ impl Setup {
         Ok(Setup::of(limits, false, &ones[..usize::from(nodes)]))
     }
 
-    /// The setup of these numbers and of these weights, that of node 1 first; `keeps` says whether a node keeps its task
-    /// over a crash. Refused, in this order, as `BadNodes`, `BadPartitions`, `BadLimit`, `BadWeights`.
+    /// The setup of these numbers and of these weights, that of node 1 first; `keeps` says whether a node keeps its
+    /// task over a crash. Refused, in this order, as `BadNodes`, `BadPartitions`, `BadLimit`, `BadWeights`.
     pub fn weighted(
         nodes: u16,
         partitions: u16,
@@ -175,12 +183,21 @@ impl Setup {
         weights: &[u16],
         keeps: bool,
     ) -> Result<Setup, SetupFault>
-        ensures numbers { IfOk result (λ s. s ≡ record { nodes = nodes; partitions = partitions; events_max = events_max; keeps = keeps; weights = weights.now }) }
+        ensures numbers { IfOk result (λ s. s ≡ record {
+          nodes = nodes;
+          partitions = partitions;
+          events_max = events_max;
+          keeps = keeps;
+          weights = weights.now;
+        }) }
         ensures within { IfOk result IsSetup }
         ensures bad_nodes { (result ≡ Err SetupFault.BadNodes) ↔ ¬ IsNodeNumber nodes }
-        ensures bad_partitions { (result ≡ Err SetupFault.BadPartitions) ↔ (IsNodeNumber nodes × ¬ IsPartitionCount partitions) }
-        ensures bad_limit { (result ≡ Err SetupFault.BadLimit) ↔ (IsNodeNumber nodes × IsPartitionCount partitions × ¬ IsEventsBound events_max) }
-        ensures bad_weights { (result ≡ Err SetupFault.BadWeights) ↔ (IsNodeNumber nodes × IsPartitionCount partitions × IsEventsBound events_max × ¬ AreWeights nodes weights.now) }
+        ensures bad_partitions { (result ≡ Err SetupFault.BadPartitions)
+            ↔ (IsNodeNumber nodes × ¬ IsPartitionCount partitions) }
+        ensures bad_limit { (result ≡ Err SetupFault.BadLimit)
+            ↔ (IsNodeNumber nodes × IsPartitionCount partitions × ¬ IsEventsBound events_max) }
+        ensures bad_weights { (result ≡ Err SetupFault.BadWeights) ↔ (IsNodeNumber nodes × IsPartitionCount partitions
+            × IsEventsBound events_max × ¬ AreWeights nodes weights.now) }
     {
         let limits = Limits::new(nodes, partitions, events_max)?;
         if weights.len() != usize::from(nodes) || !are_within(weights) {

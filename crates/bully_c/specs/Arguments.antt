@@ -1,5 +1,6 @@
 -- What the arguments of C come to.
-use Rattle.std.specs.Prelude.{◌≡◌, ◌≢◌, ◌⊎◌, ℕ, ◌<◌, ◌≤◌, List, [], ◌∷◌, ◌++◌, Option, Some, None, IfSome, All, drop, length, not, replicate, ◌==◌}
+use Rattle.std.specs.Prelude.{◌≡◌, ◌≢◌, ◌⊎◌, ℕ, ◌<◌, ◌≤◌, List, [], ◌∷◌, ◌++◌, Option, Some, None, IfSome, All, drop}
+use Rattle.std.specs.Prelude.{length, not, replicate, ◌==◌}
 use Rattle.bully_base.specs.Setup.{AreWeights, IsEventsBound, IsNode, IsNodeNumber, IsPartitionCount, Setup}
 use Rattle.bully_base.specs.declared.setup.SetupFault.{SetupFault}
 use Rattle.bully_rows.specs.ReadBack.{AreOwners}
@@ -16,7 +17,13 @@ weights_given nodes (weight ∷ weights) = weight ∷ weights
 
 -- a setup with weights
 abbrev pub setup_with : CSetup → List ℕ → Setup
-setup_with s weights = record { nodes = s.nodes; partitions = s.partitions; events_max = s.events_max; keeps = not (s.keeps == 0); weights = weights }
+setup_with s weights = record {
+  nodes = s.nodes;
+  partitions = s.partitions;
+  events_max = s.events_max;
+  keeps = not (s.keeps == 0);
+  weights = weights;
+}
 
 abbrev pub setup_given : CSetup → List ℕ → Setup
 setup_given s weights = setup_with s (weights_given s.nodes weights)
@@ -26,7 +33,8 @@ abbrev pub RefusesSetup : Setup → SetupFault → Type 0
 RefusesSetup s SetupFault.BadNodes = ¬ IsNodeNumber s.nodes
 RefusesSetup s SetupFault.BadPartitions = IsNodeNumber s.nodes × ¬ IsPartitionCount s.partitions
 RefusesSetup s SetupFault.BadLimit = IsNodeNumber s.nodes × IsPartitionCount s.partitions × ¬ IsEventsBound s.events_max
-RefusesSetup s SetupFault.BadWeights = IsNodeNumber s.nodes × IsPartitionCount s.partitions × IsEventsBound s.events_max × ¬ AreWeights s.nodes s.weights
+RefusesSetup s SetupFault.BadWeights = IsNodeNumber s.nodes × IsPartitionCount s.partitions × IsEventsBound s.events_max
+    × ¬ AreWeights s.nodes s.weights
 
 -- and its number
 abbrev pub IsSetupRefusal : Setup → ℕ → Type 0

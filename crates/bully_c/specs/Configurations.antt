@@ -40,6 +40,8 @@ IsFaultTold text before count_before status after count =
 -- what is told of the configuration that bytes spell, or of its first fault; or an allocation failed, and nothing is
 abbrev pub IsConfigurationTold : List ℕ → List ℕ → ℕ → ℕ → List ℕ → ℕ → Type 0
 IsConfigurationTold bytes before count_before status after count =
-    ((c : Configuration) × IsConfigurationIn bytes c × IsMadeAndCopied (configuration_text c) before count_before status after count)
-    ⊎ ((fault : ConfigFault) × IsFaultIn bytes fault × IsFaultTold (fault_text fault) before count_before status after count)
+    ((c : Configuration) × IsConfigurationIn bytes c
+    × IsMadeAndCopied (configuration_text c) before count_before status after count)
+    ⊎ ((fault : ConfigFault) × IsFaultIn bytes fault
+    × IsFaultTold (fault_text fault) before count_before status after count)
     ⊎ ((status ≡ OUT_OF_MEMORY) × (after ≡ before) × (count ≡ count_before))

@@ -1,5 +1,6 @@
 -- What an export over a handle answers.
-use Rattle.std.specs.Prelude.{◌≡◌, ◌≢◌, ◌⊎◌, ℕ, ◌<◌, ◌≤◌, List, [], Option, Some, None, Result, Ok, Err, IsUtf8, length, unwrap_or, if◌then◌else◌}
+use Rattle.std.specs.Prelude.{◌≡◌, ◌≢◌, ◌⊎◌, ℕ, ◌<◌, ◌≤◌, List, [], Option, Some, None, Result, Ok, Err, IsUtf8, length}
+use Rattle.std.specs.Prelude.{unwrap_or, if◌then◌else◌}
 use Rattle.std.specs.Option.{option_map_or}
 use Rattle.bully_base.specs.NodeSet.{with_node}
 use Rattle.bully_base.specs.Setup.{IsNode, IsSetup, Setup}
@@ -24,8 +25,10 @@ use Rattle.bully_calls.specs.declared.kind.NodeEventKind.{NodeEventKind}
 use Rattle.bully_calls.specs.Events.{event_at}
 use Rattle.bully_c.specs.Arguments.{AreGiven, IsCopied, IsSetupRefusal, RefusesGiven, RefusesOwners, table_given}
 use Rattle.bully_c.specs.HeldAgent.{ServesRequest, call_in, Takes, TakesFailure, TakesReply, TellsOwn, TellsPlan}
-use Rattle.bully_c.specs.Numbers.{answer_number, kind_number, reply_number, request_number, status_number, step_number, want_number}
-use Rattle.bully_c.specs.declared.status.TheConstants.{BAD_NODE, CLOSED, LINE_WORD, OK, OPEN, OUT_OF_MEMORY, SHORT, TABLE_LENGTH}
+use Rattle.bully_c.specs.Numbers.{answer_number, kind_number, reply_number, request_number, status_number, step_number}
+use Rattle.bully_c.specs.Numbers.{want_number}
+use Rattle.bully_c.specs.declared.status.TheConstants.{BAD_NODE, CLOSED, LINE_WORD, OK, OPEN, OUT_OF_MEMORY, SHORT}
+use Rattle.bully_c.specs.declared.status.TheConstants.{TABLE_LENGTH}
 use Rattle.bully_c.specs.declared.held_agent.HeldAgent.{HeldAgent}
 use Rattle.bully_c.specs.declared.held_agent.StepRows.{StepRows}
 use Rattle.bully_c.specs.declared.shown.CState.{CState}
@@ -40,7 +43,8 @@ abbrev pub AtOpen : (HeldAgent → ℕ → HeldAgent → Type 0) → Option Held
 AtOpen = AtOpenOf HeldAgent
 
 -- the status is that of a step which is taken or refused so
-abbrev pub IsStep : {A : Type 0} → (HeldAgent → Result A Refused → HeldAgent → Type 0) → HeldAgent → ℕ → HeldAgent → Type 0
+abbrev pub IsStep : {A : Type 0} → (HeldAgent → Result A Refused → HeldAgent → Type 0) → HeldAgent → ℕ → HeldAgent
+    → Type 0
 IsStep {A} Steps held status after = (said : Result A Refused) × (status ≡ step_number said) × Steps held said after
 
 -- an event of this kind, which the node takes by itself
@@ -56,12 +60,14 @@ IsPlan owners held status after =
 -- why a line is no request, by its number
 abbrev pub RefusesRequestLine : Setup → List ℕ → ℕ → Type 0
 RefusesRequestLine s line status =
-    ((status ≡ LINE_WORD) × ¬ IsUtf8 line) ⊎ (IsUtf8 line × (fault : RequestFault) × (status ≡ request_number fault) × IsRequestFault s line fault)
+    ((status ≡ LINE_WORD) × ¬ IsUtf8 line)
+    ⊎ (IsUtf8 line × (fault : RequestFault) × (status ≡ request_number fault) × IsRequestFault s line fault)
 
 -- and no reply
 abbrev pub RefusesReplyLine : Setup → List ℕ → ℕ → Type 0
 RefusesReplyLine s line status =
-    ((status ≡ LINE_WORD) × ¬ IsUtf8 line) ⊎ (IsUtf8 line × (fault : ReplyFault) × (status ≡ reply_number fault) × (reply_of_text s line ≡ Err fault))
+    ((status ≡ LINE_WORD) × ¬ IsUtf8 line)
+    ⊎ (IsUtf8 line × (fault : ReplyFault) × (status ≡ reply_number fault) × (reply_of_text s line ≡ Err fault))
 
 -- the line is that of a request
 abbrev pub IsRequestLine : Setup → List ℕ → Request → Type 0
@@ -69,13 +75,19 @@ IsRequestLine s line request = IsUtf8 line × (request_of_text s line ≡ Ok req
 
 -- the line of what the node answers it, where it runs
 abbrev pub answer_line : HeldAgent → Request → List ℕ
-answer_line held request = reply_text (record { caller = request.caller; number = request.number; answer = reply request.call.kind held.agent.node_state.vector.vector })
+answer_line held request = reply_text (record {
+  caller = request.caller;
+  number = request.number;
+  answer = reply request.call.kind held.agent.node_state.vector.vector;
+})
 
--- the request of a line runs, and the line of its reply is written. Nothing happens where there isn't room for that, where the line
--- is no request, or where an allocation failed.
+-- the request of a line runs, and the line of its reply is written. Nothing happens where there isn't room for that,
+-- where the line is no request, or where an allocation failed.
 pub record NothingServed (line : List ℕ) (room count : ℕ) (held : HeldAgent) (status count_after : ℕ) : Type 0 where
-  pub why : ((request : Request) × IsRequestLine held.agent.setup line request × (status ≡ SHORT) × (room < count_after) × (count_after ≡ length (answer_line held request)))
-      ⊎ ((request : Request) × IsRequestLine held.agent.setup line request × (status ≡ OUT_OF_MEMORY) × (count_after ≡ count))
+  pub why : ((request : Request) × IsRequestLine held.agent.setup line request × (status ≡ SHORT) × (room < count_after)
+      × (count_after ≡ length (answer_line held request)))
+      ⊎ ((request : Request) × IsRequestLine held.agent.setup line request × (status ≡ OUT_OF_MEMORY)
+      × (count_after ≡ count))
       ⊎ (RefusesRequestLine held.agent.setup line status × (count_after ≡ count))
 
 -- what was written of the reply, if there is one
@@ -86,8 +98,10 @@ IsReplyCopied (Err why) before count_before after count = (after ≡ before) × 
 abbrev pub IsServe : List ℕ → List ℕ → ℕ → List ℕ → ℕ → HeldAgent → ℕ → HeldAgent → Type 0
 IsServe line before count_before after_reply count held status after =
     (NothingServed line (length before) count_before held status count × (after ≡ held) × (after_reply ≡ before))
-    ⊎ ((request : Request) × IsRequestLine held.agent.setup line request × (length (answer_line held request) ≤ length before)
-    × (said : Result Reply Refused) × (status ≡ step_number said) × ServesRequest request held said after × IsReplyCopied said before count_before after_reply count)
+    ⊎ ((request : Request) × IsRequestLine held.agent.setup line request
+    × (length (answer_line held request) ≤ length before)
+    × (said : Result Reply Refused) × (status ≡ step_number said) × ServesRequest request held said after
+    × IsReplyCopied said before count_before after_reply count)
 
 -- what a call brought, in the place of what was there
 abbrev pub told_answer : ℕ → Result Answer Refused → ℕ
@@ -97,12 +111,14 @@ told_answer before (Err why) = before
 abbrev pub IsReply : List ℕ → ℕ → ℕ → HeldAgent → ℕ → HeldAgent → Type 0
 IsReply line before answer held status after =
     (RefusesReplyLine held.agent.setup line status × (after ≡ held) × (answer ≡ before))
-    ⊎ ((reply : Reply) × IsUtf8 line × (reply_of_text held.agent.setup line ≡ Ok reply) × (said : Result Answer Refused) × (status ≡ step_number said)
+    ⊎ ((reply : Reply) × IsUtf8 line × (reply_of_text held.agent.setup line ≡ Ok reply) × (said : Result Answer Refused)
+    × (status ≡ step_number said)
     × TakesReply reply held said after × (answer ≡ told_answer before said))
 
 abbrev pub IsFailure : ℕ → ℕ → ℕ → HeldAgent → ℕ → HeldAgent → Type 0
 IsFailure number before answer held status after =
-    (said : Result Answer Refused) × (status ≡ step_number said) × TakesFailure number held said after × (answer ≡ told_answer before said)
+    (said : Result Answer Refused) × (status ≡ step_number said) × TakesFailure number held said after
+    × (answer ≡ told_answer before said)
 
 -- ---- what an agent shows
 
@@ -125,10 +141,23 @@ callee_in (Some call) = call.callee
 abbrev pub node_shown : Vector → Slot → ℕ → Want → CState
 node_shown v slot generation wants =
     let call = call_in slot in
-    record { status = status_number v.status; wants = want_number wants; events = 0; generation = generation; call = kind_in call; orphan = if is_orphan generation slot then 1 else 0; number = 0; node = 0; coordinator = number_or_none v.coordinator; halter = number_or_none v.halter; callee = callee_in call }
+    record {
+      status = status_number v.status;
+      wants = want_number wants;
+      events = 0;
+      generation = generation;
+      call = kind_in call;
+      orphan = if is_orphan generation slot then 1 else 0;
+      number = 0;
+      node = 0;
+      coordinator = number_or_none v.coordinator;
+      halter = number_or_none v.halter;
+      callee = callee_in call;
+    }
 
 abbrev pub shown : AgentState → CState
-shown a = record (node_shown a.node_state.vector.vector a.node_state.slot a.node_state.generation (wanted a)) { events = a.events; number = a.number; node = a.node }
+shown a = record (node_shown a.node_state.vector.vector a.node_state.slot a.node_state.generation (wanted a))
+    { events = a.events; number = a.number; node = a.node }
 
 -- nothing changes, and this is shown
 abbrev pub ShowsOf : (H : Type 0) → (H → ℕ → Type 0) → H → ℕ → H → Type 0
@@ -142,17 +171,20 @@ Shows = ShowsOf HeldAgent
 
 -- the table that the agent prepares from these owners, if any
 abbrev pub IsPreparedTable : AgentState → List ℕ → List ℕ → Type 0
-IsPreparedTable a old table = AreGiven a.setup old × (table ≡ planned a.setup (table_given old) (with_node a.node a.node_state.vector.vector.up))
+IsPreparedTable a old table =
+    AreGiven a.setup old × (table ≡ planned a.setup (table_given old) (with_node a.node a.node_state.vector.vector.up))
 
 -- why there is none: the room isn't that of a table, the old owners are none of the setup, or an allocation failed
 abbrev pub RefusesPrepare : AgentState → List ℕ → ℕ → ℕ → Type 0
 RefusesPrepare a old room status =
-    ((status ≡ TABLE_LENGTH) × (room ≢ a.setup.partitions)) ⊎ ((room ≡ a.setup.partitions) × RefusesGiven a.setup old status)
+    ((status ≡ TABLE_LENGTH) × (room ≢ a.setup.partitions))
+    ⊎ ((room ≡ a.setup.partitions) × RefusesGiven a.setup old status)
     ⊎ ((status ≡ OUT_OF_MEMORY) × (room ≡ a.setup.partitions) × AreGiven a.setup old)
 
 abbrev pub IsPrepared : List ℕ → List ℕ → List ℕ → HeldAgent → ℕ → HeldAgent → Type 0
 IsPrepared old before owners = Shows (λ held status.
-    ((status ≡ OK) × IsPreparedTable held.agent old owners) ⊎ (RefusesPrepare held.agent old (length before) status × (owners ≡ before)))
+    ((status ≡ OK) × IsPreparedTable held.agent old owners)
+    ⊎ (RefusesPrepare held.agent old (length before) status × (owners ≡ before)))
 
 -- ---- opening and closing
 
@@ -176,7 +208,8 @@ opened s node events task = record { agent = new_agent s node events (table_give
 abbrev pub IsOpening : Setup → ℕ → ℕ → List ℕ → Option HeldAgent → ℕ → Option HeldAgent → Type 0
 IsOpening s node events task (Some held) status new = (status ≡ OPEN) × (new ≡ Some held)
 IsOpening s node events task None status new =
-    ((status ≡ OK) × CanOpen s node task × (new ≡ Some (opened s node events task))) ⊎ (RefusesOpening s node task status × (new ≡ None))
+    ((status ≡ OK) × CanOpen s node task × (new ≡ Some (opened s node events task)))
+    ⊎ (RefusesOpening s node task status × (new ≡ None))
 
 abbrev pub IsClosing : {H : Type 0} → Option H → ℕ → Option H → Type 0
 IsClosing None status new = (status ≡ CLOSED) × (new ≡ None)

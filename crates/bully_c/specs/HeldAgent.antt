@@ -6,7 +6,8 @@ use Rattle.bully_calls.specs.Slot.{Slot}
 use Rattle.bully_calls.specs.declared.message.Reply.{Reply}
 use Rattle.bully_calls.specs.declared.message.Request.{Request}
 use Rattle.bully_agent.specs.Agent.{AgentState, IsRefused, IsTaken}
-use Rattle.bully_agent.specs.Calls.{IsFailed, IsReplyTo, IsRequested, IsReturned, IsServed, RefusesFailure, RefusesReply, RefusesRequest, TellsRun}
+use Rattle.bully_agent.specs.Calls.{IsFailed, IsReplyTo, IsRequested, IsReturned, IsServed, RefusesFailure}
+use Rattle.bully_agent.specs.Calls.{RefusesReply, RefusesRequest, TellsRun}
 use Rattle.bully_agent.specs.Part.{Always}
 use Rattle.bully_rows.specs.declared.detail.Detail.{Detail}
 use Rattle.bully_rows.specs.EventsTold.{answered, unanswered}
@@ -28,7 +29,8 @@ rows_told StepRows.Nothing = []
 rows_told (StepRows.Event e) = Row.Event e ∷ []
 rows_told (StepRows.Call event) = Row.Detailed event ∷ []
 rows_told (StepRows.Failure i call answer) =
-    Row.Detailed (record { node = i; detail = unanswered NodeEventKind.Lose call }) ∷ Row.Detailed (record { node = i; detail = answered NodeEventKind.Return call answer }) ∷ []
+    Row.Detailed (record { node = i; detail = unanswered NodeEventKind.Lose call })
+    ∷ Row.Detailed (record { node = i; detail = answered NodeEventKind.Return call answer }) ∷ []
 
 -- an event of a call of node i
 abbrev pub detail_told : ℕ → Option Detail → StepRows
@@ -47,9 +49,11 @@ failure_told i answer (Some call) = StepRows.Failure i call answer
 -- ---- what is taken
 
 -- the agent takes an event by itself, and tells it, or refuses it, and has not changed
-abbrev pub Takes : (ℕ → Event) → (AgentState → AgentState → StepRows → Type 0) → HeldAgent → Result Answer Refused → HeldAgent → Type 0
+abbrev pub Takes : (ℕ → Event) → (AgentState → AgentState → StepRows → Type 0) → HeldAgent → Result Answer Refused
+    → HeldAgent → Type 0
 Takes event Tells old (Ok answer) new =
-    IsTaken old.agent (event old.agent.node) new.agent (record { event = event old.agent.node; answer = answer }) × Tells old.agent new.agent new.told
+    IsTaken old.agent (event old.agent.node) new.agent (record { event = event old.agent.node; answer = answer })
+    × Tells old.agent new.agent new.told
 Takes event Tells old (Err why) new = IsRefused Always old.agent (event old.agent.node) why × (new ≡ old)
 
 -- what is told of an event that node i takes by itself, with this call in its slot before it, and that one after it:
@@ -74,8 +78,10 @@ TellsPlan table old new told = told ≡ StepRows.Event (Event.Plan old.node tabl
 -- a request runs at the agent, and its run is told with the answer, or it is refused
 abbrev pub ServesRequest : Request → HeldAgent → Result Reply Refused → HeldAgent → Type 0
 ServesRequest request old (Ok reply) new =
-    IsServed old.agent request new.agent (record { event = Event.Run request.caller; reply = reply }) × TellsRun old.agent request reply × IsReplyTo request reply
-    × (new.told ≡ StepRows.Call (record { node = request.caller; detail = answered NodeEventKind.Run request.call reply.answer }))
+    IsServed old.agent request new.agent (record { event = Event.Run request.caller; reply = reply })
+    × TellsRun old.agent request reply × IsReplyTo request reply
+    × (new.told
+    ≡ StepRows.Call (record { node = request.caller; detail = answered NodeEventKind.Run request.call reply.answer }))
 ServesRequest request old (Err why) new =
     IsRefused (IsRequested old.agent.node request) old.agent (Event.Run request.caller) why
     × RefusesRequest old.agent.setup old.agent.node old.agent.events old.agent.node_state request why × (new ≡ old)
@@ -84,12 +90,16 @@ ServesRequest request old (Err why) new =
 abbrev pub TakesReply : Reply → HeldAgent → Result Answer Refused → HeldAgent → Type 0
 TakesReply reply old (Ok answer) new =
     IsReturned old.agent reply new.agent (record { event = Event.Return old.agent.node; answer = answer })
-    × (new.told ≡ detail_told old.agent.node (option_map (λ call. answered NodeEventKind.Return call answer) (call_in old.agent.node_state.slot)))
+    × (new.told ≡ detail_told old.agent.node
+    (option_map (λ call. answered NodeEventKind.Return call answer) (call_in old.agent.node_state.slot)))
 TakesReply reply old (Err why) new = RefusesReply old.agent reply why × (new ≡ old)
 
 -- the agent's call failed, and its loss and return are told, or that is refused
 abbrev pub TakesFailure : ℕ → HeldAgent → Result Answer Refused → HeldAgent → Type 0
 TakesFailure number old (Ok answer) new =
-    IsFailed old.agent number new.agent (record { lost = Event.Lose old.agent.node; returned = record { event = Event.Return old.agent.node; answer = answer } })
+    IsFailed old.agent number new.agent (record {
+      lost = Event.Lose old.agent.node;
+      returned = record { event = Event.Return old.agent.node; answer = answer };
+    })
     × (new.told ≡ failure_told old.agent.node answer (call_in old.agent.node_state.slot))
 TakesFailure number old (Err why) new = RefusesFailure old.agent number why × (new ≡ old)

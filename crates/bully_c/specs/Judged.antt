@@ -37,7 +37,8 @@ row_told fault = if trace_number fault.cause == OUT_OF_MEMORY then 0 else fault.
 abbrev pub IsCheck : List ℕ → CVerdict → ℕ → CVerdict → Type 0
 IsCheck bytes before status after =
     ((found : Verdict) × (status ≡ OK) × (after ≡ verdict_numbers found) × IsVerdictOn bytes found)
-    ⊎ ((fault : TraceFault) × (status ≡ trace_number fault.cause) × (after ≡ record before { number = row_told fault }) × IsFirstFault (Some bytes) fault)
+    ⊎ ((fault : TraceFault) × (status ≡ trace_number fault.cause) × (after ≡ record before { number = row_told fault })
+    × IsFirstFault (Some bytes) fault)
 
 -- ---- tables
 
@@ -69,4 +70,5 @@ RefusesTable s numbers old room status =
 
 abbrev pub IsTable : Setup → List ℕ → List ℕ → List ℕ → ℕ → ℕ → List ℕ → ℕ → Type 0
 IsTable s numbers old before moves_before status owners moves =
-    ((status ≡ OK) × IsPlannedTable s numbers old owners moves) ⊎ (RefusesTable s numbers old (length before) status × (owners ≡ before) × (moves ≡ moves_before))
+    ((status ≡ OK) × IsPlannedTable s numbers old owners moves)
+    ⊎ (RefusesTable s numbers old (length before) status × (owners ≡ before) × (moves ≡ moves_before))

@@ -17,7 +17,8 @@ member_number MemberFault.OutOfMemory = 23
 -- the answer of this number, if it is one
 abbrev pub answer_numbered : ℕ → Option StoreAnswer
 answer_numbered number =
-    if number == 1 then Some StoreAnswer.Done else if number == 2 then Some StoreAnswer.Refused else if number == 3 then Some StoreAnswer.Unanswered else None
+    if number == 1 then Some StoreAnswer.Done else if number == 2 then Some StoreAnswer.Refused else if number == 3
+    then Some StoreAnswer.Unanswered else None
 
 abbrev pub until_number : Until → ℕ
 until_number Until.News = 1

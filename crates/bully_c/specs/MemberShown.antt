@@ -5,17 +5,20 @@ use Rattle.bully_member.specs.Times.{sure_left}
 use Rattle.bully_member.specs.declared.values.SessionId.{SessionId}
 use Rattle.bully_member.specs.declared.values.Request.{Request}
 use Rattle.bully_member.specs.declared.values.Step.{Step}
-use Rattle.bully_c.specs.MemberNumbers.{until_number, ending_number, ending_or_none, session_count, session_number, session_process, session_since, work_number, work_token}
+use Rattle.bully_c.specs.MemberNumbers.{until_number, ending_number, ending_or_none, session_count, session_number}
+use Rattle.bully_c.specs.MemberNumbers.{session_process, session_since, work_number, work_token}
 use Rattle.bully_c.specs.declared.member_shown.CMember.{CMember}
 use Rattle.bully_c.specs.declared.member_shown.CStep.{CStep}
 
 abbrev pub no_step : CStep
-no_step = record { at_most = 0; process = 0; number = 0; kind = 0; request = 0; until = 0; offset = 0; token = 0; ending = 0 }
+no_step =
+    record { at_most = 0; process = 0; number = 0; kind = 0; request = 0; until = 0; offset = 0; token = 0; ending = 0 }
 
 -- the step of the request with this number, of this session, at this offset
 abbrev pub of_session : ℕ → Option SessionId → ℕ → CStep
 of_session request None offset = record no_step { kind = 1; request = request; offset = offset }
-of_session request (Some session) offset = record no_step { process = session.process; number = session.number; kind = 1; request = request; offset = offset }
+of_session request (Some session) offset =
+    record no_step { process = session.process; number = session.number; kind = 1; request = request; offset = offset }
 
 abbrev pub request_shown : Request → CStep
 request_shown (Request.Acquire session offset) = of_session 1 (Some session) offset

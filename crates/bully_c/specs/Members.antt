@@ -1,5 +1,6 @@
 -- What an export over a member answers.
-use Rattle.std.specs.Prelude.{◌≡◌, ◌⊎◌, ◌+◌, ◌<◌, ◌≤◌, ◌↔◌, ◌==◌, ℕ, Bool, List, [], Option, Some, None, Result, Ok, Err, IsTrue, length, map, true, false, if◌then◌else◌}
+use Rattle.std.specs.Prelude.{◌≡◌, ◌⊎◌, ◌+◌, ◌<◌, ◌≤◌, ◌↔◌, ◌==◌, ℕ, Bool, List, [], Option, Some, None, Result, Ok}
+use Rattle.std.specs.Prelude.{Err, IsTrue, length, map, true, false, if◌then◌else◌}
 use Rattle.bully_base.specs.Setup.{IsNode, Setup}
 use Rattle.bully_base.specs.declared.TheConstants.{NODES_MAX}
 use Rattle.bully_member.specs.Due.{due, noted}
@@ -48,14 +49,16 @@ Becomes to held status after = (status ≡ OK) × (after.member ≡ to held.memb
 -- ---- what an epoch is for a member
 
 abbrev pub terms_given : Setup → TermsTold → List ℕ → Terms
-terms_given s told old = record { epoch = told.epoch; node = told.node; rows_max = told.rows_max; old = old_given s.nodes old }
+terms_given s told old =
+    record { epoch = told.epoch; node = told.node; rows_max = told.rows_max; old = old_given s.nodes old }
 
 -- the group has the node, and the old table is one
 abbrev pub AreTerms : Setup → TermsTold → List ℕ → Type 0
 AreTerms s told old = IsNode s told.node × AreOld s old
 
 abbrev pub RefusesTermsGiven : Setup → TermsTold → List ℕ → ℕ → Type 0
-RefusesTermsGiven s told old status = ((status ≡ BAD_NODE) × ¬ IsNode s told.node) ⊎ (IsNode s told.node × RefusesOld s old status)
+RefusesTermsGiven s told old status = ((status ≡ BAD_NODE) × ¬ IsNode s told.node)
+    ⊎ (IsNode s told.node × RefusesOld s old status)
 
 -- the header of this text, and the terms that are given
 pub record IsOpeningOf (text : List ℕ) (told : TermsTold) (old : List ℕ) (opening : Opening) : Type 0 where
@@ -66,10 +69,12 @@ pub record IsOpeningOf (text : List ℕ) (told : TermsTold) (old : List ℕ) (op
 -- why there are none
 abbrev pub RefusesOpeningOf : List ℕ → TermsTold → List ℕ → ℕ → Type 0
 RefusesOpeningOf text told old status =
-    RefusesHeader text status ⊎ ((header : Header) × IsHeaderAlone text header × RefusesTermsGiven header.setup told old status)
+    RefusesHeader text status
+    ⊎ ((header : Header) × IsHeaderAlone text header × RefusesTermsGiven header.setup told old status)
 
 -- the member that begins with this
-pub record IsMemberOpened (text : List ℕ) (told : TermsTold) (old : List ℕ) (process ttl : ℕ) (held : HeldMember) : Type 0 where
+pub record IsMemberOpened (text : List ℕ) (told : TermsTold) (old : List ℕ) (process ttl : ℕ)
+    (held : HeldMember) : Type 0 where
   pub opening : Opening
   pub is : IsOpeningOf text told old opening
   pub can : member_fault opening.header.setup opening.terms ttl ≡ None
@@ -84,7 +89,8 @@ pub record RefusesBeginning (text : List ℕ) (told : TermsTold) (old : List ℕ
   pub status_is : status ≡ member_number fault
 
 abbrev pub RefusesMemberOpening : List ℕ → TermsTold → List ℕ → ℕ → ℕ → Type 0
-RefusesMemberOpening text told old ttl status = RefusesOpeningOf text told old status ⊎ RefusesBeginning text told old ttl status
+RefusesMemberOpening text told old ttl status =
+    RefusesOpeningOf text told old status ⊎ RefusesBeginning text told old ttl status
 
 abbrev pub IsMemberOpening : List ℕ → TermsTold → List ℕ → ℕ → ℕ → Option HeldMember → ℕ → Option HeldMember → Type 0
 IsMemberOpening text told old process ttl (Some held) status new = (status ≡ OPEN) × (new ≡ Some held)
@@ -96,11 +102,13 @@ IsMemberOpening text told old process ttl None status new =
 
 -- the first rule that applies
 abbrev pub IsDue : MemberState → (now : ℕ) → Step → Type 0
-IsDue m now step = (is_stable are_down : Bool) → (IsTrue is_stable ↔ SeesStable m now) → (IsTrue are_down ↔ AllAreDown m) → step ≡ due m now is_stable are_down
+IsDue m now step = (is_stable are_down : Bool) → (IsTrue is_stable ↔ SeesStable m now)
+    → (IsTrue are_down ↔ AllAreDown m) → step ≡ due m now is_stable are_down
 
 abbrev pub IsNextStep : (now : ℕ) → CStep → HeldMember → ℕ → HeldMember → Type 0
 IsNextStep now shown held status after =
-    (status ≡ OK) × (step : Step) × (shown ≡ step_shown step) × IsDue held.member now step × (after.member ≡ noted held.member now step)
+    (status ≡ OK) × (step : Step) × (shown ≡ step_shown step) × IsDue held.member now step
+    × (after.member ≡ noted held.member now step)
 
 -- ---- what it is told
 
@@ -133,7 +141,8 @@ pub record LearnsRows (text : List ℕ) (m : MemberState) (status : ℕ) (after 
 abbrev pub IsMemberLearning : List ℕ → ℕ → HeldMember → ℕ → HeldMember → Type 0
 IsMemberLearning text taken held status after =
     ((has_end text ≡ false) × (status ≡ ROW_END) × (taken ≡ 0) × (after ≡ held))
-    ⊎ ((has_end text ≡ true) × (has_mark text ≡ true) × (status ≡ mark_number held.member.learned) × (taken ≡ 0) × (after.member ≡ end_for held.member Ending.Broken held.member.ending))
+    ⊎ ((has_end text ≡ true) × (has_mark text ≡ true) × (status ≡ mark_number held.member.learned) × (taken ≡ 0)
+    × (after.member ≡ end_for held.member Ending.Broken held.member.ending))
     ⊎ ((has_end text ≡ true) × (has_mark text ≡ false) × LearnsRows text held.member status after.member
     × (after.member.learned.rows ≡ held.member.learned.rows + taken))
 
@@ -141,7 +150,8 @@ IsMemberLearning text taken held status after =
 abbrev pub last_node : MemberState → (epoch : ℕ) → ℕ
 last_node m epoch = if epoch == m.terms.epoch then (replica_of m).world.setup.nodes else NODES_MAX
 
-abbrev pub IsSnapshotRead : (now epoch : ℕ) → List CLease → (has_unknown has_request : Bool) → HeldMember → ℕ → HeldMember → Type 0
+abbrev pub IsSnapshotRead : (now epoch : ℕ) → List CLease → (has_unknown has_request : Bool) → HeldMember → ℕ
+    → HeldMember → Type 0
 IsSnapshotRead now epoch leases has_unknown has_request held status after =
     ((status ≡ OK) × AreLeases (last_node held.member epoch) leases
     × (after.member ≡ snapshot_read held.member now epoch (map lease_given leases) has_unknown has_request))
@@ -150,8 +160,10 @@ IsSnapshotRead now epoch leases has_unknown has_request held status after =
 -- what an epoch begins with, or why the member doesn't go on there
 abbrev pub IsFollowOf : (now : ℕ) → Opening → HeldMember → ℕ → HeldMember → Type 0
 IsFollowOf now opening held status after =
-    ((status ≡ OK) × (terms_fault opening.header.setup opening.terms ≡ None) × (after.member ≡ followed held.member now opening.header opening.terms))
-    ⊎ ((fault : MemberFault) × RefusesTerms (terms_fault opening.header.setup opening.terms) fault × (status ≡ member_number fault) × (after ≡ held))
+    ((status ≡ OK) × (terms_fault opening.header.setup opening.terms ≡ None)
+    × (after.member ≡ followed held.member now opening.header opening.terms))
+    ⊎ ((fault : MemberFault) × RefusesTerms (terms_fault opening.header.setup opening.terms) fault
+    × (status ≡ member_number fault) × (after ≡ held))
 
 abbrev pub IsFollow : (now : ℕ) → List ℕ → TermsTold → List ℕ → HeldMember → ℕ → HeldMember → Type 0
 IsFollow now text told old held status after =
@@ -169,7 +181,8 @@ pub record IsMemberStable (m : MemberState) (now told : ℕ) : Type 0 where
 -- what the holder of this lease owns, if its node is one of the group's
 abbrev pub IsOwnedOfShown : MemberState → CLease → ℕ → List ℕ → ℕ → ℕ → ℕ → List ℕ → ℕ → Type 0
 IsOwnedOfShown m p token_before before count_before status token after count =
-    ShowsNode (replica_of m).world.setup p.node status (IsOwnedMade (owned_of m (lease_given p)) token_before before count_before status token after count)
+    ShowsNode (replica_of m).world.setup p.node status
+    (IsOwnedMade (owned_of m (lease_given p)) token_before before count_before status token after count)
     ((token ≡ token_before) × (after ≡ before) × (count ≡ count_before))
 
 -- ---- what it appends
@@ -181,4 +194,5 @@ pub record IsMemberRebalance (m : MemberState) (text : List ℕ) : Type 0 where
 
 abbrev pub RefusesMemberRebalance : MemberState → ℕ → Type 0
 RefusesMemberRebalance m status =
-    ((status ≡ FULL) × ((replica_of m).world.setup.events_max < offset_of m + length (rebalance m))) ⊎ (status ≡ OUT_OF_MEMORY)
+    ((status ≡ FULL) × ((replica_of m).world.setup.events_max < offset_of m + length (rebalance m)))
+    ⊎ (status ≡ OUT_OF_MEMORY)

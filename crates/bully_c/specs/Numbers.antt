@@ -62,7 +62,8 @@ learn_fault_number (LearnFault.Violation Violation.Differs) = 53
 -- the event of node i of this number, if it is one
 abbrev pub event_numbered : ℕ → ℕ → Option Event
 event_numbered number i =
-    if number == 1 then Some (Event.Crash i) else if number == 2 then Some (Event.Recover i) else if number == 3 then Some (Event.Check i)
+    if number == 1 then Some (Event.Crash i) else if number == 2 then Some (Event.Recover i) else if number == 3
+    then Some (Event.Check i)
     else if number == 4 then Some (Event.Timeout i) else if number == 5 then Some (Event.Drop i) else None
 
 abbrev pub answer_number : Answer → ℕ

@@ -1,10 +1,12 @@
 -- Tables of an epoch before, as C has them.
-use Rattle.std.specs.Prelude.{◌≡◌, ◌≢◌, ◌⊎◌, ◌+◌, ◌≤◌, ◌==◌, ℕ, List, [], ◌∷◌, Option, Some, None, All, length, map, nat_lt, if◌then◌else◌}
+use Rattle.std.specs.Prelude.{◌≡◌, ◌≢◌, ◌⊎◌, ◌+◌, ◌≤◌, ◌==◌, ℕ, List, [], ◌∷◌, Option, Some, None, All, length, map}
+use Rattle.std.specs.Prelude.{nat_lt, if◌then◌else◌}
 use Rattle.bully_base.specs.Setup.{Setup}
 use Rattle.bully_base.specs.declared.TheConstants.{NODES_MAX}
 use Rattle.bully_c.specs.declared.status.TheConstants.{OUT_OF_MEMORY, TABLE_LENGTH, TABLE_OWNER}
 
--- an owner, or if it is gone, which 0 says, a node that a group of so many lacks; in the largest group, which lacks none, node 1
+-- an owner, or if it is gone, which 0 says, a node that a group of so many lacks; in the largest group, which lacks
+-- none, node 1
 abbrev pub owner_before : ℕ → ℕ → ℕ
 owner_before nodes owner = if owner == 0 then (if nat_lt nodes NODES_MAX then nodes + 1 else 1) else owner
 

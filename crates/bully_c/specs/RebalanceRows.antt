@@ -1,5 +1,6 @@
 -- What is shown of a rebalance, of whether a group is stable, and of what a node owns.
-use Rattle.std.specs.Prelude.{◌≡◌, ◌⊎◌, ◌+◌, ◌≤◌, ◌↔◌, ℕ, List, [], Bool, Option, Some, None, All, IsTrue, length, map, if◌then◌else◌}
+use Rattle.std.specs.Prelude.{◌≡◌, ◌⊎◌, ◌+◌, ◌≤◌, ◌↔◌, ℕ, List, [], Bool, Option, Some, None, All, IsTrue, length, map}
+use Rattle.std.specs.Prelude.{if◌then◌else◌}
 use Rattle.bully_base.specs.Setup.{IsNode}
 use Rattle.bully_calls.specs.declared.event.Event.{Event}
 use Rattle.bully_replica.specs.RowReplica.{RowReplicaState}
@@ -58,7 +59,8 @@ abbrev pub RefusesRebalance : RowReplicaState → List ℕ → List ℕ → ℕ 
 RefusesRebalance f numbers old status =
     ((status ≡ BAD_NODE) × ¬ HasNodes f numbers)
     ⊎ (HasNodes f numbers × RefusesOld f.replica.world.setup old status)
-    ⊎ (HasNodes f numbers × AreOld f.replica.world.setup old × (((status ≡ FULL) × HasNoRoom f numbers old) ⊎ (status ≡ OUT_OF_MEMORY)))
+    ⊎ (HasNodes f numbers × AreOld f.replica.world.setup old
+    × (((status ≡ FULL) × HasNoRoom f numbers old) ⊎ (status ≡ OUT_OF_MEMORY)))
 
 -- whether the group is stable among the nodes that are named, by a plan at or after this offset
 pub record IsStableTold (r : ReplicaState) (numbers : List ℕ) (offset told : ℕ) : Type 0 where
@@ -83,7 +85,8 @@ partitions_or_none None = []
 partitions_or_none (Some owned) = owned.partitions
 
 abbrev pub IsOwnedCopied : Option Owned → List ℕ → ℕ → ℕ → List ℕ → ℕ → Type 0
-IsOwnedCopied owned before status token after count = (token ≡ token_or_none owned) × IsCopied (partitions_or_none owned) before status after count
+IsOwnedCopied owned before status token after count =
+    (token ≡ token_or_none owned) × IsCopied (partitions_or_none owned) before status after count
 
 -- that is written, or an allocation failed, and nothing is
 abbrev pub IsOwnedMade : Option Owned → ℕ → List ℕ → ℕ → ℕ → ℕ → List ℕ → ℕ → Type 0
@@ -94,5 +97,6 @@ IsOwnedMade owned token_before before count_before status token after count =
 -- what the node of this number owns, by a plan at or after this offset
 abbrev pub IsOwnedShown : ReplicaState → ℕ → ℕ → ℕ → List ℕ → ℕ → ℕ → ℕ → List ℕ → ℕ → Type 0
 IsOwnedShown r node offset token_before before count_before status token after count =
-    ShowsNode r.world.setup node status (IsOwnedMade (owned_by r node offset) token_before before count_before status token after count)
+    ShowsNode r.world.setup node status
+    (IsOwnedMade (owned_by r node offset) token_before before count_before status token after count)
     ((token ≡ token_before) × (after ≡ before) × (count ≡ count_before))

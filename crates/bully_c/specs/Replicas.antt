@@ -1,5 +1,6 @@
 -- What an export over a replica answers.
-use Rattle.std.specs.Prelude.{◌≡◌, ◌⊎◌, ◌+◌, ◌==◌, ℕ, List, [], ◌∷◌, Bool, Option, Some, None, Ok, MatchOption, true, false, reverse, unwrap_or, if◌then◌else◌}
+use Rattle.std.specs.Prelude.{◌≡◌, ◌⊎◌, ◌+◌, ◌==◌, ℕ, List, [], ◌∷◌, Bool, Option, Some, None, Ok, MatchOption, true}
+use Rattle.std.specs.Prelude.{false, reverse, unwrap_or, if◌then◌else◌}
 use Rattle.std.specs.List.{ends_with, starts_with}
 use Rattle.std.specs.Option.{option_map}
 use Rattle.bully_base.specs.Setup.{IsNode, IsSetup, Setup}
@@ -25,11 +26,13 @@ use Rattle.bully_calls.specs.Events.{refusal_number}
 use Rattle.bully_c.specs.Numbers.{event_numbered, learn_fault_number, trace_number}
 use Rattle.bully_c.specs.declared.replicas.CGroup.{CGroup}
 use Rattle.bully_c.specs.declared.shown.CState.{CState}
-use Rattle.bully_c.specs.declared.status.TheConstants.{BAD_EVENT, BAD_HEADER, BAD_NODE, OK, OPEN, OUT_OF_MEMORY, ROW_END}
+use Rattle.bully_c.specs.declared.status.TheConstants.{BAD_EVENT, BAD_HEADER, BAD_NODE, OK, OPEN, OUT_OF_MEMORY}
+use Rattle.bully_c.specs.declared.status.TheConstants.{ROW_END}
 
 -- ---- handles
 
-abbrev pub AtLog : (RowReplicaState → ℕ → RowReplicaState → Type 0) → Option RowReplicaState → ℕ → Option RowReplicaState → Type 0
+abbrev pub AtLog : (RowReplicaState → ℕ → RowReplicaState → Type 0) → Option RowReplicaState → ℕ
+    → Option RowReplicaState → Type 0
 AtLog = AtOpenOf RowReplicaState
 
 abbrev pub ShowsLog : (RowReplicaState → ℕ → Type 0) → RowReplicaState → ℕ → RowReplicaState → Type 0
@@ -45,12 +48,14 @@ opened_log header = record { replica = first_replica header; rows = 0 }
 
 -- why it isn't opened: there is no such header, or no memory
 abbrev pub RefusesHeader : List ℕ → ℕ → Type 0
-RefusesHeader text status = ((status ≡ BAD_HEADER) × ((header : Header) → ¬ IsHeaderAlone text header)) ⊎ (status ≡ OUT_OF_MEMORY)
+RefusesHeader text status = ((status ≡ BAD_HEADER) × ((header : Header) → ¬ IsHeaderAlone text header))
+    ⊎ (status ≡ OUT_OF_MEMORY)
 
 abbrev pub IsLogOpening : List ℕ → Option RowReplicaState → ℕ → Option RowReplicaState → Type 0
 IsLogOpening text (Some held) status new = (status ≡ OPEN) × (new ≡ Some held)
 IsLogOpening text None status new =
-    ((header : Header) × IsHeaderAlone text header × (status ≡ OK) × (new ≡ Some (opened_log header))) ⊎ (RefusesHeader text status × (new ≡ None))
+    ((header : Header) × IsHeaderAlone text header × (status ≡ OK) × (new ≡ Some (opened_log header)))
+    ⊎ (RefusesHeader text status × (new ≡ None))
 
 -- ---- rows that are learned
 
@@ -68,18 +73,21 @@ has_end (byte ∷ bytes) = ends_with same_byte (byte ∷ bytes) (10 ∷ [])
 
 -- all that is left was learned, or why the first of it wasn't
 abbrev pub EndsLearning : List Record → RowReplicaState → ℕ → Type 0
-EndsLearning left f status = ((status ≡ OK) × (left ≡ [])) ⊎ ((fault : LearnFault) × (status ≡ learn_fault_number fault) × StopsAt left f fault)
+EndsLearning left f status =
+    ((status ≡ OK) × (left ≡ [])) ⊎ ((fault : LearnFault) × (status ≡ learn_fault_number fault) × StopsAt left f fault)
 
 -- a text that begins with a mark begins with no row, or with one that is too many
 abbrev pub mark_number : RowReplicaState → ℕ
 mark_number f = if f.rows == ROWS_MAX then trace_number TraceCause.TooManyRows else trace_number TraceCause.BadRow
 
--- the rows of the text were learned up to that one, so many of them; nothing of a text that begins with a mark, or without its end
+-- the rows of the text were learned up to that one, so many of them; nothing of a text that begins with a mark, or
+-- without its end
 abbrev pub IsLearning : List ℕ → ℕ → RowReplicaState → ℕ → RowReplicaState → Type 0
 IsLearning text taken held status after =
     ((has_end text ≡ false) × (status ≡ ROW_END) × (taken ≡ 0) × (after ≡ held))
     ⊎ ((has_end text ≡ true) × (has_mark text ≡ true) × (status ≡ mark_number held) × (taken ≡ 0) × (after ≡ held))
-    ⊎ ((has_end text ≡ true) × (has_mark text ≡ false) × (left : List Record) × FollowsUpTo (records_of text) held after left
+    ⊎ ((has_end text ≡ true) × (has_mark text ≡ false) × (left : List Record)
+    × FollowsUpTo (records_of text) held after left
     × (after.rows ≡ held.rows + taken) × EndsLearning left after status)
 
 -- ---- rows to be appended
@@ -94,7 +102,8 @@ IsAllowedRow f e text = (append_cause f e ≡ None) × (text ≡ line_of (event_
 
 -- why there is no such row
 abbrev pub RefusesRow : RowReplicaState → Event → ℕ → Type 0
-RefusesRow f e status = ((why : Refused) × (append_cause f e ≡ Some why) × (status ≡ refusal_number why)) ⊎ (status ≡ OUT_OF_MEMORY)
+RefusesRow f e status = ((why : Refused) × (append_cause f e ≡ Some why) × (status ≡ refusal_number why))
+    ⊎ (status ≡ OUT_OF_MEMORY)
 
 -- the group has the node of this number
 abbrev pub HasNode : RowReplicaState → ℕ → Type 0
@@ -102,16 +111,19 @@ HasNode f node = IsNode f.replica.world.setup node
 
 -- the row that the node appends next, or nothing if it rests
 abbrev pub IsNextRow : RowReplicaState → ℕ → List ℕ → Type 0
-IsNextRow f node text = HasNode f node × (next : Option Event) × IsNext f.replica node next × MatchOption next (text ≡ []) (λ e. IsAllowedRow f e text)
+IsNextRow f node text = HasNode f node × (next : Option Event) × IsNext f.replica node next
+    × MatchOption next (text ≡ []) (λ e. IsAllowedRow f e text)
 
 abbrev pub RefusesNext : RowReplicaState → ℕ → ℕ → Type 0
 RefusesNext f node status =
     ((status ≡ BAD_NODE) × ¬ HasNode f node)
-    ⊎ (HasNode f node × ((status ≡ OUT_OF_MEMORY) ⊎ ((next : Event) × IsNext f.replica node (Some next) × RefusesRow f next status)))
+    ⊎ (HasNode f node
+    × ((status ≡ OUT_OF_MEMORY) ⊎ ((next : Event) × IsNext f.replica node (Some next) × RefusesRow f next status)))
 
 -- the row of an event by its number
 abbrev pub IsEventRow : RowReplicaState → ℕ → ℕ → List ℕ → Type 0
-IsEventRow f node number text = HasNode f node × (e : Event) × (event_numbered number node ≡ Some e) × IsAllowedRow f e text
+IsEventRow f node number text = HasNode f node × (e : Event) × (event_numbered number node ≡ Some e)
+    × IsAllowedRow f e text
 
 abbrev pub RefusesEvent : RowReplicaState → ℕ → ℕ → ℕ → Type 0
 RefusesEvent f node number status =
@@ -122,7 +134,8 @@ RefusesEvent f node number status =
 -- a text is written into the room, or it is told why there is none, and nothing is
 abbrev pub IsWritten : (List ℕ → Type 0) → (ℕ → Type 0) → List ℕ → ℕ → ℕ → List ℕ → ℕ → Type 0
 IsWritten Is Refuses before count_before status after count =
-    ((text : List ℕ) × Is text × IsCopied text before status after count) ⊎ (Refuses status × (after ≡ before) × (count ≡ count_before))
+    ((text : List ℕ) × Is text × IsCopied text before status after count)
+    ⊎ (Refuses status × (after ≡ before) × (count ≡ count_before))
 
 -- the header of a setup
 abbrev pub IsHeaderRow : Setup → List ℕ → Type 0
@@ -143,7 +156,8 @@ ShowsNode s node status Shown Same = (IsNode s node × Shown) ⊎ ((status ≡ B
 
 -- a node's state, as an agent of it would show it
 abbrev pub IsStateShown : WorldState → ℕ → CState → ℕ → CState → Type 0
-IsStateShown w node before status after = ShowsNode w.setup node status ((status ≡ OK) × (after ≡ shown (agent_in w node))) (after ≡ before)
+IsStateShown w node before status after =
+    ShowsNode w.setup node status ((status ≡ OK) × (after ≡ shown (agent_in w node))) (after ≡ before)
 
 -- a list that a node has in this world, from the first
 abbrev pub IsListShown : WorldState → ℕ → List ℕ → List ℕ → ℕ → ℕ → List ℕ → ℕ → Type 0
@@ -159,7 +173,15 @@ task_in w node = unwrap_or (state_at w node).vector.vector.task []
 abbrev pub group_shown : RowReplicaState → CGroup
 group_shown f =
     let r = f.replica in let s = r.world.setup in
-    record { rows = f.rows; events = r.world.events; token = token_of r.last; planner = number_or_none (option_map planner_in r.last); nodes = s.nodes; partitions = s.partitions; keeps = if s.keeps then 1 else 0 }
+    record {
+      rows = f.rows;
+      events = r.world.events;
+      token = token_of r.last;
+      planner = number_or_none (option_map planner_in r.last);
+      nodes = s.nodes;
+      partitions = s.partitions;
+      keeps = if s.keeps then 1 else 0;
+    }
 
 abbrev pub table_shown : ReplicaState → List ℕ
 table_shown r = unwrap_or (option_map table_in r.last) []

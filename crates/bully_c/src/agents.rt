@@ -8,7 +8,8 @@ ghost use Rattle.bully_rows.specs.declared.trace.Row.{Row as RowState};
 ghost use Rattle.bully_calls.specs.declared.kind.EventKind.{EventKind};
 ghost use Rattle.bully_calls.specs.declared.kind.NodeEventKind.{NodeEventKind as KindState};
 ghost use Rattle.bully_c.specs.Arguments.{IsCopied, IsMadeAndCopied, setup_given};
-ghost use Rattle.bully_c.specs.Exports.{AtOpen, CanOpen, IsClosing, IsOpening, IsOwn, IsPlan, IsPrepared, IsPreparedTable, RefusesOpening, RefusesPrepare, Shows, opened, shown};
+ghost use Rattle.bully_c.specs.Exports.{AtOpen, CanOpen, IsClosing, IsOpening, IsOwn, IsPlan, IsPrepared};
+ghost use Rattle.bully_c.specs.Exports.{IsPreparedTable, RefusesOpening, RefusesPrepare, Shows, opened, shown};
 ghost use Rattle.bully_c.specs.HeldAgent.{rows_told};
 ghost use Rattle.bully_c.specs.Numbers.{step_number};
 ghost use Rattle.bully_c.specs.declared.status.TheConstants.{OK as OkNumber};
@@ -48,7 +49,8 @@ pub extern "C" fn bully_c_agent_open(
     events: u32,
     task: &[u16],
 ) -> u32
-    ensures { IsOpening (setup_given setup.now weights.now) node events task.now agent.old.value result agent.new.value }
+    ensures { IsOpening
+        (setup_given setup.now weights.now) node events task.now agent.old.value result agent.new.value }
 {
     if let Some(held) = agent.take(alloc) {
         agent.put(alloc, held);
@@ -95,7 +97,8 @@ fn boxed(
 ) -> Result<Box<HeldAgent>, OutOfMemory>
     requires node { node ≤ setup.now.nodes }
     requires task { IfSome (option_copied task) (λ t. length t ≡ setup.now.partitions) }
-    ensures { IfOk result (λ held. held.value ≡ record { agent = new_agent setup.now node events (option_copied task.entry); told = StepRowsState.Nothing }) }
+    ensures { IfOk result (λ held. held.value
+        ≡ record { agent = new_agent setup.now node events (option_copied task.entry); told = StepRowsState.Nothing }) }
 {
     let agent = Agent::new(alloc, setup, node, events, task)?;
     Ok(Box::new(alloc, HeldAgent::new(agent))?)
@@ -253,7 +256,8 @@ pub extern "C" fn bully_c_agent_show(
     agent: &mut AgentHandle,
     state: &mut CState,
 ) -> u32
-    ensures open { AtOpen (Shows (λ held status. (status ≡ OkNumber) × (state.new ≡ shown held.agent))) agent.old.value result agent.new.value }
+    ensures open { AtOpen (Shows (λ held status. (status ≡ OkNumber)
+        × (state.new ≡ shown held.agent))) agent.old.value result agent.new.value }
     ensures closed { agent.old.value ≡ None → state.new ≡ state.old }
 {
     let Some(held) = agent.take(alloc) else {
@@ -272,7 +276,8 @@ pub extern "C" fn bully_c_agent_up(
     nodes: &mut [u16],
     count: &mut usize,
 ) -> u32
-    ensures open { AtOpen (Shows (λ held status. IsCopied (reverse held.agent.node_state.vector.vector.up) nodes.old status nodes.new count.new)) agent.old.value result agent.new.value }
+    ensures open { AtOpen (Shows (λ held status. IsCopied (reverse held.agent.node_state.vector.vector.up) nodes.old
+        status nodes.new count.new)) agent.old.value result agent.new.value }
     ensures closed { agent.old.value ≡ None → (nodes.new ≡ nodes.old) × (count.new ≡ count.old) }
 {
     let Some(held) = agent.take(alloc) else {
@@ -291,7 +296,8 @@ pub extern "C" fn bully_c_agent_task(
     owners: &mut [u16],
     count: &mut usize,
 ) -> u32
-    ensures open { AtOpen (Shows (λ held status. IsCopied (unwrap_or held.agent.node_state.vector.vector.task []) owners.old status owners.new count.new)) agent.old.value result agent.new.value }
+    ensures open { AtOpen (Shows (λ held status. IsCopied (unwrap_or held.agent.node_state.vector.vector.task [])
+        owners.old status owners.new count.new)) agent.old.value result agent.new.value }
     ensures closed { agent.old.value ≡ None → (owners.new ≡ owners.old) × (count.new ≡ count.old) }
 {
     let Some(held) = agent.take(alloc) else {
@@ -310,7 +316,8 @@ pub extern "C" fn bully_c_agent_rows(
     rows: &mut [u8],
     length: &mut usize,
 ) -> u32
-    ensures open { AtOpen (Shows (λ held status. IsMadeAndCopied (rows_text (rows_told held.told)) rows.old length.old status rows.new length.new)) agent.old.value result agent.new.value }
+    ensures open { AtOpen (Shows (λ held status. IsMadeAndCopied (rows_text (rows_told held.told)) rows.old length.old
+        status rows.new length.new)) agent.old.value result agent.new.value }
     ensures closed { agent.old.value ≡ None → (rows.new ≡ rows.old) × (length.new ≡ length.old) }
 {
     let Some(held) = agent.take(alloc) else {
@@ -333,7 +340,9 @@ pub extern "C" fn bully_c_agent_claim(
     row: &mut [u8],
     length: &mut usize,
 ) -> u32
-    ensures open { AtOpen (Shows (λ held status. IsMadeAndCopied (line_of (row_fields (RowState.Whole (whole_of held.agent.node held.agent.node_state.vector.vector)))) row.old length.old status row.new length.new)) agent.old.value result agent.new.value }
+    ensures open { AtOpen (Shows (λ held status. IsMadeAndCopied
+        (line_of (row_fields (RowState.Whole (whole_of held.agent.node held.agent.node_state.vector.vector)))) row.old
+        length.old status row.new length.new)) agent.old.value result agent.new.value }
     ensures closed { agent.old.value ≡ None → (row.new ≡ row.old) × (length.new ≡ length.old) }
 {
     let Some(held) = agent.take(alloc) else {

@@ -4,7 +4,8 @@ ghost use Rattle.bully_base.specs.Places.{at_node};
 ghost use Rattle.bully_config.specs.Keys.{fault_text};
 ghost use Rattle.bully_config.specs.declared.fault.ConfigFault.{ConfigFault};
 ghost use Rattle.bully_c.specs.Arguments.{IsMadeAndCopied};
-ghost use Rattle.bully_c.specs.Configurations.{IsConfigurationIn, IsConfigurationTold, IsFaultIn, IsFaultTold, configuration_text, name_line, names_text};
+ghost use Rattle.bully_c.specs.Configurations.{IsConfigurationIn, IsConfigurationTold, IsFaultIn, IsFaultTold};
+ghost use Rattle.bully_c.specs.Configurations.{configuration_text, name_line, names_text};
 
 use crate::shown::copy_text;
 use crate::status::{BAD_CONFIG, OK, OUT_OF_MEMORY};

@@ -6,7 +6,8 @@ ghost use Rattle.bully_agent.specs.Agent.{IsAlone};
 ghost use Rattle.bully_calls.specs.declared.event.Event.{Event as EventState};
 ghost use Rattle.bully_calls.specs.declared.kind.EventKind.{EventKind};
 ghost use Rattle.bully_calls.specs.Events.{event_at};
-ghost use Rattle.bully_c.specs.HeldAgent.{ServesRequest, Takes, TakesFailure, TakesReply, TellsOwn, TellsPlan, detail_told, failure_told, own_told, rows_told};
+ghost use Rattle.bully_c.specs.HeldAgent.{ServesRequest, Takes, TakesFailure, TakesReply, TellsOwn, TellsPlan};
+ghost use Rattle.bully_c.specs.HeldAgent.{detail_told, failure_told, own_told, rows_told};
 ghost use Rattle.bully_c.specs.declared.held_agent.StepRows.{StepRows as StepRowsState};
 
 use bully_agent::Agent;
@@ -153,7 +154,8 @@ fn push_failure(
     call: Call,
     answer: Answer,
 ) -> Result<(), OutOfMemory>
-    ensures { OnOk result (string_bytes text.new ≡ string_bytes text.old ++ rows_text (rows_told (StepRowsState.Failure node call answer))) }
+    ensures { OnOk result (string_bytes text.new ≡ string_bytes text.old
+        ++ rows_text (rows_told (StepRowsState.Failure node call answer))) }
 {
     let lost = Call {
         callee: call.callee,
@@ -169,7 +171,8 @@ fn push_failure(
 
 // Appends the row of an event of a call of this node.
 fn push_detail(text: &mut String, node: Node, detail: Detail) -> Result<(), OutOfMemory>
-    ensures { OnOk result (string_bytes text.new ≡ string_bytes text.old ++ rows_text (RowState.Detailed (record { node = node; detail = detail }) ∷ [])) }
+    ensures { OnOk result (string_bytes text.new ≡ string_bytes text.old
+        ++ rows_text (RowState.Detailed (record { node = node; detail = detail }) ∷ [])) }
 {
     push_detailed(text, &DetailedEvent { node, detail })
 }

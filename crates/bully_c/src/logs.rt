@@ -1,7 +1,9 @@
 //! What is kept of a log behind a handle, what is learned of it, and what is shown of it.
 ghost use Rattle.std.specs.Prelude.{◌≡◌, ◌≤◌, IfErr, IfOk, List, string_bytes};
 ghost use Rattle.bully_c.specs.Numbers.{header_number};
-ghost use Rattle.bully_c.specs.Replicas.{EndsLearning, IsAllowedRow, IsEventRow, IsHeaderAlone, IsLearning, IsNextRow, IsWritten, RefusesEvent, RefusesHeader, RefusesNext, RefusesRow, append_cause, has_end, has_mark, mark_number, opened_log};
+ghost use Rattle.bully_c.specs.Replicas.{EndsLearning, IsAllowedRow, IsEventRow, IsHeaderAlone, IsLearning, IsNextRow};
+ghost use Rattle.bully_c.specs.Replicas.{IsWritten, RefusesEvent, RefusesHeader, RefusesNext, RefusesRow, append_cause};
+ghost use Rattle.bully_c.specs.Replicas.{has_end, has_mark, mark_number, opened_log};
 ghost use Rattle.bully_replica.specs.RowReplica.{FollowsUpTo};
 ghost use Rattle.bully_rows.specs.Headers.{Record};
 ghost use Rattle.bully_rows.specs.Rows.{records_of};
@@ -22,7 +24,8 @@ use std::alloc::Global;
 /// The replica of a log with the header of this text, on the heap. Refused if the text is no header, if a row comes
 /// after the header, and if an allocation fails.
 pub fn opened(alloc: Global, text: &[u8]) -> Result<Box<RowReplica>, u32>
-    ensures ok { IfOk result (λ held. (header : HeaderState) × IsHeaderAlone text.now header × (held.value ≡ opened_log header)) }
+    ensures ok { IfOk result (λ held. (header : HeaderState) × IsHeaderAlone text.now header
+        × (held.value ≡ opened_log header)) }
     ensures err { IfErr result (RefusesHeader text.now) }
 {
     let header = header_in(alloc, text)?;
@@ -86,7 +89,8 @@ pub fn learn(alloc: Global, held: &mut RowReplica, text: &[u8], taken: &mut usiz
 
 // Learns the rows of the text up to the first that isn't learned, and returns why it isn't.
 fn learn_rows(alloc: Global, learned: &mut RowReplica, text: &[u8]) -> u32
-    ensures learned { (left : List Record) × FollowsUpTo (records_of text.now) learned.old learned.new left × EndsLearning left learned.new result }
+    ensures learned { (left : List Record) × FollowsUpTo (records_of text.now) learned.old learned.new left
+        × EndsLearning left learned.new result }
     ensures counted { learned.old.rows ≤ learned.new.rows }
 {
     let mut reader = RowReader::open(alloc, text);
@@ -131,7 +135,8 @@ pub fn write_next(
     row: &mut [u8],
     length: &mut usize,
 ) -> u32
-    ensures { IsWritten (IsNextRow learned.now node) (RefusesNext learned.now node) row.old length.old result row.new length.new }
+    ensures { IsWritten (IsNextRow learned.now node)
+        (RefusesNext learned.now node) row.old length.old result row.new length.new }
 {
     match next_row(alloc, learned, node) {
         Ok(text) => copy_text(&text, row, length),
@@ -162,7 +167,8 @@ pub fn write_event(
     row: &mut [u8],
     length: &mut usize,
 ) -> u32
-    ensures { IsWritten (IsEventRow learned.now node number) (RefusesEvent learned.now node number) row.old length.old result row.new length.new }
+    ensures { IsWritten (IsEventRow learned.now node number)
+        (RefusesEvent learned.now node number) row.old length.old result row.new length.new }
 {
     match event_row(alloc, learned, node, number) {
         Ok(text) => copy_text(&text, row, length),

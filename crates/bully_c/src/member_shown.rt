@@ -1,6 +1,7 @@
 //! What a member does next, and what it shows, as C has it.
 ghost use Rattle.std.specs.Prelude.{◌≡◌};
-ghost use Rattle.bully_c.specs.MemberNumbers.{until_number, ending_number, ending_or_none, session_count, session_number, session_process, session_since, work_number, work_token};
+ghost use Rattle.bully_c.specs.MemberNumbers.{until_number, ending_number, ending_or_none, session_count};
+ghost use Rattle.bully_c.specs.MemberNumbers.{session_number, session_process, session_since, work_number, work_token};
 ghost use Rattle.bully_c.specs.MemberShown.{member_shown, no_step, of_session, request_shown, step_shown};
 
 use bully_member::{Ending, Member, Request, SessionId, SessionState, Step, Until, Work};

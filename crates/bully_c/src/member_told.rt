@@ -1,7 +1,9 @@
-//! What a member does next, and what it is told: the rows of its log, who holds a lease, and what its next epoch begins with.
+//! What a member does next, and what it is told: the rows of its log, who holds a lease, and what its next epoch begins
+//! with.
 ghost use Rattle.std.specs.Prelude.{◌≡◌, ◌≤◌};
 ghost use Rattle.bully_c.specs.MemberNumbers.{answer_numbered};
-ghost use Rattle.bully_c.specs.Members.{IsAnswer, IsFollow, IsFollowOf, IsSnapshotRead, IsMemberLearning, IsNextStep, LearnsRows, last_node};
+ghost use Rattle.bully_c.specs.Members.{IsAnswer, IsFollow, IsFollowOf, IsSnapshotRead, IsMemberLearning, IsNextStep};
+ghost use Rattle.bully_c.specs.Members.{LearnsRows, last_node};
 
 use crate::leases::{CLease, leases_of};
 use crate::logs::{has_end, has_mark, status_of_mark};

@@ -3,7 +3,9 @@ ghost use Rattle.std.specs.Prelude.{◌≡◌, ◌==◌, None, IfErr, IfOk, not,
 ghost use Rattle.bully_c.specs.Arguments.{IsCopied};
 ghost use Rattle.bully_c.specs.Exports.{IsClosing};
 ghost use Rattle.bully_c.specs.MemberShown.{member_shown};
-ghost use Rattle.bully_c.specs.Members.{AtMember, Becomes, IsAnswer, IsFollow, IsSnapshotRead, IsMemberLearning, IsMemberOpening, IsMemberRebalance, IsNextStep, IsOwnedOfShown, IsMemberStable, RefusesMemberRebalance, ShowsMember};
+ghost use Rattle.bully_c.specs.Members.{AtMember, Becomes, IsAnswer, IsFollow, IsSnapshotRead, IsMemberLearning};
+ghost use Rattle.bully_c.specs.Members.{IsMemberOpening, IsMemberRebalance, IsNextStep, IsOwnedOfShown, IsMemberStable};
+ghost use Rattle.bully_c.specs.Members.{RefusesMemberRebalance, ShowsMember};
 ghost use Rattle.bully_c.specs.Replicas.{IsStateShown, IsWritten, group_shown, table_shown};
 ghost use Rattle.bully_c.specs.RebalanceRows.{IsOwnedMade};
 ghost use Rattle.bully_c.specs.declared.status.TheConstants.{OK as OkNumber};
@@ -40,7 +42,8 @@ pub extern "C" fn bully_c_member_open(
     process: u64,
     ttl: u64,
 ) -> u32
-    ensures { IsMemberOpening header.now (record { epoch = epoch; node = node; rows_max = rows_max }) old.now process ttl member.old.value result member.new.value }
+    ensures { IsMemberOpening header.now (record { epoch = epoch; node = node; rows_max = rows_max }) old.now process
+        ttl member.old.value result member.new.value }
 {
     if let Some(held) = member.take(alloc) {
         member.put(alloc, held);
@@ -138,7 +141,8 @@ pub extern "C" fn bully_c_member_snapshot_read(
     has_unknown: u32,
     has_request: u32,
 ) -> u32
-    ensures { AtMember (IsSnapshotRead now epoch leases.now (not (has_unknown == 0)) (not (has_request == 0))) member.old.value result member.new.value }
+    ensures { AtMember (IsSnapshotRead now epoch leases.now (not (has_unknown == 0)) (not (has_request == 0)))
+        member.old.value result member.new.value }
 {
     let Some(mut held) = member.take(alloc) else {
         return CLOSED;
@@ -159,7 +163,8 @@ pub extern "C" fn bully_c_member_snapshot_read(
 /// The epoch is over, and its log was removed: [`Member::passed`].
 #[unsafe(no_mangle)]
 pub extern "C" fn bully_c_member_passed(alloc: Global, member: &mut MemberHandle) -> u32
-    ensures { AtMember (Becomes (λ m. record m { is_past = true; asked = None })) member.old.value result member.new.value }
+    ensures { AtMember (Becomes (λ m. record m { is_past = true; asked = None })) member.old.value result
+        member.new.value }
 {
     let Some(mut held) = member.take(alloc) else {
         return CLOSED;
@@ -181,7 +186,8 @@ pub extern "C" fn bully_c_member_followed(
     rows_max: u32,
     old: &[u16],
 ) -> u32
-    ensures { AtMember (IsFollow now header.now (record { epoch = epoch; node = node; rows_max = rows_max }) old.now) member.old.value result member.new.value }
+    ensures { AtMember (IsFollow now header.now (record { epoch = epoch; node = node; rows_max = rows_max }) old.now)
+        member.old.value result member.new.value }
 {
     let Some(mut held) = member.take(alloc) else {
         return CLOSED;
@@ -238,7 +244,8 @@ pub extern "C" fn bully_c_member_leave(alloc: Global, member: &mut MemberHandle)
 /// The work that was begun by this token has ended outside the member: [`Member::lost`].
 #[unsafe(no_mangle)]
 pub extern "C" fn bully_c_member_lost(alloc: Global, member: &mut MemberHandle, token: u32) -> u32
-    ensures { AtMember (Becomes (λ m. record m { work = lost_by m.work token })) member.old.value result member.new.value }
+    ensures { AtMember (Becomes (λ m. record m { work = lost_by m.work token })) member.old.value result
+        member.new.value }
 {
     let Some(mut held) = member.take(alloc) else {
         return CLOSED;
@@ -269,7 +276,9 @@ pub extern "C" fn bully_c_member_rebalance(
     rows: &mut [u8],
     length: &mut usize,
 ) -> u32
-    ensures open { AtMember (ShowsMember (λ held status. IsWritten (IsMemberRebalance held.member) (RefusesMemberRebalance held.member) rows.old length.old status rows.new length.new)) member.old.value result member.new.value }
+    ensures open { AtMember (ShowsMember (λ held status. IsWritten (IsMemberRebalance held.member)
+        (RefusesMemberRebalance held.member) rows.old length.old status rows.new length.new)) member.old.value result
+        member.new.value }
     ensures closed { member.old.value ≡ None → (rows.new ≡ rows.old) × (length.new ≡ length.old) }
 {
     let Some(held) = member.take(alloc) else {
@@ -282,7 +291,8 @@ pub extern "C" fn bully_c_member_rebalance(
 
 // Writes the rows that the member appends.
 fn write_rows(alloc: Global, member: &Member, rows: &mut [u8], length: &mut usize) -> u32
-    ensures { IsWritten (IsMemberRebalance member.now) (RefusesMemberRebalance member.now) rows.old length.old result rows.new length.new }
+    ensures { IsWritten (IsMemberRebalance member.now)
+        (RefusesMemberRebalance member.now) rows.old length.old result rows.new length.new }
 {
     match member_rows(alloc, member) {
         Ok(text) => copy_text(&text, rows, length),
@@ -313,8 +323,11 @@ pub extern "C" fn bully_c_member_owned(
     partitions: &mut [u16],
     count: &mut usize,
 ) -> u32
-    ensures open { AtMember (ShowsMember (λ held status. let m = held.member in IsOwnedMade (owned_by (replica_of m) m.terms.node m.promised) token.old partitions.old count.old status token.new partitions.new count.new)) member.old.value result member.new.value }
-    ensures closed { member.old.value ≡ None → (token.new ≡ token.old) × (partitions.new ≡ partitions.old) × (count.new ≡ count.old) }
+    ensures open { AtMember (ShowsMember (λ held status. let m = held.member in
+        IsOwnedMade (owned_by (replica_of m) m.terms.node m.promised) token.old partitions.old count.old status
+        token.new partitions.new count.new)) member.old.value result member.new.value }
+    ensures closed { member.old.value ≡ None → (token.new ≡ token.old) × (partitions.new ≡ partitions.old)
+        × (count.new ≡ count.old) }
 {
     let Some(held) = member.take(alloc) else {
         return CLOSED;
@@ -332,7 +345,8 @@ fn write_own(
     partitions: &mut [u16],
     count: &mut usize,
 ) -> u32
-    ensures { IsOwnedMade (owned_by (replica_of member.now) member.now.terms.node member.now.promised) token.old partitions.old count.old result token.new partitions.new count.new }
+    ensures { IsOwnedMade (owned_by (replica_of member.now) member.now.terms.node member.now.promised) token.old
+        partitions.old count.old result token.new partitions.new count.new }
 {
     match member.owned(alloc) {
         Ok(owned) => copy_owned(&owned, token, partitions, count),
@@ -350,8 +364,10 @@ pub extern "C" fn bully_c_member_owned_of(
     partitions: &mut [u16],
     count: &mut usize,
 ) -> u32
-    ensures open { AtMember (ShowsMember (λ held status. IsOwnedOfShown held.member lease.now token.old partitions.old count.old status token.new partitions.new count.new)) member.old.value result member.new.value }
-    ensures closed { member.old.value ≡ None → (token.new ≡ token.old) × (partitions.new ≡ partitions.old) × (count.new ≡ count.old) }
+    ensures open { AtMember (ShowsMember (λ held status. IsOwnedOfShown held.member lease.now token.old partitions.old
+        count.old status token.new partitions.new count.new)) member.old.value result member.new.value }
+    ensures closed { member.old.value ≡ None → (token.new ≡ token.old) × (partitions.new ≡ partitions.old)
+        × (count.new ≡ count.old) }
 {
     let Some(held) = member.take(alloc) else {
         return CLOSED;
@@ -370,7 +386,8 @@ fn write_owned_of(
     partitions: &mut [u16],
     count: &mut usize,
 ) -> u32
-    ensures { IsOwnedOfShown member.now lease.now token.old partitions.old count.old result token.new partitions.new count.new }
+    ensures { IsOwnedOfShown member.now lease.now token.old partitions.old count.old result token.new partitions.new
+        count.new }
 {
     match node_of(member.replica().world().setup(), lease.node) {
         Ok(node) => match member.owned_of(alloc, lease_at(node, lease)) {
@@ -389,7 +406,8 @@ pub extern "C" fn bully_c_member_is_stable(
     now: u64,
     is_stable: &mut u32,
 ) -> u32
-    ensures open { AtMember (ShowsMember (λ held status. (status ≡ OkNumber) × IsMemberStable held.member now is_stable.new)) member.old.value result member.new.value }
+    ensures open { AtMember (ShowsMember (λ held status. (status ≡ OkNumber)
+        × IsMemberStable held.member now is_stable.new)) member.old.value result member.new.value }
     ensures closed { member.old.value ≡ None → is_stable.new ≡ is_stable.old }
 {
     let Some(held) = member.take(alloc) else {
@@ -415,7 +433,8 @@ pub extern "C" fn bully_c_member_show(
     now: u64,
     shown: &mut CMember,
 ) -> u32
-    ensures open { AtMember (ShowsMember (λ held status. (status ≡ OkNumber) × (shown.new ≡ member_shown held.member now))) member.old.value result member.new.value }
+    ensures open { AtMember (ShowsMember (λ held status. (status ≡ OkNumber)
+        × (shown.new ≡ member_shown held.member now))) member.old.value result member.new.value }
     ensures closed { member.old.value ≡ None → shown.new ≡ shown.old }
 {
     let Some(held) = member.take(alloc) else {
@@ -434,7 +453,8 @@ pub extern "C" fn bully_c_member_node(
     node: u16,
     state: &mut CState,
 ) -> u32
-    ensures open { AtMember (ShowsMember (λ held status. IsStateShown held.member.learned.replica.world node state.old status state.new)) member.old.value result member.new.value }
+    ensures open { AtMember (ShowsMember (λ held status. IsStateShown held.member.learned.replica.world node state.old
+        status state.new)) member.old.value result member.new.value }
     ensures closed { member.old.value ≡ None → state.new ≡ state.old }
 {
     let Some(held) = member.take(alloc) else {
@@ -452,7 +472,8 @@ pub extern "C" fn bully_c_member_group(
     member: &mut MemberHandle,
     group: &mut CGroup,
 ) -> u32
-    ensures open { AtMember (ShowsMember (λ held status. (status ≡ OkNumber) × (group.new ≡ group_shown held.member.learned))) member.old.value result member.new.value }
+    ensures open { AtMember (ShowsMember (λ held status. (status ≡ OkNumber)
+        × (group.new ≡ group_shown held.member.learned))) member.old.value result member.new.value }
     ensures closed { member.old.value ≡ None → group.new ≡ group.old }
 {
     let Some(held) = member.take(alloc) else {
@@ -471,7 +492,8 @@ pub extern "C" fn bully_c_member_planned(
     owners: &mut [u16],
     count: &mut usize,
 ) -> u32
-    ensures open { AtMember (ShowsMember (λ held status. IsCopied (table_shown held.member.learned.replica) owners.old status owners.new count.new)) member.old.value result member.new.value }
+    ensures open { AtMember (ShowsMember (λ held status. IsCopied (table_shown held.member.learned.replica) owners.old
+        status owners.new count.new)) member.old.value result member.new.value }
     ensures closed { member.old.value ≡ None → (owners.new ≡ owners.old) × (count.new ≡ count.old) }
 {
     let Some(held) = member.take(alloc) else {

@@ -1,6 +1,7 @@
 //! What is kept of a member behind a handle, and what it begins with.
 ghost use Rattle.std.specs.Prelude.{◌≡◌, IfErr, IfOk, IfSome, length};
-ghost use Rattle.bully_c.specs.Members.{AreTerms, IsMemberOpened, IsOpeningOf, RefusesMemberOpening, RefusesOpeningOf, RefusesTermsGiven, terms_given};
+ghost use Rattle.bully_c.specs.Members.{AreTerms, IsMemberOpened, IsOpeningOf, RefusesMemberOpening, RefusesOpeningOf};
+ghost use Rattle.bully_c.specs.Members.{RefusesTermsGiven, terms_given};
 ghost use Rattle.bully_c.specs.MemberNumbers.{member_number};
 
 use crate::logs::header_in;

@@ -3,7 +3,8 @@ ghost use Rattle.std.specs.Prelude.{◌≡◌, ◌⊎◌, ◌<◌, ◌+◌, ◌�
 ghost use Rattle.bully_c.specs.Arguments.{IsCopied};
 ghost use Rattle.bully_c.specs.Replicas.{IsWritten};
 ghost use Rattle.bully_c.specs.declared.status.TheConstants.{FULL as FullNumber, OUT_OF_MEMORY as OutOfMemoryNumber};
-ghost use Rattle.bully_c.specs.RebalanceRows.{IsStableShown, IsOwnedCopied, IsOwnedShown, IsRebalanceOf, RefusesRebalance, events_text, rebalance_number};
+ghost use Rattle.bully_c.specs.RebalanceRows.{IsStableShown, IsOwnedCopied, IsOwnedShown, IsRebalanceOf};
+ghost use Rattle.bully_c.specs.RebalanceRows.{RefusesRebalance, events_text, rebalance_number};
 ghost use Rattle.bully_rows.specs.declared.TheConstants.{ROWS_MAX};
 
 use crate::old_tables::old_table;
@@ -42,7 +43,8 @@ pub fn rebalance_of(
 fn rows_behind(alloc: Global, rows: u32, events: &[Event]) -> Result<String, u32>
     ensures ok { IfOk result (λ text. string_bytes text ≡ events_text events.now) }
     ensures room { IfOk result (λ _. rows + length events.now ≤ ROWS_MAX) }
-    ensures err { IfErr result (λ status. ((status ≡ FullNumber) × (ROWS_MAX < rows + length events.now)) ⊎ (status ≡ OutOfMemoryNumber)) }
+    ensures err { IfErr result (λ status. ((status ≡ FullNumber) × (ROWS_MAX < rows + length events.now))
+        ⊎ (status ≡ OutOfMemoryNumber)) }
 {
     if (rows as usize).saturating_add(events.len()) > ROWS_MAX as usize {
         return Err(FULL);
@@ -83,7 +85,8 @@ pub fn write_rebalance(
     rows: &mut [u8],
     length: &mut usize,
 ) -> u32
-    ensures { IsWritten (IsRebalanceOf learned.now live.now old.now) (RefusesRebalance learned.now live.now old.now) rows.old length.old result rows.new length.new }
+    ensures { IsWritten (IsRebalanceOf learned.now live.now old.now)
+        (RefusesRebalance learned.now live.now old.now) rows.old length.old result rows.new length.new }
 {
     match rebalance_of(alloc, learned, live, old) {
         Ok(text) => copy_text(&text, rows, length),
@@ -116,7 +119,8 @@ pub fn write_owned(
     partitions: &mut [u16],
     count: &mut usize,
 ) -> u32
-    ensures { IsOwnedShown replica.now node offset token.old partitions.old count.old result token.new partitions.new count.new }
+    ensures { IsOwnedShown replica.now node offset token.old partitions.old count.old result token.new partitions.new
+        count.new }
 {
     match node_of(replica.world().setup(), node) {
         Ok(node) => match owned(alloc, replica, node, offset) {
@@ -127,8 +131,8 @@ pub fn write_owned(
     }
 }
 
-/// Writes what a node owns: the token, and the partitions with their count, or two zeros. Refused if there isn't room for the
-/// partitions, and then the token and the count alone are written.
+/// Writes what a node owns: the token, and the partitions with their count, or two zeros. Refused if there isn't room
+/// for the partitions, and then the token and the count alone are written.
 pub fn copy_owned(
     owned: &Option<Owned>,
     token: &mut u32,

@@ -2,7 +2,9 @@
 ghost use Rattle.std.specs.Prelude.{◌≡◌, None, IfErr, IfOk, string_bytes};
 ghost use Rattle.bully_c.specs.Arguments.{IsCopied, setup_given};
 ghost use Rattle.bully_c.specs.Exports.{IsClosing};
-ghost use Rattle.bully_c.specs.Replicas.{AtLog, IsEventRow, IsHeaderRow, IsLearning, IsLogOpening, IsNextRow, IsWritten, RefusesEvent, RefusesHeaderRow, RefusesNext, IsListShown, IsStateShown, ShowsLog, group_shown, table_shown, task_in, up_in};
+ghost use Rattle.bully_c.specs.Replicas.{AtLog, IsEventRow, IsHeaderRow, IsLearning, IsLogOpening, IsNextRow};
+ghost use Rattle.bully_c.specs.Replicas.{IsWritten, RefusesEvent, RefusesHeaderRow, RefusesNext, IsListShown};
+ghost use Rattle.bully_c.specs.Replicas.{IsStateShown, ShowsLog, group_shown, table_shown, task_in, up_in};
 ghost use Rattle.bully_c.specs.RebalanceRows.{IsStableShown, IsOwnedShown, IsRebalanceOf, RefusesRebalance};
 ghost use Rattle.bully_c.specs.declared.status.TheConstants.{OK as OkNumber};
 
@@ -39,7 +41,8 @@ pub extern "C" fn bully_c_header(
     row: &mut [u8],
     length: &mut usize,
 ) -> u32
-    ensures { IsWritten (IsHeaderRow (setup_given setup.now weights.now)) (RefusesHeaderRow (setup_given setup.now weights.now)) row.old length.old result row.new length.new }
+    ensures { IsWritten (IsHeaderRow (setup_given setup.now weights.now))
+        (RefusesHeaderRow (setup_given setup.now weights.now)) row.old length.old result row.new length.new }
 {
     match header_row(alloc, setup, weights) {
         Ok(text) => copy_text(&text, row, length),
@@ -121,7 +124,8 @@ pub extern "C" fn bully_c_replica_next(
     row: &mut [u8],
     length: &mut usize,
 ) -> u32
-    ensures open { AtLog (ShowsLog (λ held status. IsWritten (IsNextRow held node) (RefusesNext held node) row.old length.old status row.new length.new)) replica.old.value result replica.new.value }
+    ensures open { AtLog (ShowsLog (λ held status. IsWritten (IsNextRow held node) (RefusesNext held node) row.old
+        length.old status row.new length.new)) replica.old.value result replica.new.value }
     ensures closed { replica.old.value ≡ None → (row.new ≡ row.old) × (length.new ≡ length.old) }
 {
     let Some(held) = replica.take(alloc) else {
@@ -142,7 +146,8 @@ pub extern "C" fn bully_c_replica_event(
     row: &mut [u8],
     length: &mut usize,
 ) -> u32
-    ensures open { AtLog (ShowsLog (λ held status. IsWritten (IsEventRow held node event) (RefusesEvent held node event) row.old length.old status row.new length.new)) replica.old.value result replica.new.value }
+    ensures open { AtLog (ShowsLog (λ held status. IsWritten (IsEventRow held node event) (RefusesEvent held node event)
+        row.old length.old status row.new length.new)) replica.old.value result replica.new.value }
     ensures closed { replica.old.value ≡ None → (row.new ≡ row.old) × (length.new ≡ length.old) }
 {
     let Some(held) = replica.take(alloc) else {
@@ -161,7 +166,8 @@ pub extern "C" fn bully_c_replica_show(
     node: u16,
     state: &mut CState,
 ) -> u32
-    ensures open { AtLog (ShowsLog (λ held status. IsStateShown held.replica.world node state.old status state.new)) replica.old.value result replica.new.value }
+    ensures open { AtLog (ShowsLog (λ held status. IsStateShown held.replica.world node state.old status state.new))
+        replica.old.value result replica.new.value }
     ensures closed { replica.old.value ≡ None → state.new ≡ state.old }
 {
     let Some(held) = replica.take(alloc) else {
@@ -194,7 +200,8 @@ pub extern "C" fn bully_c_replica_up(
     nodes: &mut [u16],
     count: &mut usize,
 ) -> u32
-    ensures open { AtLog (ShowsLog (λ held status. let w = held.replica.world in IsListShown w node (up_in w node) nodes.old count.old status nodes.new count.new)) replica.old.value result replica.new.value }
+    ensures open { AtLog (ShowsLog (λ held status. let w = held.replica.world in IsListShown w node
+        (up_in w node) nodes.old count.old status nodes.new count.new)) replica.old.value result replica.new.value }
     ensures closed { replica.old.value ≡ None → (nodes.new ≡ nodes.old) × (count.new ≡ count.old) }
 {
     let Some(held) = replica.take(alloc) else {
@@ -224,7 +231,8 @@ pub extern "C" fn bully_c_replica_task(
     owners: &mut [u16],
     count: &mut usize,
 ) -> u32
-    ensures open { AtLog (ShowsLog (λ held status. let w = held.replica.world in IsListShown w node (task_in w node) owners.old count.old status owners.new count.new)) replica.old.value result replica.new.value }
+    ensures open { AtLog (ShowsLog (λ held status. let w = held.replica.world in IsListShown w node
+        (task_in w node) owners.old count.old status owners.new count.new)) replica.old.value result replica.new.value }
     ensures closed { replica.old.value ≡ None → (owners.new ≡ owners.old) × (count.new ≡ count.old) }
 {
     let Some(held) = replica.take(alloc) else {
@@ -252,7 +260,8 @@ pub extern "C" fn bully_c_replica_group(
     replica: &mut ReplicaHandle,
     group: &mut CGroup,
 ) -> u32
-    ensures open { AtLog (ShowsLog (λ held status. (status ≡ OkNumber) × (group.new ≡ group_shown held))) replica.old.value result replica.new.value }
+    ensures open { AtLog (ShowsLog (λ held status. (status ≡ OkNumber)
+        × (group.new ≡ group_shown held))) replica.old.value result replica.new.value }
     ensures closed { replica.old.value ≡ None → group.new ≡ group.old }
 {
     let Some(held) = replica.take(alloc) else {
@@ -288,7 +297,8 @@ pub extern "C" fn bully_c_replica_planned(
     owners: &mut [u16],
     count: &mut usize,
 ) -> u32
-    ensures open { AtLog (ShowsLog (λ held status. IsCopied (table_shown held.replica) owners.old status owners.new count.new)) replica.old.value result replica.new.value }
+    ensures open { AtLog (ShowsLog (λ held status. IsCopied
+        (table_shown held.replica) owners.old status owners.new count.new)) replica.old.value result replica.new.value }
     ensures closed { replica.old.value ≡ None → (owners.new ≡ owners.old) × (count.new ≡ count.old) }
 {
     let Some(held) = replica.take(alloc) else {
@@ -309,7 +319,9 @@ pub extern "C" fn bully_c_replica_rebalance(
     rows: &mut [u8],
     length: &mut usize,
 ) -> u32
-    ensures open { AtLog (ShowsLog (λ held status. IsWritten (IsRebalanceOf held live.now old.now) (RefusesRebalance held live.now old.now) rows.old length.old status rows.new length.new)) replica.old.value result replica.new.value }
+    ensures open { AtLog (ShowsLog (λ held status. IsWritten (IsRebalanceOf held live.now old.now)
+        (RefusesRebalance held live.now old.now) rows.old length.old status rows.new length.new)) replica.old.value
+        result replica.new.value }
     ensures closed { replica.old.value ≡ None → (rows.new ≡ rows.old) × (length.new ≡ length.old) }
 {
     let Some(held) = replica.take(alloc) else {
@@ -329,7 +341,8 @@ pub extern "C" fn bully_c_replica_is_stable(
     offset: u32,
     is_stable: &mut u32,
 ) -> u32
-    ensures open { AtLog (ShowsLog (λ held status. IsStableShown held.replica live.now offset is_stable.old status is_stable.new)) replica.old.value result replica.new.value }
+    ensures open { AtLog (ShowsLog (λ held status. IsStableShown held.replica live.now offset is_stable.old status
+        is_stable.new)) replica.old.value result replica.new.value }
     ensures closed { replica.old.value ≡ None → is_stable.new ≡ is_stable.old }
 {
     let Some(held) = replica.take(alloc) else {
@@ -351,8 +364,10 @@ pub extern "C" fn bully_c_replica_owned(
     partitions: &mut [u16],
     count: &mut usize,
 ) -> u32
-    ensures open { AtLog (ShowsLog (λ held status. IsOwnedShown held.replica node offset token.old partitions.old count.old status token.new partitions.new count.new)) replica.old.value result replica.new.value }
-    ensures closed { replica.old.value ≡ None → (token.new ≡ token.old) × (partitions.new ≡ partitions.old) × (count.new ≡ count.old) }
+    ensures open { AtLog (ShowsLog (λ held status. IsOwnedShown held.replica node offset token.old partitions.old
+        count.old status token.new partitions.new count.new)) replica.old.value result replica.new.value }
+    ensures closed { replica.old.value ≡ None → (token.new ≡ token.old) × (partitions.new ≡ partitions.old)
+        × (count.new ≡ count.old) }
 {
     let Some(held) = replica.take(alloc) else {
         return CLOSED;

@@ -2,7 +2,8 @@
 ghost use Rattle.std.specs.Prelude.{◌≡◌, IsUtf8, Ok, IfErr, IfOk, None, string_bytes};
 ghost use Rattle.bully_lines.specs.Texts.{reply_of_text, reply_text};
 ghost use Rattle.bully_c.specs.Arguments.{IsMadeAndCopied};
-ghost use Rattle.bully_c.specs.Exports.{AtOpen, IsFailure, IsReply, IsRequestLine, IsServe, RefusesReplyLine, RefusesRequestLine, Shows, request_line, told_answer};
+ghost use Rattle.bully_c.specs.Exports.{AtOpen, IsFailure, IsReply, IsRequestLine, IsServe, RefusesReplyLine};
+ghost use Rattle.bully_c.specs.Exports.{RefusesRequestLine, Shows, request_line, told_answer};
 ghost use Rattle.bully_c.specs.Numbers.{step_number};
 
 use crate::agent_handle::AgentHandle;
@@ -45,7 +46,8 @@ pub extern "C" fn bully_c_agent_request(
     line: &mut [u8],
     length: &mut usize,
 ) -> u32
-    ensures open { AtOpen (Shows (λ held status. IsMadeAndCopied (request_line held.agent) line.old length.old status line.new length.new)) agent.old.value result agent.new.value }
+    ensures open { AtOpen (Shows (λ held status. IsMadeAndCopied (request_line held.agent) line.old length.old status
+        line.new length.new)) agent.old.value result agent.new.value }
     ensures closed { agent.old.value ≡ None → (line.new ≡ line.old) × (length.new ≡ length.old) }
 {
     let Some(held) = agent.take(alloc) else {
@@ -80,7 +82,8 @@ pub extern "C" fn bully_c_agent_serve(
     reply: &mut [u8],
     length: &mut usize,
 ) -> u32
-    ensures open { AtOpen (IsServe line.now reply.old length.old reply.new length.new) agent.old.value result agent.new.value }
+    ensures open { AtOpen (IsServe line.now reply.old length.old reply.new length.new) agent.old.value result
+        agent.new.value }
     ensures closed { agent.old.value ≡ None → (reply.new ≡ reply.old) × (length.new ≡ length.old) }
 {
     let Some(mut held) = agent.take(alloc) else {
@@ -121,7 +124,8 @@ fn served(
 
 // The line of the reply with this answer.
 fn reply_line(alloc: Global, request: &Request, answer: Answer) -> Result<String, OutOfMemory>
-    ensures { IfOk result (λ text. string_bytes text ≡ reply_text (record { caller = request.now.caller; number = request.now.number; answer = answer })) }
+    ensures { IfOk result (λ text. string_bytes text
+        ≡ reply_text (record { caller = request.now.caller; number = request.now.number; answer = answer })) }
 {
     let mut text = String::with_capacity(alloc, LINE_ROOM)?;
     let reply = Reply {

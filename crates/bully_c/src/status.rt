@@ -2,9 +2,13 @@
 ghost use Rattle.std.specs.Prelude.{◌≡◌};
 ghost use Rattle.bully_calls.specs.declared.event.Refused.{Refused};
 ghost use Rattle.bully_lines.specs.declared.fault.RequestFault.{RequestFault};
-ghost use Rattle.bully_c.specs.declared.status.TheConstants.{BAD_ANSWER, BAD_CONFIG, BAD_EVENT, BAD_HEADER, BAD_NODE, BAD_ROW, BAD_ROWS_MAX, BAD_TTL, CLOSED, FULL, LINE_WORD, NO_MEMBER, OK, OPEN, OUT_OF_MEMORY, ROW_DIFFERS, ROW_END, SHORT, TABLE_LENGTH, TABLE_OWNER};
+ghost use Rattle.bully_c.specs.declared.status.TheConstants.{BAD_ANSWER, BAD_CONFIG, BAD_EVENT, BAD_HEADER, BAD_NODE};
+ghost use Rattle.bully_c.specs.declared.status.TheConstants.{BAD_ROW, BAD_ROWS_MAX, BAD_TTL, CLOSED, FULL, LINE_WORD};
+ghost use Rattle.bully_c.specs.declared.status.TheConstants.{NO_MEMBER, OK, OPEN, OUT_OF_MEMORY, ROW_DIFFERS, ROW_END};
+ghost use Rattle.bully_c.specs.declared.status.TheConstants.{SHORT, TABLE_LENGTH, TABLE_OWNER};
 ghost use Rattle.bully_calls.specs.Events.{refusal_number};
-ghost use Rattle.bully_c.specs.Numbers.{answer_number, event_numbered, learn_fault_number, kind_number, reply_number, request_number, setup_number, status_number, trace_number, want_number};
+ghost use Rattle.bully_c.specs.Numbers.{answer_number, event_numbered, learn_fault_number, kind_number, reply_number};
+ghost use Rattle.bully_c.specs.Numbers.{request_number, setup_number, status_number, trace_number, want_number};
 
 use bully_base::{Node, SetupFault, Status};
 use bully_calls::{Answer, CallKind};

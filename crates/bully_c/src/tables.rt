@@ -1,9 +1,11 @@
 //! Setups and tables as C has them.
-ghost use Rattle.std.specs.Prelude.{◌≡◌, ◌↔◌, ◌++◌, ◌<◌, ◌≤◌, [], All, IfErr, IfOk, IfSome, IsTrue, OnOk, drop, length, string_bytes, take};
+ghost use Rattle.std.specs.Prelude.{◌≡◌, ◌↔◌, ◌++◌, ◌<◌, ◌≤◌, [], All, IfErr, IfOk, IfSome, IsTrue, OnOk, drop, length};
+ghost use Rattle.std.specs.Prelude.{string_bytes, take};
 ghost use Rattle.bully_base.specs.Setup.{IsNode, IsSetup};
 ghost use Rattle.bully_rows.specs.ReadBack.{AreOwners};
 ghost use Rattle.bully_table.specs.TableText.{owners_text};
-ghost use Rattle.bully_c.specs.Arguments.{AreGiven, IsSetupRefusal, RefusesGiven, RefusesOwners, setup_given, setup_with, table_given};
+ghost use Rattle.bully_c.specs.Arguments.{AreGiven, IsSetupRefusal, RefusesGiven, RefusesOwners, setup_given};
+ghost use Rattle.bully_c.specs.Arguments.{setup_with, table_given};
 
 use crate::status::{BAD_NODE, OUT_OF_MEMORY, TABLE_LENGTH, TABLE_OWNER, status_of_setup};
 use bully_base::{NODES_MAX, Node, OutOfMemory, Setup};
@@ -20,7 +22,8 @@ pub struct CSetup {
     pub keeps: u32,
 }
 
-/// The setup with these weights, that of node 1 first; with none each weighs 1. Refused as [`Setup::weighted`] refuses it.
+/// The setup with these weights, that of node 1 first; with none each weighs 1. Refused as [`Setup::weighted`] refuses
+/// it.
 pub fn setup_of(setup: &CSetup, weights: &[u16]) -> Result<Setup, u32>
     ensures ok { IfOk result (λ s. s ≡ setup_given setup.now weights.now) }
     ensures within { IfOk result IsSetup }

@@ -73,7 +73,8 @@ pub extern "C" fn bully_c_table(
     owners: &mut [u16],
     moves: &mut u16,
 ) -> u32
-    ensures { IsTable (setup_given setup.now weights.now) members.now old.now owners.old moves.old result owners.new moves.new }
+    ensures { IsTable (setup_given setup.now weights.now) members.now old.now owners.old moves.old result owners.new
+        moves.new }
 {
     match planned(alloc, setup, weights, members, old, owners.len()) {
         Ok(plan) => {
@@ -94,7 +95,8 @@ fn planned(
     old: &[u16],
     count: usize,
 ) -> Result<TablePlan, u32>
-    ensures ok { IfOk result (λ plan. IsPlannedTable (setup_given setup.now weights.now) members.now old.now plan.table plan.moves) }
+    ensures ok { IfOk result (λ plan.
+        IsPlannedTable (setup_given setup.now weights.now) members.now old.now plan.table plan.moves) }
     ensures count { IfOk result (λ plan. length plan.table ≡ count) }
     ensures err { IfErr result (RefusesTable (setup_given setup.now weights.now) members.now old.now count) }
 {

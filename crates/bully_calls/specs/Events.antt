@@ -5,7 +5,8 @@ use Rattle.bully_calls.specs.declared.event.Event.{Event}
 use Rattle.bully_calls.specs.declared.event.Refused.{Refused}
 use Rattle.bully_calls.specs.declared.kind.EventKind.{EventKind}
 use Rattle.bully_calls.specs.declared.kind.NodeEventKind.{NodeEventKind}
-use Rattle.bully_calls.specs.declared.kind.NodeEventKind.TheVariants.{Recover, Crash, Check, Timeout, Start, Run, Lose, Return, Drop, Move}
+use Rattle.bully_calls.specs.declared.kind.NodeEventKind.TheVariants.{Recover, Crash, Check, Timeout, Start, Run, Lose}
+use Rattle.bully_calls.specs.declared.kind.NodeEventKind.TheVariants.{Return, Drop, Move}
 use Rattle.bully_calls.specs.declared.kind.Saying.{Saying}
 use Rattle.bully_calls.specs.declared.kind.Whose.{Whose}
 

@@ -1,5 +1,6 @@
 -- What a node's slot holds, and the pending call that it stands for.
-use Rattle.std.specs.Prelude.{◌≡◌, ◌≢◌, ℕ, ◌==◌, Bool, false, not, length, List, Option, Some, None, option_map, option_and_then}
+use Rattle.std.specs.Prelude.{◌≡◌, ◌≢◌, ℕ, ◌==◌, Bool, false, not, length, List, Option, Some, None, option_map}
+use Rattle.std.specs.Prelude.{option_and_then}
 use Rattle.std.specs.Option.{option_map_or}
 use Rattle.bully_calls.specs.declared.call.Call.{Call}
 use Rattle.bully_calls.specs.declared.call.CallKind.TheVariants.{Ready}
@@ -25,7 +26,8 @@ phased f p = record p { phase = f }
 
 -- the call is live while its caller has the generation of the tag
 abbrev pub pending_of : ℕ → SlotCall → Pending
-pending_of generation p = record { call = p.call; table = p.table; phase = p.phase; is_live = p.tag.generation == generation }
+pending_of generation p =
+    record { call = p.call; table = p.table; phase = p.phase; is_live = p.tag.generation == generation }
 
 -- a slot as its caller's generation has it
 abbrev pub pending_in : ℕ → Slot → Option Pending

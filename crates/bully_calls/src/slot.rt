@@ -1,7 +1,8 @@
 ghost use Rattle.std.specs.Prelude.{◌≡◌, ◌⊎◌, not, IfOk, IsSome, IsTrue, Some, None, option_map, option_and_then};
 ghost use Rattle.std.specs.Option.{option_copied};
 ghost use Rattle.bully_calls.specs.Pending.{is_sent, is_failed, pending_call};
-ghost use Rattle.bully_calls.specs.Slot.{phased, CarriesFor, holds_call, outcome_in, pending_in, is_orphan as orphan_in};
+ghost use Rattle.bully_calls.specs.Slot.{phased, CarriesFor, holds_call, outcome_in, pending_in};
+ghost use Rattle.bully_calls.specs.Slot.{is_orphan as orphan_in};
 
 use crate::call::{Answer, Call, Outcome, PendingCall, Phase, Tag};
 use bully_base::{OutOfMemory, Setup};
@@ -30,7 +31,11 @@ impl Model for Slot {
 
     ghost Value = { SlotState };
 
-    ghost view = { λ s. record { content = option_map (λ p. record { tag = p.tag; call = p.call; phase = p.phase; table = s.carried.table }) s.content; room = s.carried.size } };
+    ghost view = { λ s. record {
+      content =
+          option_map (λ p. record { tag = p.tag; call = p.call; phase = p.phase; table = s.carried.table }) s.content;
+      room = s.carried.size;
+    } };
 }
 
 impl Slot {
@@ -50,7 +55,9 @@ impl Slot {
     pub fn open(&mut self, tag: Tag, call: Call, table: Option<&Table>)
         requires empty { self.old.content ≡ None }
         requires carries { CarriesFor call (option_copied table) self.old.room }
-        ensures { self.new ≡ record self.old { content = Some (record { tag = tag; call = call; phase = Phase.Sent; table = option_copied table.entry }) } }
+        ensures { self.new ≡ record self.old {
+          content = Some (record { tag = tag; call = call; phase = Phase.Sent; table = option_copied table.entry });
+        } }
     {
         match table {
             Some(table) => self.carried.put(table),

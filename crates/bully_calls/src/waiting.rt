@@ -49,7 +49,8 @@ impl Waiting {
     pub fn lowest(&self, callee: Node) -> Option<Node>
         requires { callee ≤ length self.now }
         ensures lowest { result ≡ lowest_of (callers_of self.now callee) }
-        ensures least { IfSome result (λ i. (Contains (callers_of self.now callee) i) × All (λ j. i ≤ j) (callers_of self.now callee)) }
+        ensures least { IfSome result (λ i. (Contains (callers_of self.now callee) i)
+            × All (λ j. i ≤ j) (callers_of self.now callee)) }
     {
         self.callers[usize::from(callee.number() - 1)].lowest()
     }

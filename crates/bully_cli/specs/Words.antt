@@ -1,9 +1,11 @@
 -- What the words after the program's name ask for, as clap reads them.
-use Rattle.std.specs.Prelude.{◌≡◌, Bool, true, false, not, ◌&&◌, List, [], ◌∷◌, Option, Some, None, Result, IfOk, map, option_and_then, option_map, codes, if◌then◌else◌}
+use Rattle.std.specs.Prelude.{◌≡◌, Bool, true, false, not, ◌&&◌, List, [], ◌∷◌, Option, Some, None, Result, IfOk, map}
+use Rattle.std.specs.Prelude.{option_and_then, option_map, codes, if◌then◌else◌}
 use Rattle.std.specs.List.{list_all}
 use Rattle.std.specs.Str.{bytes_eq}
 use Rattle.std.specs.declared.alloc.AllocError.{AllocError}
-use Rattle.clap.specs.Words.{App, app_of, Row, Rule, Text, Kinds, all_of, fault_of, first_of, new_app, new_rule, subcommand_of, takes, with_rule, with_subcommand}
+use Rattle.clap.specs.Words.{App, app_of, Row, Rule, Text, Kinds, all_of, fault_of, first_of, new_app, new_rule}
+use Rattle.clap.specs.Words.{subcommand_of, takes, with_rule, with_subcommand}
 use Rattle.clap.specs.declared.builder.action.ArgAction.TheVariants.{Append, Set, SetTrue}
 use Rattle.clap.specs.declared.builder.command.Command.{Command}
 use Rattle.clap.specs.declared.builder.command.Command.TheViews.{out-Command as fields_of}
@@ -15,7 +17,9 @@ use Rattle.bully_cli.specs.declared.action.DrawWords.{DrawWords}
 
 -- the program before its commands, of which one is required; its words come without its name, and it tells its version
 abbrev pub bare : App
-bare = record (new_app (codes "bully")) { top = record (new_app (codes "bully")).top { no_binary_name = true; subcommand_required = true; has_version = true } }
+bare = record (new_app (codes "bully")) {
+  top = record (new_app (codes "bully")).top { no_binary_name = true; subcommand_required = true; has_version = true };
+}
 
 -- the path of a configuration
 abbrev pub config_rule : Rule
@@ -93,7 +97,8 @@ abbrev pub annotate_app : App
 annotate_app = trace_app (codes "annotate")
 
 abbrev pub draw_app : App
-draw_app = with_rule (with_rule (with_rule (with_rule (with_rule (trace_app (codes "draw")) rows_rule) text_rule) html_rule) names_rule) claims_rule
+draw_app = with_rule (with_rule
+    (with_rule (with_rule (with_rule (trace_app (codes "draw")) rows_rule) text_rule) html_rule) names_rule) claims_rule
 
 abbrev pub play_app : App
 play_app = with_rule (new_app (codes "play")) config_rule
@@ -102,7 +107,8 @@ abbrev pub run_app : App
 run_app = with_rule (new_app (codes "run")) config_rule
 
 abbrev pub table_app : App
-table_app = with_rule (with_rule (with_rule (with_rule (new_app (codes "table")) config_rule) member_rule) old_rule) json_rule
+table_app =
+    with_rule (with_rule (with_rule (with_rule (new_app (codes "table")) config_rule) member_rule) old_rule) json_rule
 
 abbrev pub completion_app : App
 completion_app = with_rule (new_app (codes "completion")) shell_rule
@@ -110,8 +116,10 @@ completion_app = with_rule (new_app (codes "completion")) shell_rule
 -- the program with all of its commands
 abbrev pub program : App
 program =
-    with_subcommand (with_subcommand (with_subcommand (with_subcommand (with_subcommand (with_subcommand (with_subcommand (with_subcommand (with_subcommand (with_subcommand bare check_app.top)
-    explain_app.top) follow_app.top) upgrade_app.top) annotate_app.top) draw_app.top) play_app.top) run_app.top) table_app.top) completion_app.top
+    with_subcommand (with_subcommand (with_subcommand (with_subcommand (with_subcommand
+    (with_subcommand (with_subcommand (with_subcommand (with_subcommand (with_subcommand bare check_app.top)
+    explain_app.top) follow_app.top) upgrade_app.top) annotate_app.top) draw_app.top) play_app.top) run_app.top)
+    table_app.top) completion_app.top
 
 -- where the command was made, it reads words as this
 abbrev pub ReadsAs : App → Result Command AllocError → Type 0
@@ -121,8 +129,8 @@ ReadsAs app made = IfOk made (λ command. app_of command ≡ app)
 abbrev pub IsLocalCommand : App → Result Command AllocError → Type 0
 IsLocalCommand app made = IfOk made (λ command. (app_of command ≡ app) × ((fields_of command).has_globals ≡ false))
 
--- which rows of which trace are drawn, and how: the values of FILE, `--rows`, `--text`, `--html`, `--names` and `--without-claims`, where
--- they are there
+-- which rows of which trace are drawn, and how: the values of FILE, `--rows`, `--text`, `--html`, `--names` and
+-- `--without-claims`, where they are there
 pub record Drawn : Type 0 where
   pub file : Option Text
   pub rows : Option Text
@@ -131,10 +139,11 @@ pub record Drawn : Type 0 where
   pub names : Option Text
   pub without_claims : Option Text
 
--- what words ask for: to judge a trace, with FILE and `--json`; to explain the verdict on it, or a configuration, with FILE, `--config`
--- and `--json`; to follow one that grows; to upgrade or to annotate it; to draw it; to play the configuration at a path, or to run its
--- node threads; to plan a table for the configuration at a path, members by name, the owners in an old table, and `--json`; or the
--- completion of a shell. Where FILE is there the trace stands there, and else on the input
+-- what words ask for: to judge a trace, with FILE and `--json`; to explain the verdict on it, or a configuration, with
+-- FILE, `--config` and `--json`; to follow one that grows; to upgrade or to annotate it; to draw it; to play the
+-- configuration at a path, or to run its node threads; to plan a table for the configuration at a path, members by
+-- name, the owners in an old table, and `--json`; or the completion of a shell. Where FILE is there the trace stands
+-- there, and else on the input
 pub data Asked : Type 0 where
   checking : Option Text → Option Text → Asked
   explaining : Option Text → Option Text → Option Text → Asked
@@ -153,7 +162,8 @@ planning_of (Some path) (Some members) old json = Some (planning path members ol
 planning_of _ _ old json = None
 
 abbrev pub planning_in : List Row → Option Asked
-planning_in rows = planning_of (first_of (codes "CONFIG") rows) (all_of (codes "MEMBER") rows) (first_of (codes "old") rows) (first_of (codes "json") rows)
+planning_in rows = planning_of (first_of (codes "CONFIG") rows) (all_of (codes "MEMBER") rows)
+    (first_of (codes "old") rows) (first_of (codes "json") rows)
 
 abbrev pub drawn_in : List Row → Drawn
 drawn_in rows = record {
@@ -169,8 +179,10 @@ drawn_in rows = record {
 abbrev pub asked_by : Text → List Row → Option Asked
 asked_by name rows =
     if bytes_eq name (codes "check") then Some (checking (first_of (codes "FILE") rows) (first_of (codes "json") rows))
-    else if bytes_eq name (codes "explain") then Some (explaining (first_of (codes "FILE") rows) (first_of (codes "config") rows) (first_of (codes "json") rows))
-    else if bytes_eq name (codes "follow") then Some (following (first_of (codes "FILE") rows) (first_of (codes "json") rows))
+    else if bytes_eq name (codes "explain") then Some
+    (explaining (first_of (codes "FILE") rows) (first_of (codes "config") rows) (first_of (codes "json") rows))
+    else if bytes_eq name (codes "follow")
+    then Some (following (first_of (codes "FILE") rows) (first_of (codes "json") rows))
     else if bytes_eq name (codes "upgrade") then Some (upgrading (first_of (codes "FILE") rows))
     else if bytes_eq name (codes "annotate") then Some (annotating (first_of (codes "FILE") rows))
     else if bytes_eq name (codes "draw") then Some (drawing (drawn_in rows))
@@ -210,7 +222,8 @@ texts_of (Action.Annotate file) = annotating (text_of file)
 texts_of (Action.Draw words) = drawing (drawn_of words)
 texts_of (Action.Play path) = playing path.now
 texts_of (Action.Run path) = running path.now
-texts_of (Action.Table words) = planning words.config.now (map (λ s. s.now) words.members.items) (text_of words.old) (text_of words.json)
+texts_of (Action.Table words) =
+    planning words.config.now (map (λ s. s.now) words.members.items) (text_of words.old) (text_of words.json)
 texts_of (Action.Completion shell) = completing shell.now
 
 -- the words are good, and they ask for this

@@ -1,6 +1,9 @@
-ghost use Rattle.std.specs.Prelude.{◌≡◌, ◌≢◌, ◌⊎◌, [], codes, true, None, Some, map, option_map, IfOk, IfErr, IsErrAnd, MatchResult};
-ghost use Rattle.clap.specs.Words.{fault_of, first_of, found_of, kind_of, rows_of, subcommand_of, subcommand_rows_of, takes, FailsBy, HasKind};
-ghost use Rattle.bully_cli.specs.Words.{Asked, asked_by, asked_for, asked_in, drawn_in, drawn_of, planning_in, program, text_of, texts_of, ParsesAs};
+ghost use Rattle.std.specs.Prelude.{◌≡◌, ◌≢◌, ◌⊎◌, [], codes, true, None, Some, map, option_map, IfOk, IfErr, IsErrAnd};
+ghost use Rattle.std.specs.Prelude.{MatchResult};
+ghost use Rattle.clap.specs.Words.{fault_of, first_of, found_of, kind_of, rows_of, subcommand_of, subcommand_rows_of};
+ghost use Rattle.clap.specs.Words.{takes, FailsBy, HasKind};
+ghost use Rattle.bully_cli.specs.Words.{Asked, asked_by, asked_for, asked_in, drawn_in, drawn_of, planning_in, program};
+ghost use Rattle.bully_cli.specs.Words.{text_of, texts_of, ParsesAs};
 
 use crate::command::command_line;
 use clap::error::ErrorKind;
@@ -33,15 +36,16 @@ pub enum Action<'a> {
     Completion(&'a str),
 }
 
-/// What the words of `check` and `follow` name: the path of a trace, and whether the answer is JSON; each as it stands there, where it
-/// does. A flag stands as `true` or `false`.
+/// What the words of `check` and `follow` name: the path of a trace, and whether the answer is JSON; each as it stands
+/// there, where it does. A flag stands as `true` or `false`.
 #[derive(Drop)]
 pub struct TraceWords<'a> {
     pub file: Option<&'a str>,
     pub json: Option<&'a str>,
 }
 
-/// What the words of `explain` name, in the same way: the path of a trace, that of a configuration, and whether the answer is JSON.
+/// What the words of `explain` name, in the same way: the path of a trace, that of a configuration, and whether the
+/// answer is JSON.
 #[derive(Drop)]
 pub struct ExplainWords<'a> {
     pub file: Option<&'a str>,
@@ -49,8 +53,8 @@ pub struct ExplainWords<'a> {
     pub json: Option<&'a str>,
 }
 
-/// What the words of `draw` name, in the same way: the path of a trace, which rows are drawn, whether it is as text, whether it is as a
-/// page, the path of a configuration with names, and whether claims are left out.
+/// What the words of `draw` name, in the same way: the path of a trace, which rows are drawn, whether it is as text,
+/// whether it is as a page, the path of a configuration with names, and whether claims are left out.
 #[derive(Drop)]
 pub struct DrawWords<'a> {
     pub file: Option<&'a str>,
@@ -75,8 +79,10 @@ pub struct TableWords<'a> {
 /// request for help, or want of memory. The rule: docs/FORMATS.md.
 pub fn action_of<'a, S: AsStr>(alloc: Global, words: &'a [S]) -> Result<Action<'a>, Error>
     ensures asked { IfOk result (λ action. asked_for (map S.text words.now) ≡ Some (texts_of action)) }
-    ensures parsed { (what : Asked) → ParsesAs (map S.text words.now) what → MatchResult result (λ action. texts_of action ≡ what) (λ error. kind_of error ≡ ErrorKind.OutOfMemory) }
-    ensures fault { fault_of program (map S.text words.now) ≢ [] → IsErrAnd result (HasKind (fault_of program (map S.text words.now))) }
+    ensures parsed { (what : Asked) → ParsesAs (map S.text words.now) what
+        → MatchResult result (λ action. texts_of action ≡ what) (λ error. kind_of error ≡ ErrorKind.OutOfMemory) }
+    ensures fault { fault_of program (map S.text words.now) ≢ []
+        → IsErrAnd result (HasKind (fault_of program (map S.text words.now))) }
 {
     match matches_of(alloc, words) {
         Ok(matches) => action_in(alloc, &matches),
@@ -87,7 +93,8 @@ pub fn action_of<'a, S: AsStr>(alloc: Global, words: &'a [S]) -> Result<Action<'
 // What clap finds in the words.
 fn matches_of<'a, S: AsStr>(alloc: Global, words: &'a [S]) -> Result<ArgMatches<'a>, Error>
     ensures rows { IfOk result (λ matches. subcommand_rows_of matches ≡ subcommand_of program (map S.text words.now)) }
-    ensures passes { IfErr result (λ error. takes program (map S.text words.now) ≡ true → kind_of error ≡ ErrorKind.OutOfMemory) }
+    ensures passes { IfErr result (λ error. takes program (map S.text words.now) ≡ true
+        → kind_of error ≡ ErrorKind.OutOfMemory) }
     ensures kinds { FailsBy (fault_of program (map S.text words.now)) result }
 {
     command_line(alloc)?.try_get_matches_from(words)
@@ -96,7 +103,8 @@ fn matches_of<'a, S: AsStr>(alloc: Global, words: &'a [S]) -> Result<ArgMatches<
 // What clap's matches ask for, or a mistake where that is nothing.
 fn action_in<'a>(alloc: Global, matches: &ArgMatches<'a>) -> Result<Action<'a>, Error>
     ensures asked { IfOk result (λ action. asked_in (subcommand_rows_of matches.now) ≡ Some (texts_of action)) }
-    ensures nothing { IfErr result (λ error. (kind_of error ≡ ErrorKind.OutOfMemory) ⊎ (asked_in (subcommand_rows_of matches.now) ≡ None)) }
+    ensures nothing { IfErr result (λ error. (kind_of error ≡ ErrorKind.OutOfMemory)
+        ⊎ (asked_in (subcommand_rows_of matches.now) ≡ None)) }
 {
     match chosen(alloc, matches)? {
         Some(action) => Ok(action),

@@ -1,7 +1,11 @@
 ghost use Rattle.std.specs.Prelude.{◌≡◌, codes, false, IfOk, IsOkAnd, Ok};
 ghost use Rattle.clap.specs.Words.{app_of, new_app, rule_of, with_rule};
 ghost use Rattle.clap.specs.declared.builder.command.Command.TheViews.{out-Command as fields_of};
-ghost use Rattle.bully_cli.specs.Words.{annotate_app, bare, check_app, claims_rule, completion_app, config_rule, draw_app, explain_app, explained_rule, file_rule, flag_rule, follow_app, html_rule, json_rule, member_rule, names_rule, old_rule, option_rule, play_app, program, rows_rule, run_app, shell_rule, table_app, text_rule, trace_app, upgrade_app, IsLocalCommand, ReadsAs};
+ghost use Rattle.bully_cli.specs.Words.{annotate_app, bare, check_app, claims_rule, completion_app, config_rule};
+ghost use Rattle.bully_cli.specs.Words.{draw_app, explain_app, explained_rule, file_rule, flag_rule, follow_app};
+ghost use Rattle.bully_cli.specs.Words.{html_rule, json_rule, member_rule, names_rule, old_rule, option_rule, play_app};
+ghost use Rattle.bully_cli.specs.Words.{program, rows_rule, run_app, shell_rule, table_app, text_rule, trace_app};
+ghost use Rattle.bully_cli.specs.Words.{upgrade_app, IsLocalCommand, ReadsAs};
 
 use crate::help;
 use clap::{Arg, ArgAction, Command};

@@ -1,12 +1,14 @@
 //! What the program says of itself: its version, and what help tells of each command behind its usage.
 
-/// The version of the program, that the promises of its README were proved for it, and the kit that they were proved with,
-/// by its number, letter and logic. `bin/test` compares number and logic with `rt version`. When the version rises: CONTRIBUTING.md.
+/// The version of the program, that the promises of its README were proved for it, and the kit that they were proved
+/// with, by its number, letter and logic. `bin/test` compares number and logic with `rt version`. When the version
+/// rises: CONTRIBUTING.md.
 pub const VERSION: &str = "0.6.0\n\
     Each promise of its README was proved for this version.\n\
     Proved with rattle-kit-13f logic dac8208d650f15bf";
 
-// What help says of a command that reads a trace: these words, the faults that it has for that, and further faults and the rest.
+// What help says of a command that reads a trace: these words, the faults that it has for that, and further faults and
+// the rest.
 macro_rules! reads_trace {
     ($words:literal, $rest:literal) => {
         concat!(

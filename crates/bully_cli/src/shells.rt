@@ -34,7 +34,8 @@ const SHELLS: &str = "bash zsh fish";
 /// The same as zsh takes them.
 const SHELL_CHOICE: &str = "(bash zsh fish)";
 
-/// What the shell reads to complete the program's commands and options, and the paths behind them. Refused where an allocation fails.
+/// What the shell reads to complete the program's commands and options, and the paths behind them. Refused where an
+/// allocation fails.
 pub fn completion(alloc: Global, shell: Shell) -> Result<String, AllocError> {
     let command = command_line(alloc)?;
     completion_by(alloc, shell, command.get_subcommands())

@@ -39,8 +39,10 @@ answer_of text = elim (parse_document text) [
 -- the configuration has as many faults as the document of the text
 abbrev pub TellsEachFault : List ℕ → Configuration → Type 0
 TellsEachFault text config =
-    (document : Members) × (parse_document text ≡ Some document) × (length config.faults ≡ length (items_at Key.Fault document))
+    (document : Members) × (parse_document text ≡ Some document)
+    × (length config.faults ≡ length (items_at Key.Fault document))
 
 -- what an error of `toml` is told as
 abbrev pub IsToldAs : Error → ConfigFault → Type 0
-IsToldAs error fault = (IsMemory error × (fault ≡ ConfigFault.OutOfMemory)) ⊎ ((¬ IsMemory error) × (fault ≡ ConfigFault.Toml))
+IsToldAs error fault = (IsMemory error × (fault ≡ ConfigFault.OutOfMemory))
+    ⊎ ((¬ IsMemory error) × (fault ≡ ConfigFault.Toml))

@@ -24,7 +24,8 @@ required_keys = Key.Nodes ∷ Key.Partitions ∷ Key.Events ∷ Key.Turns ∷ Ke
 
 -- the keys that a document may have, in their order
 abbrev pub top_keys : List Key
-top_keys = Key.Nodes ∷ Key.Partitions ∷ Key.Events ∷ Key.Turns ∷ Key.Period ∷ Key.Names ∷ Key.Weights ∷ Key.Keep ∷ Key.Fault ∷ []
+top_keys = Key.Nodes ∷ Key.Partitions ∷ Key.Events ∷ Key.Turns ∷ Key.Period ∷ Key.Names ∷ Key.Weights ∷ Key.Keep
+    ∷ Key.Fault ∷ []
 
 -- the keys that each fault must have, in their order, and it may have no other
 abbrev pub fault_keys : List Key

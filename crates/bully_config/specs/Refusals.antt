@@ -1,5 +1,6 @@
 -- The refusals of a document. Each is looked for over the whole document.
-use Rattle.std.specs.Prelude.{ℕ, Bool, true, false, not, ◌||◌, ◌&&◌, ◌==◌, nat_lt, List, [], ◌∷◌, length, Option, Some, None, is_some, option_and_then, if◌then◌else◌}
+use Rattle.std.specs.Prelude.{ℕ, Bool, true, false, not, ◌||◌, ◌&&◌, ◌==◌, nat_lt, List, [], ◌∷◌, length, Option, Some}
+use Rattle.std.specs.Prelude.{None, is_some, option_and_then, if◌then◌else◌}
 use Rattle.std.specs.Option.{option_or, unwrap_or}
 use Rattle.std.specs.List.{list_all, list_any}
 use Rattle.std.specs.Str.{bytes_eq}
@@ -11,7 +12,8 @@ use Rattle.bully_config.specs.declared.fault.Key.{Key}
 use Rattle.bully_config.specs.Configuration.{has_double, is_empty}
 use Rattle.bully_config.specs.Document.{list_of, value_at, items_at}
 use Rattle.bully_config.specs.Keys.{word_of, required_keys, top_keys, fault_keys}
-use Rattle.bully_config.specs.Values.{nodes_in, partitions_in, events_in, turns_in, period_in, or_zero, names_of, weight_in, turn_in, node_in, kind_in}
+use Rattle.bully_config.specs.Values.{nodes_in, partitions_in, events_in, turns_in, period_in, or_zero, names_of}
+use Rattle.bully_config.specs.Values.{weight_in, turn_in, node_in, kind_in}
 
 -- the first of the keys that fails the test
 abbrev pub first_failing : (Key → Bool) → List Key → Option Key
@@ -44,7 +46,8 @@ is_boolean d = is_some (as_bool d)
 -- faults that aren't all tables are passed over here
 abbrev pub missing_in : Members → Option Key
 missing_in ms = option_or (first_absent required_keys ms)
-    (if list_all is_table (items_at Key.Fault ms) then first_in (first_absent fault_keys) (items_at Key.Fault ms) else None)
+    (if list_all is_table (items_at Key.Fault ms) then first_in (first_absent fault_keys) (items_at Key.Fault ms) else
+    None)
 
 -- ---- a value has another kind
 

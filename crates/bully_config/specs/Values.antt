@@ -1,5 +1,6 @@
 -- The values of a document: what the configuration has where nothing refuses the document.
-use Rattle.std.specs.Prelude.{ℕ, ℤ, pos, negsuc, Bool, false, ◌&&◌, nat_le, codes, List, [], ◌∷◌, map, replicate, Option, Some, None, is_some, option_map, option_and_then, if◌then◌else◌}
+use Rattle.std.specs.Prelude.{ℕ, ℤ, pos, negsuc, Bool, false, ◌&&◌, nat_le, codes, List, [], ◌∷◌, map, replicate}
+use Rattle.std.specs.Prelude.{Option, Some, None, is_some, option_map, option_and_then, if◌then◌else◌}
 use Rattle.std.specs.Option.{unwrap_or}
 use Rattle.std.specs.Str.{bytes_eq}
 use Rattle.toml.specs.Data.{Data, Members, as_bool, as_integer, as_table}
@@ -57,7 +58,8 @@ weight_told d = or_zero (weight_in d)
 
 -- what so many nodes weigh, in the order of the array: 1 each where the key isn't there
 abbrev pub weights_in : ℕ → Members → List ℕ
-weights_in nodes ms = if is_some (value_at Key.Weights ms) then map weight_told (items_at Key.Weights ms) else replicate nodes 1
+weights_in nodes ms = if is_some (value_at Key.Weights ms) then map weight_told (items_at Key.Weights ms) else
+    replicate nodes 1
 
 -- whether tasks are kept over a crash: they aren't where the key isn't there
 unfoldable pub keeps_in : Members → Bool
@@ -84,7 +86,8 @@ module _ (turns : ℕ) (names : List (List ℕ)) where
   -- the fault that a table tells
   abbrev pub fault_in : Members → Option Fault
   fault_in ms =
-      option_and_then (λ t. option_and_then (λ n. option_map (λ k. record { at = t; node = n; kind = k }) (kind_in ms)) (node_in names ms)) (turn_in turns ms)
+      option_and_then (λ t. option_and_then (λ n. option_map (λ k. record { at = t; node = n; kind = k }) (kind_in ms))
+      (node_in names ms)) (turn_in turns ms)
 
   -- the faults that the items tell, in their order; an item that tells none is refused
   abbrev pub faults_in : List Data → List Fault

@@ -40,9 +40,21 @@ impl Model for Config {
 
     ghost Value = { Configuration };
 
-    ghost view = { λ c. record { setup = c.setup; turns = c.turns; period = c.period; names = map (λ s. string_bytes s) c.names.keys; faults = c.faults.items } };
+    ghost view = { λ c. record {
+      setup = c.setup;
+      turns = c.turns;
+      period = c.period;
+      names = map (λ s. string_bytes s) c.names.keys;
+      faults = c.faults.items;
+    } };
 
-    ghost invariant = { λ c. IsConfiguration (record { setup = c.setup; turns = c.turns; period = c.period; names = map (λ s. string_bytes s) c.names.keys; faults = c.faults.items }) };
+    ghost invariant = { λ c. IsConfiguration (record {
+      setup = c.setup;
+      turns = c.turns;
+      period = c.period;
+      names = map (λ s. string_bytes s) c.names.keys;
+      faults = c.faults.items;
+    }) };
 }
 
 impl Config {
@@ -58,8 +70,20 @@ impl Config {
         names: IndexSet<String>,
         faults: Vec<Fault>,
     ) -> Config
-        requires { IsConfiguration (record { setup = setup; turns = turns; period = period; names = map (λ s. string_bytes s) names.keys; faults = faults.items }) }
-        ensures { result ≡ record { setup = setup; turns = turns; period = period; names = map (λ s. string_bytes s) names.keys; faults = faults.items } }
+        requires { IsConfiguration (record {
+          setup = setup;
+          turns = turns;
+          period = period;
+          names = map (λ s. string_bytes s) names.keys;
+          faults = faults.items;
+        }) }
+        ensures { result ≡ record {
+          setup = setup;
+          turns = turns;
+          period = period;
+          names = map (λ s. string_bytes s) names.keys;
+          faults = faults.items;
+        } }
     {
         Config {
             setup,

@@ -19,8 +19,8 @@ pub enum Key {
     Period,
     /// The names of the nodes, in the order of their numbers: an array of as many strings as nodes, none empty.
     Names,
-    /// What the nodes weigh, in the order of their numbers: an array of as many integers as nodes, each from 1 to 1,000.
-    /// It may be left out, and all are 1 then.
+    /// What the nodes weigh, in the order of their numbers: an array of as many integers as nodes, each from 1 to
+    /// 1,000. It may be left out, and all are 1 then.
     Weights,
     /// Whether a node keeps its task over a crash: a boolean. It may be left out, and is `false` then.
     Keep,

@@ -4,7 +4,8 @@ ghost use Rattle.toml.specs.View.{view, table_view};
 ghost use Rattle.bully_base.specs.declared.TheConstants.{NODES_MAX};
 ghost use Rattle.bully_config.specs.Configuration.{node_named};
 ghost use Rattle.bully_config.specs.Document.{value_at, integer_at, string_at, items_at, text_of};
-ghost use Rattle.bully_config.specs.Values.{number_at, period_in, within, names_of, weight_in, keeps_in, kind_named, node_in, kind_in};
+ghost use Rattle.bully_config.specs.Values.{number_at, period_in, within, names_of, weight_in, keeps_in, kind_named};
+ghost use Rattle.bully_config.specs.Values.{node_in, kind_in};
 
 use crate::config::FaultKind;
 use crate::fault::Key;

@@ -1,5 +1,6 @@
 //! Reading a configuration: the text's document, its first refusal, and else its values.
-ghost use Rattle.std.specs.Prelude.{Some, ◌≡◌, ◌≢◌, ◌≤◌, ◌++◌, map, drop, replicate, length, false, None, Ok, Err, IfOk, IfErr, string_bytes, option_and_then};
+ghost use Rattle.std.specs.Prelude.{Some, ◌≡◌, ◌≢◌, ◌≤◌, ◌++◌, map, drop, replicate, length, false, None, Ok, Err};
+ghost use Rattle.std.specs.Prelude.{IfOk, IfErr, string_bytes, option_and_then};
 ghost use Rattle.toml.specs.Errors.{IsBlank};
 ghost use Rattle.toml.specs.Parse.{parse_document};
 ghost use Rattle.toml.specs.View.{view, table_view};
@@ -90,7 +91,8 @@ fn read_faults(
     names: &[Value],
 ) -> Result<Vec<Fault>, OutOfMemory>
     requires { length names.now ≤ NODES_MAX }
-    ensures { IfOk result (λ faults. faults.items ≡ faults_in turns (names_of (map view names.now)) (map view items.now)) }
+    ensures { IfOk result (λ faults.
+        faults.items ≡ faults_in turns (names_of (map view names.now)) (map view items.now)) }
 {
     let mut faults = Vec::with_capacity(alloc, items.len())?;
     for item in items {

@@ -9,7 +9,11 @@ ghost use Rattle.std.specs.Str.{bytes_eq};
 ghost use Rattle.bully_config.specs.Configuration.{has_double, is_empty};
 ghost use Rattle.bully_config.specs.Document.{value_at};
 ghost use Rattle.bully_config.specs.Keys.{fault_keys, top_keys};
-ghost use Rattle.bully_config.specs.Refusals.{first_failing, first_in, first_absent, missing_in, is_table, is_string, is_integer, is_weight, has_kind, first_misfit, key_in_fault, misfit_in, range_key_in, are_names, are_weights, fault_out_of_range, out_of_range_in, is_listed, first_unlisted, has_unlisted, fault_has_unlisted, has_unlisted_in, fits};
+ghost use Rattle.bully_config.specs.Refusals.{first_failing, first_in, first_absent, missing_in, is_table, is_string};
+ghost use Rattle.bully_config.specs.Refusals.{is_integer, is_weight, has_kind, first_misfit, key_in_fault, misfit_in};
+ghost use Rattle.bully_config.specs.Refusals.{range_key_in, are_names, are_weights, fault_out_of_range};
+ghost use Rattle.bully_config.specs.Refusals.{out_of_range_in, is_listed, first_unlisted, has_unlisted};
+ghost use Rattle.bully_config.specs.Refusals.{fault_has_unlisted, has_unlisted_in, fits};
 ghost use Rattle.bully_config.specs.Searches.{Computes};
 ghost use Rattle.bully_config.specs.Values.{names_of};
 
@@ -68,8 +72,9 @@ pub fn first_refusal(document: &Table) -> Option<ConfigFault>
     None
 }
 
-/// The key at which a fault of the document breaks the rule of a refusal: the first that isn't there, whose value has another
-/// kind, or whose value is out of its range. None where it breaks that rule nowhere, and of a refusal that tells no key.
+/// The key at which a fault of the document breaks the rule of a refusal: the first that isn't there, whose value has
+/// another kind, or whose value is out of its range. None where it breaks that rule nowhere, and of a refusal that
+/// tells no key.
 pub fn key_in_fault(document: &Table, fault: &Table, refusal: ConfigFault) -> Option<Key>
     ensures { result ≡ key_in_fault (table_view document.now) (table_view fault.now) refusal }
 {
@@ -93,9 +98,11 @@ fn key_out_of_range_in(document: &Table, fault: &Table) -> Option<Key>
     key_of_fault_out_of_range(fault, turns, names)
 }
 
-/// The first key of the table, in the order of their texts, that isn't listed: of those of a fault, or of those at the top.
+/// The first key of the table, in the order of their texts, that isn't listed: of those of a fault, or of those at the
+/// top.
 pub fn unlisted_key(table: &Table, is_fault: bool) -> Option<&str>
-    ensures { option_map (λ word. word.now) result ≡ first_unlisted (if is_fault then fault_keys else top_keys) (table_view table.now) }
+    ensures { option_map (λ word. word.now) result ≡ first_unlisted (if is_fault then fault_keys else
+        top_keys) (table_view table.now) }
 {
     if is_fault {
         first_unlisted(table, &FAULT_KEYS)
@@ -378,7 +385,8 @@ fn first_failing<F: Fn(Key) -> bool>(keys: &[Key], test: F) -> Option<Key>
 #[tactic(auto, using(crate::proofs::ItemLemmas::items_next, crate::proofs::ItemLemmas::items_end))]
 fn first_key_in<F: Fn(&Table) -> Option<Key>>(faults: &[Value], find: F) -> Option<Key>
     requires { F.IsAlwaysCallable find }
-    ensures { (fault : _) → Computes table_view (FnReturnsAt F.Fn find) fault → result ≡ first_in fault (map view faults.now) }
+    ensures { (fault : _) → Computes table_view (FnReturnsAt F.Fn find) fault
+        → result ≡ first_in fault (map view faults.now) }
 {
     for item in faults {
         if let Some(fault) = item.as_table() {

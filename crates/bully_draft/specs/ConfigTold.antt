@@ -22,4 +22,5 @@ pub record IsConfigText (told : Option ConfigFault) (text : List ℕ) : Type 0 w
   pub plain : ArePlain lines
   pub whole : text ≡ lines_text lines
   pub one : told ≢ Some ConfigFault.Toml → length lines ≡ 1
-  pub begins : told ≢ Some ConfigFault.Toml → (rest : List ℕ) × (text ≡ shown (document_head told ++ rest) ++ codes "\n")
+  pub begins : told ≢ Some ConfigFault.Toml
+      → (rest : List ℕ) × (text ≡ shown (document_head told ++ rest) ++ codes "\n")

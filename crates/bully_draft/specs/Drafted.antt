@@ -20,7 +20,8 @@ pub record Appends (old new : Drafted) (part : List ℕ) : Type 0 where
 -- lines without controls were appended, unless memory is wanting
 pub record AppendsLines (old new : Drafted) : Type 0 where
   pub memory : new.has_failed ≡ false → old.has_failed ≡ false
-  pub text : new.has_failed ≡ false → (lines : List (List ℕ)) × ArePlain lines × (new.text ≡ old.text ++ lines_text lines)
+  pub text : new.has_failed ≡ false → (lines : List (List ℕ)) × ArePlain lines
+      × (new.text ≡ old.text ++ lines_text lines)
 
 -- how many things of a kind there are: its word with an `s` behind it, but for one of them
 abbrev pub count_text : ℕ → List ℕ → List ℕ

@@ -1,11 +1,12 @@
 -- How a text that comes from outside is shown.
-use Rattle.std.specs.Prelude.{◌≡◌, ℕ, zero, suc, Bool, true, false, List, [], ◌∷◌, ◌++◌, ◌||◌, ◌&&◌, ◌==◌, ⊤, codes, length, map, nat_lt, nat_le, take, if◌then◌else◌}
+use Rattle.std.specs.Prelude.{◌≡◌, ℕ, zero, suc, Bool, true, false, List, [], ◌∷◌, ◌++◌, ◌||◌, ◌&&◌, ◌==◌, ⊤, codes}
+use Rattle.std.specs.Prelude.{length, map, nat_lt, nat_le, take, if◌then◌else◌}
 use Rattle.std.specs.List.{join_with_byte}
 use Rattle.std.specs.Str.{chars, encode_utf8_all}
 
--- a control character, a separator of lines (U+2028) or of paragraphs (U+2029), or a mark that turns the direction of the text
--- around it: one that has a direction itself (U+061C, U+200E, U+200F), an embedding or an override (U+202A to U+202E), or an isolate
--- (U+2066 to U+2069)
+-- a control character, a separator of lines (U+2028) or of paragraphs (U+2029), or a mark that turns the direction of
+-- the text around it: one that has a direction itself (U+061C, U+200E, U+200F), an embedding or an override (U+202A to
+-- U+202E), or an isolate (U+2066 to U+2069)
 abbrev pub is_control : ℕ → Bool
 is_control c =
     nat_lt c 32 || (nat_le 127 c && nat_lt c 160) || (c == 0x61C) || (nat_le 0x200E c && nat_le c 0x200F)

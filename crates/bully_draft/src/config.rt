@@ -19,9 +19,10 @@ pub struct ConfigSheet {
     pub text: String,
 }
 
-/// Explains the first fault of a configuration's text, the one that [`bully_config::Config::read`] answers: of a document the place, the
-/// key, its value, and what may stand there; of another text the line, the column, and what the reader met. What stands in the text ends no
-/// line of the sheet. Refused where an allocation fails. The rule: docs/FORMATS.md.
+/// Explains the first fault of a configuration's text, the one that [`bully_config::Config::read`] answers: of a
+/// document the place, the key, its value, and what may stand there; of another text the line, the column, and what the
+/// reader met. What stands in the text ends no line of the sheet. Refused where an allocation fails. The rule:
+/// docs/FORMATS.md.
 pub fn explain_config(alloc: Global, text: &str) -> Result<ConfigSheet, OutOfMemory>
     ensures told { IfOk result (λ sheet. IsConfigTold text.now sheet.told) }
     ensures lines { IfOk result (λ sheet. IsConfigText sheet.told (string_bytes sheet.text)) }

@@ -31,8 +31,8 @@ fn push_key_fault(text: &mut Draft, document: &Table, fault: ConfigFault, key: K
     }
 }
 
-// Which of the faults breaks the rule of the refusal at this key, counted from 1, and its table; none where the key stands at
-// the top.
+// Which of the faults breaks the rule of the refusal at this key, counted from 1, and its table; none where the key
+// stands at the top.
 fn faulty(document: &Table, fault: ConfigFault, key: Key) -> Option<(usize, &Table)> {
     if !matches!(key, Key::At | Key::Node | Key::Kind) {
         return None;
@@ -93,7 +93,8 @@ fn is_weight(item: &Value) -> bool {
     }
 }
 
-// Appends a value: a number and a truth value as they are, a text as it is shown, and of the others of which kind they are.
+// Appends a value: a number and a truth value as they are, a text as it is shown, and of the others of which kind they
+// are.
 fn push_value(text: &mut Draft, value: &Value) {
     match value {
         Value::Integer(number) => text.push_behind("is ", *number),

@@ -1,5 +1,6 @@
 //! A text in the making.
-ghost use Rattle.std.specs.Prelude.{◌≡◌, ℕ, List, ◌++◌, codes, false, length, map, replicate, string_bytes, IfOk, IfSome, OnOk};
+ghost use Rattle.std.specs.Prelude.{◌≡◌, ℕ, List, ◌++◌, codes, false, length, map, replicate, string_bytes, IfOk};
+ghost use Rattle.std.specs.Prelude.{IfSome, OnOk};
 ghost use Rattle.std.specs.Option.{option_copied};
 ghost use Rattle.std.specs.Str.{chars};
 ghost use Rattle.bully_rows.specs.TraceText.{line_of, node_text, row_fields, set_text, task_text};
@@ -36,9 +37,9 @@ impl Plain for ConfigFault {}
 
 impl Plain for TraceCause {}
 
-/// A text to which pieces are appended. Where memory is wanting, that is noted, and the text is refused at its end: so what appends to
-/// it never fails. The program's words are appended as they stand, and are `&'static str`. What comes from outside is appended as it
-/// is shown, by [`Draft::push_shown`] and [`Draft::push_bytes`].
+/// A text to which pieces are appended. Where memory is wanting, that is noted, and the text is refused at its end: so
+/// what appends to it never fails. The program's words are appended as they stand, and are `&'static str`. What comes
+/// from outside is appended as it is shown, by [`Draft::push_shown`] and [`Draft::push_bytes`].
 #[derive(Drop)]
 pub struct Draft {
     text: String,
@@ -76,7 +77,8 @@ impl Draft {
         Ok(self.text)
     }
 
-    /// The whole text as a line, which [`push_shown`] shows, whatever was appended. Refused where memory was wanting, or is now.
+    /// The whole text as a line, which [`push_shown`] shows, whatever was appended. Refused where memory was wanting,
+    /// or is now.
     pub fn finish_line(self, alloc: Global) -> Result<String, OutOfMemory>
         ensures whole { IfOk result (λ line. self.has_failed ≡ false) }
         ensures line { IfOk result (λ line. string_bytes line ≡ shown self.text ++ codes "\n") }
@@ -104,7 +106,8 @@ impl Draft {
         self.note(written);
     }
 
-    /// Appends a text that comes from outside, as [`push_shown`] shows it: it ends no line, and turns nothing that stands around it.
+    /// Appends a text that comes from outside, as [`push_shown`] shows it: it ends no line, and turns nothing that
+    /// stands around it.
     pub fn push_shown(&mut self, raw: &str)
         ensures shown { Appends self.old self.new (shown raw.now) }
         ensures plain { AllPlain (chars (shown raw.now)) }
@@ -200,7 +203,8 @@ impl Draft {
 
     // Notes how a write went: behind what stood before it, this part.
     fn note(&mut self, written: Result<(), OutOfMemory>)
-        ensures { (before : Drafted) (part : List ℕ) → before.has_failed ≡ self.old.has_failed → OnOk written (self.old.text ≡ before.text ++ part) → Appends before self.new part }
+        ensures { (before : Drafted) (part : List ℕ) → before.has_failed ≡ self.old.has_failed
+            → OnOk written (self.old.text ≡ before.text ++ part) → Appends before self.new part }
     {
         self.has_failed |= written.is_err();
     }

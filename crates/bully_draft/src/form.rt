@@ -63,8 +63,8 @@ pub struct FieldCounts {
     pub more: Option<usize>,
 }
 
-/// The first field of a row at which it breaks its form, counted from 1, or 0 for the row as a whole; and what may stand
-/// there.
+/// The first field of a row at which it breaks its form, counted from 1, or 0 for the row as a whole; and what may
+/// stand there.
 #[derive(Clone, Copy)]
 pub struct Misfit {
     pub field: usize,

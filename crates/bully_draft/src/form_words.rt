@@ -24,8 +24,8 @@ pub fn push_header_misfit(text: &mut Draft, fields: &ByteRecord) {
     push_misfit(text, fields, misfit_of_header(fields));
 }
 
-/// Appends the field at which a row behind the header of a trace of this version and setup, which has no form, breaks it, and what may
-/// stand there.
+/// Appends the field at which a row behind the header of a trace of this version and setup, which has no form, breaks
+/// it, and what may stand there.
 pub fn push_row_misfit(text: &mut Draft, fields: &ByteRecord, version: Version, setup: &Setup) {
     push_misfit(text, fields, misfit_of_row(version, setup, fields));
 }

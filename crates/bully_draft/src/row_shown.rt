@@ -11,8 +11,8 @@ use csv::ByteRecord;
 /// How many bytes of a row's text are shown.
 const SHOWN_MAX: usize = 60;
 
-/// Appends the text of a row: its fields, parted by commas, up to 60 bytes, and two dots if that isn't all. A byte that is no printed ASCII
-/// character is shown as a question mark.
+/// Appends the text of a row: its fields, parted by commas, up to 60 bytes, and two dots if that isn't all. A byte that
+/// is no printed ASCII character is shown as a question mark.
 pub fn push_row_shown(text: &mut Draft, fields: &ByteRecord)
     ensures shown { Appends text.old text.new (row_shown (fields_of fields.now)) }
     ensures printed { AllPrinted (row_shown (fields_of fields.now)) }
@@ -26,11 +26,12 @@ pub fn push_row_shown(text: &mut Draft, fields: &ByteRecord)
     }
 }
 
-// Appends the field at this place, behind a comma if there is one before it, up to so many bytes; and tells how many may follow, or none if
-// it isn't all there.
+// Appends the field at this place, behind a comma if there is one before it, up to so many bytes; and tells how many
+// may follow, or none if it isn't all there.
 fn push_field(text: &mut Draft, place: usize, field: &[u8], room: usize) -> Option<usize>
     ensures shown { Appends text.old text.new (map shown_byte (take room (parted place field.now))) }
-    ensures room { MatchOption result (room < length (parted place field.now)) (λ left. left + length (parted place field.now) ≡ room) }
+    ensures room { MatchOption result (room < length (parted place field.now)) (λ left.
+        left + length (parted place field.now) ≡ room) }
 {
     let mut left = room;
     if place > 0 {

@@ -5,8 +5,8 @@ ghost use Rattle.bully_draft.specs.Shown.{AllPlain, AllPrinted, is_control, show
 
 use bully_base::OutOfMemory;
 
-/// Appends the letters of the text. In place of each control character, each separator of lines or of paragraphs, and each mark
-/// that turns the direction of the text around it there is a question mark.
+/// Appends the letters of the text. In place of each control character, each separator of lines or of paragraphs, and
+/// each mark that turns the direction of the text around it there is a question mark.
 pub fn push_shown(text: &mut String, raw: &str) -> Result<(), OutOfMemory>
     ensures shown { OnOk result (string_bytes text.new ≡ string_bytes text.old ++ shown raw.now) }
     ensures plain { AllPlain (chars (shown raw.now)) }
@@ -35,7 +35,8 @@ fn shown_letter(letter: char) -> char
     if is_control(letter) { '?' } else { letter }
 }
 
-// Whether it is a control character, a separator of lines or paragraphs, or a mark that turns the direction of the text around it.
+// Whether it is a control character, a separator of lines or paragraphs, or a mark that turns the direction of the text
+// around it.
 fn is_control(letter: char) -> bool
     ensures { result ≡ is_control letter }
 {

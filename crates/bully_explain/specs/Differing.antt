@@ -1,5 +1,6 @@
 -- What a row says beside what the group shows, in two columns.
-use Rattle.std.specs.Prelude.{ℕ, ◌-◌, List, [], ◌++◌, Option, Some, None, codes, length, max, nat_le, option_and_then, option_map, replicate, if◌then◌else◌}
+use Rattle.std.specs.Prelude.{ℕ, ◌-◌, List, [], ◌++◌, Option, Some, None, codes, length, max, nat_le, option_and_then}
+use Rattle.std.specs.Prelude.{option_map, replicate, if◌then◌else◌}
 use Rattle.std.specs.Fmt.{decimal}
 use Rattle.bully_base.specs.Setup.{Setup}
 use Rattle.bully_calls.specs.Events.{node_saying, refusal_word}
@@ -44,13 +45,15 @@ heads head = codes "\n" ++ replicate 16 32 ++ padded 16 head ++ codes "shown\n"
 -- a claim of a node with this vector: the status and the coordinator
 abbrev pub claimed_text : Vector → Claim → List ℕ
 claimed_text v claim =
-    codes "node " ++ decimal claim.node ++ codes " isn't as the row claims\n" ++ heads (codes "claimed") ++ words_beside (codes "status") (status_word claim.status) (status_word v.status)
+    codes "node " ++ decimal claim.node ++ codes " isn't as the row claims\n" ++ heads (codes "claimed")
+    ++ words_beside (codes "status") (status_word claim.status) (status_word v.status)
     ++ sides (codes "coordinator") (node_text claim.coordinator) (node_text v.coordinator)
 
 -- a claim of all of the vector: the rest of it, too
 abbrev pub whole_text : Vector → Whole → List ℕ
 whole_text v whole =
-    claimed_text v whole.claim ++ sides (codes "halter") (node_text whole.halter) (node_text v.halter) ++ sides (codes "up") (set_text whole.up) (set_text v.up)
+    claimed_text v whole.claim ++ sides (codes "halter") (node_text whole.halter) (node_text v.halter)
+    ++ sides (codes "up") (set_text whole.up) (set_text v.up)
     ++ sides (codes "owners") (task_text 32 whole.task) (task_text 32 v.task)
 
 -- the kind of the call that there is, its callee, and what is answered or brought; a dash for none
@@ -80,15 +83,19 @@ answers_text Saying.Brought told shown = words_beside (codes "outcome") (answer_
 abbrev pub detailed_text : Option DetailedEvent → DetailedEvent → List ℕ
 detailed_text shown e =
     codes "the call of node " ++ decimal e.node ++ codes " isn't what the row says\n" ++ heads (codes "told")
-    ++ words_beside (codes "call") (call_word e.detail.call.kind) (kind_text shown) ++ sides (codes "callee") (node_text (Some e.detail.call.callee)) (node_text (callee_in shown))
+    ++ words_beside (codes "call") (call_word e.detail.call.kind) (kind_text shown)
+    ++ sides (codes "callee") (node_text (Some e.detail.call.callee)) (node_text (callee_in shown))
     ++ answers_text (node_saying e.detail.kind) e.detail.answer (answer_in shown)
 
 -- what the row says and what the group shows before it; nothing of a node that the group doesn't have
 abbrev pub differing_text : Setup → World → Row → List ℕ
 differing_text setup w (Row.Event e) = []
-differing_text setup w (Row.Detailed e) = if nat_le e.node setup.nodes then detailed_text (said_of setup w (event_of_detailed e)) e else []
-differing_text setup w (Row.Claim claim) = if nat_le claim.node setup.nodes then claimed_text (vector w claim.node) claim else []
-differing_text setup w (Row.Whole whole) = if nat_le whole.claim.node setup.nodes then whole_text (vector w whole.claim.node) whole else []
+differing_text setup w (Row.Detailed e) =
+    if nat_le e.node setup.nodes then detailed_text (said_of setup w (event_of_detailed e)) e else []
+differing_text setup w (Row.Claim claim) =
+    if nat_le claim.node setup.nodes then claimed_text (vector w claim.node) claim else []
+differing_text setup w (Row.Whole whole) =
+    if nat_le whole.claim.node setup.nodes then whole_text (vector w whole.claim.node) whole else []
 
 -- how a row decided by this verdict, in the world before it: the cause that refused it, or what differs
 abbrev pub decided_text : Setup → World → Verdict → Row → List ℕ

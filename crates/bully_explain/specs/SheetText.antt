@@ -31,24 +31,28 @@ Begins text part = (behind : List ℕ) × (text ≡ part ++ behind)
 abbrev pub place_text : ℕ → ℕ → List ℕ
 place_text number line = codes "row " ++ decimal number ++ codes " (line " ++ decimal line ++ codes "): "
 
--- the head of the sheet of these rows, behind which the group is so: the line of a lawful verdict; else the line of the row that decided,
--- with its place, and how it decided
+-- the head of the sheet of these rows, behind which the group is so: the line of a lawful verdict; else the line of the
+-- row that decided, with its place, and how it decided
 abbrev pub IsDecided : Setup → List Row → World → Verdict → ℕ → List ℕ → Type 0
 IsDecided setup rows w verdict number text =
-    (row : Row) × (line : ℕ) × IsRowAt rows number row × Begins text (place_text number line ++ line_of (row_fields row) ++ decided_text setup w verdict row)
+    (row : Row) × (line : ℕ) × IsRowAt rows number row
+    × Begins text (place_text number line ++ line_of (row_fields row) ++ decided_text setup w verdict row)
 
 abbrev pub IsSheetText : Setup → List Row → World → Verdict → List ℕ → Type 0
 IsSheetText setup rows w (Verdict.Lawful count) text = Begins text (verdict_head (Verdict.Lawful count))
-IsSheetText setup rows w (Verdict.Refused number why) text = IsDecided setup rows w (Verdict.Refused number why) number text
+IsSheetText setup rows w (Verdict.Refused number why) text =
+    IsDecided setup rows w (Verdict.Refused number why) number text
 IsSheetText setup rows w (Verdict.Differs number) text = IsDecided setup rows w (Verdict.Differs number) number text
 
 -- the sheet of a fault of form: the row with its place, as fields are shown, and the fault
 abbrev pub IsRowShown : List ℕ → Type 0
 IsRowShown place =
-    (place ≡ codes ": there is none") ⊎ ((line : ℕ) × (fields : List (List ℕ)) × (place ≡ codes " (line " ++ decimal line ++ codes "): " ++ row_shown fields))
+    (place ≡ codes ": there is none") ⊎ ((line : ℕ) × (fields : List (List ℕ))
+    × (place ≡ codes " (line " ++ decimal line ++ codes "): " ++ row_shown fields))
 
 abbrev pub form_head : TraceFault → List ℕ → List ℕ
-form_head fault place = codes "row " ++ decimal fault.row ++ place ++ codes "\n" ++ trace_cause_text fault.cause ++ codes ": "
+form_head fault place =
+    codes "row " ++ decimal fault.row ++ place ++ codes "\n" ++ trace_cause_text fault.cause ++ codes ": "
 
 abbrev pub IsFormText : TraceFault → List ℕ → Type 0
 IsFormText fault text = (place : List ℕ) × IsRowShown place × Begins text (form_head fault place)
@@ -56,7 +60,8 @@ IsFormText fault text = (place : List ℕ) × IsRowShown place × Begins text (f
 -- the same, appended to what stood there, unless memory is wanting
 pub record AppendsForm (fault : TraceFault) (old new : Drafted) : Type 0 where
   pub memory : new.has_failed ≡ false → old.has_failed ≡ false
-  pub text : new.has_failed ≡ false → (place : List ℕ) × IsRowShown place × (new.text ≡ old.text ++ form_head fault place)
+  pub text : new.has_failed ≡ false
+      → (place : List ℕ) × IsRowShown place × (new.text ≡ old.text ++ form_head fault place)
 
 -- the sheet of a trace with this verdict: what it shows of each node, and its text
 pub record IsSheet (verdict : Verdict) (sheets : List NodeSheet) (text : List ℕ) (trace : Trace) : Type 0 where
@@ -66,14 +71,16 @@ pub record IsSheet (verdict : Verdict) (sheets : List NodeSheet) (text : List �
 -- where the bytes are known: that of the trace that they mean; or that of the fault that ends their reading
 abbrev pub IsSheetOf : Option (List ℕ) → List NodeSheet → List ℕ → Result Verdict TraceFault → Type 0
 IsSheetOf known sheets text told =
-    MatchResult told (λ verdict. OfTrace known (IsSheet verdict sheets text)) (λ fault. EndsReading known fault × IsFormText fault text)
+    MatchResult told (λ verdict. OfTrace known (IsSheet verdict sheets text)) (λ fault. EndsReading known fault
+    × IsFormText fault text)
 
 -- ---- of an account
 
 -- the row that decided with its place, and how it did by this verdict
 abbrev pub stop_text : Setup → World → Verdict → Option Stop → List ℕ
 stop_text setup w verdict None = []
-stop_text setup w verdict (Some stop) = place_text stop.number stop.line ++ line_of (row_fields stop.row) ++ decided_text setup w verdict stop.row
+stop_text setup w verdict (Some stop) =
+    place_text stop.number stop.line ++ line_of (row_fields stop.row) ++ decided_text setup w verdict stop.row
 
 -- the head by this verdict, where this row decided
 abbrev pub head_text : Setup → World → Verdict → Option Stop → List ℕ
@@ -84,6 +91,7 @@ head_text setup w (Verdict.Differs number) stop = stop_text setup w (Verdict.Dif
 -- the text begins with the head of what the account came to
 pub record BeginsSheet (account : AccountState) (text : List ℕ) : Type 0 where
   pub verdict : Verdict
-  pub judged : (setup : Setup) (rows : List Row) → HasJudged setup rows account.judge → IsJudged setup (first_world setup) 0 2 rows verdict (world_of account.judge.world)
+  pub judged : (setup : Setup) (rows : List Row) → HasJudged setup rows account.judge
+      → IsJudged setup (first_world setup) 0 2 rows verdict (world_of account.judge.world)
   pub stops : StopsAt account.judge.stopped account.stop
   pub begins : Begins text (head_text account.judge.world.setup (world_of account.judge.world) verdict account.stop)

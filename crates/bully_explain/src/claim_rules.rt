@@ -1,4 +1,5 @@
-//! The rule that a false claim breaks, in a sentence with what would be right: one for each part of a vector that differs.
+//! The rule that a false claim breaks, in a sentence with what would be right: one for each part of a vector that
+//! differs.
 
 use crate::context::{DecisionContext, Run, last_halt, last_row, push_down};
 use crate::differing::task_of;
@@ -37,7 +38,8 @@ enum Lack {
     Reset,
 }
 
-/// Appends a blank line, and that of the rule for the status and for the coordinator that are claimed, where they differ.
+/// Appends a blank line, and that of the rule for the status and for the coordinator that are claimed, where they
+/// differ.
 pub fn push_claim_rules(text: &mut Draft, context: &DecisionContext, claim: Claim) {
     let status = lack_of_status(context, &claim);
     let coordinator = lack_of_coordinator(context, &claim);
@@ -48,8 +50,8 @@ pub fn push_claim_rules(text: &mut Draft, context: &DecisionContext, claim: Clai
     }
 }
 
-/// Appends the same of a claim that tells all of a vector, and that of the rule for each of its other parts that differs. Of a node
-/// that is down, or claimed to be so, one rule has them all but the owners.
+/// Appends the same of a claim that tells all of a vector, and that of the rule for each of its other parts that
+/// differs. Of a node that is down, or claimed to be so, one rule has them all but the owners.
 pub fn push_whole_rules(text: &mut Draft, context: &DecisionContext, whole: &WholeClaim) {
     push_claim_rules(text, context, whole.claim());
     match (whole.claim().status, context.shown.status) {
@@ -60,7 +62,8 @@ pub fn push_whole_rules(text: &mut Draft, context: &DecisionContext, whole: &Who
     push_task_rule(text, context, whole);
 }
 
-// Appends the line of the rule for what a node has that is down, where only a halter or an up set is claimed against it.
+// Appends the line of the rule for what a node has that is down, where only a halter or an up set is claimed against
+// it.
 fn push_empty_rule(text: &mut Draft, context: &DecisionContext, whole: &WholeClaim) {
     let has_rest = whole.halter().is_some() || !whole.up().is_empty();
     if has_rest && whole.claim().coordinator.is_none() {

@@ -7,8 +7,8 @@ use bully_calls::{Call, CallKind, NodeEventKind, Phase};
 use bully_draft::Draft;
 use bully_table::Table;
 
-/// What a row that decided met: what the rows before it came to, what is shown of each node from node 1 on, the row's node with
-/// what is shown of that, and a table that it may plan, where one with another table was refused.
+/// What a row that decided met: what the rows before it came to, what is shown of each node from node 1 on, the row's
+/// node with what is shown of that, and a table that it may plan, where one with another table was refused.
 #[derive(Drop)]
 pub struct DecisionContext<'a> {
     pub account: &'a Account,
@@ -155,7 +155,8 @@ pub fn last_move(notes: &[Note]) -> Option<u32> {
     last
 }
 
-/// The node that called the Halt which was the last of these rows that moved the node to another point; none if that was no Halt.
+/// The node that called the Halt which was the last of these rows that moved the node to another point; none if that
+/// was no Halt.
 pub fn halter_of_last_move(notes: &[Note]) -> Option<Node> {
     let mut last = None;
     for note in notes {

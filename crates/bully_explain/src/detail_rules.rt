@@ -1,5 +1,5 @@
-//! The rule that a row breaks which says something else of a call than the group has, in a sentence with what would be right:
-//! one for each part that differs.
+//! The rule that a row breaks which says something else of a call than the group has, in a sentence with what would be
+//! right: one for each part that differs.
 
 use crate::context::{DecisionContext, first_halt_behind, last_row, push_start};
 use crate::point_words::push_point_told;

@@ -3,7 +3,8 @@ ghost use Rattle.std.specs.Prelude.{◌≡◌, ◌≤◌, nat_le, true};
 ghost use Rattle.bully_calls.specs.Events.{node_saying};
 ghost use Rattle.bully_trace.specs.Details.{said_of};
 ghost use Rattle.bully_world.specs.State.{world_of};
-ghost use Rattle.bully_explain.specs.Differing.{answer_in, answer_text, answers_text, callee_in, claimed_text, detailed_text, differing_text, kind_text, whole_text};
+ghost use Rattle.bully_explain.specs.Differing.{answer_in, answer_text, answers_text, callee_in, claimed_text};
+ghost use Rattle.bully_explain.specs.Differing.{detailed_text, differing_text, kind_text, whole_text};
 ghost use Rattle.bully_draft.specs.Drafted.{Appends};
 
 use crate::sides::{push_heads, push_nodes, push_sets, push_tasks, push_words};
@@ -18,7 +19,8 @@ use bully_table::Table;
 use bully_trace::said_of;
 use bully_world::World;
 
-/// Appends what the row says and what the group shows before it, side by side; nothing of a node that the group doesn't have.
+/// Appends what the row says and what the group shows before it, side by side; nothing of a node that the group doesn't
+/// have.
 #[tactic(auto, using(bully_draft::proofs::DraftLemmas::appends_nothing))]
 pub fn push_differing(text: &mut Draft, world: &World, row: &Row)
     ensures { Appends text.old text.new (differing_text world.now.setup (world_of world.now) row.now) }
@@ -94,8 +96,8 @@ pub fn task_of<'a>(world: &'a World, whole: &WholeClaim) -> Option<&'a Table> {
     world.vector(node).task()
 }
 
-// Appends the call that is told beside the event and the one that the group has; of a run what is answered, too, and of a return what it
-// brings.
+// Appends the call that is told beside the event and the one that the group has; of a run what is answered, too, and of
+// a return what it brings.
 #[tactic(auto, using(bully_draft::proofs::DraftLemmas::appends_nothing))]
 fn push_detailed(text: &mut Draft, world: &World, event: &DetailedEvent)
     ensures { Appends text.old text.new (differing_text world.now.setup (world_of world.now) (Row.Detailed event.now)) }

@@ -15,8 +15,8 @@ use bully_trace::Verdict;
 use std::alloc::Global;
 use std::io::Read;
 
-/// What is told of a trace, a verdict or a fault of form; what its sheet shows of each node, from node 1 on, where it is a
-/// verdict; and the text of the sheet.
+/// What is told of a trace, a verdict or a fault of form; what its sheet shows of each node, from node 1 on, where it
+/// is a verdict; and the text of the sheet.
 #[derive(Drop)]
 pub struct Sheet {
     pub told: Result<Verdict, TraceFault>,
@@ -24,12 +24,14 @@ pub struct Sheet {
     pub text: String,
 }
 
-/// Judges a trace as `check` does, and makes the sheet that explains the verdict, or a fault of form. Each row is judged as
-/// it is read, and none is kept but the one that decides; of each node its last rows are remembered, and where its call was
-/// started. Refused where there is nothing to explain: as `Read` where the reader fails, at the row behind those that were
-/// read; and as `OutOfMemory`, at row 0, where the account or the sheet can't be made. The rule: docs/FORMATS.md.
+/// Judges a trace as `check` does, and makes the sheet that explains the verdict, or a fault of form. Each row is
+/// judged as it is read, and none is kept but the one that decides; of each node its last rows are remembered, and
+/// where its call was started. Refused where there is nothing to explain: as `Read` where the reader fails, at the row
+/// behind those that were read; and as `OutOfMemory`, at row 0, where the account or the sheet can't be made. The rule:
+/// docs/FORMATS.md.
 pub fn explain<R: Read + Drop>(alloc: Global, reader: BoundedRows<R>) -> Result<Sheet, TraceFault>
-    ensures told { IfOk result (λ sheet. IsSheetOf (bounded_left R.remaining reader) sheet.nodes.items (string_bytes sheet.text) sheet.told) }
+    ensures told { IfOk result (λ sheet.
+        IsSheetOf (bounded_left R.remaining reader) sheet.nodes.items (string_bytes sheet.text) sheet.told) }
     ensures form { IfOk result (λ sheet. IfErr sheet.told (λ fault. is_of_form fault.cause ≡ true)) }
     ensures sheets { IfOk result (λ sheet. IfErr sheet.told (λ fault. sheet.nodes.items ≡ [])) }
     ensures fault { IfErr result (EndsReading (bounded_left R.remaining reader)) }
@@ -47,7 +49,8 @@ fn read_sheet<R: Read + Drop>(
     account: &mut Option<Account>,
 ) -> Result<Sheet, TraceFault>
     requires { account.old ≡ None }
-    ensures told { (known : Option (List ℕ)) → IsUnread known rows.old → IfOk result (λ sheet. IsSheetOf known sheet.nodes.items (string_bytes sheet.text) sheet.told) }
+    ensures told { (known : Option (List ℕ)) → IsUnread known rows.old
+        → IfOk result (λ sheet. IsSheetOf known sheet.nodes.items (string_bytes sheet.text) sheet.told) }
     ensures form { IfOk result (λ sheet. IfErr sheet.told (λ fault. is_of_form fault.cause ≡ true)) }
     ensures sheets { IfOk result (λ sheet. IfErr sheet.told (λ fault. sheet.nodes.items ≡ [])) }
     ensures fault { (known : Option (List ℕ)) → IsUnread known rows.old → IfErr result (EndsReading known) }
@@ -70,7 +73,8 @@ fn text_of<R: Read + Drop>(
     told: &TraceReport,
 ) -> Result<String, OutOfMemory>
     requires { IfOk told.now.verdict (λ verdict. IsSome account.now) }
-    ensures sheet { IfOk result (λ text. IfOk told.now.verdict (λ verdict. IfSome account.now (λ a. BeginsSheet a (string_bytes text)))) }
+    ensures sheet { IfOk result (λ text.
+        IfOk told.now.verdict (λ verdict. IfSome account.now (λ a. BeginsSheet a (string_bytes text)))) }
     ensures form { IfOk result (λ text. IfErr told.now.verdict (λ fault. IsFormText fault (string_bytes text))) }
 {
     match (&told.verdict, account) {

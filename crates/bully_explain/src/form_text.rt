@@ -92,7 +92,8 @@ fn form_rest<R: Read + Drop>(
     text.finish()
 }
 
-// Appends why the row read last has no end, and tells whether it has none: a quote in it is never closed, or it has more bytes than it may.
+// Appends why the row read last has no end, and tells whether it has none: a quote in it is never closed, or it has
+// more bytes than it may.
 fn push_unended<R: Read + Drop>(
     text: &mut Draft,
     rows: &RowReader<TailReader<BoundedRows<R>>>,

@@ -18,7 +18,8 @@ pub fn push_step_line(text: &mut Draft, context: &DecisionContext) {
     text.push_str("\n");
 }
 
-/// Appends where the row's node stands, as `node 2 is at step 1, Asking 3 (it asks if node 3 is up)`; of an idle one since when.
+/// Appends where the row's node stands, as `node 2 is at step 1, Asking 3 (it asks if node 3 is up)`; of an idle one
+/// since when.
 pub fn push_where(text: &mut Draft, context: &DecisionContext) {
     if let Point::Idle = context.shown.point {
         return push_idle(text, context);

@@ -16,7 +16,8 @@ use bully_table::Table;
 use bully_trace::Verdict;
 use bully_world::{Event, Refused};
 
-/// Appends what the cause speaks of that refused the event: a sentence. Its node has this sheet, where the group has it.
+/// Appends what the cause speaks of that refused the event: a sentence. Its node has this sheet, where the group has
+/// it.
 pub fn push_sentence(
     text: &mut Draft,
     setup: &Setup,

@@ -59,7 +59,8 @@ fn sheet_head(alloc: Global, account: &Account) -> Result<String, OutOfMemory>
 
 // Appends the head by this verdict, in this world, where this row decided.
 fn push_head(text: &mut Draft, world: &World, verdict: Verdict, stop: Option<&Stop>)
-    ensures { Appends text.old text.new (head_text world.now.setup (world_of world.now) verdict (option_copied stop.entry)) }
+    ensures { Appends text.old text.new
+        (head_text world.now.setup (world_of world.now) verdict (option_copied stop.entry)) }
 {
     match verdict {
         Verdict::Lawful(count) => text.push_between("lawful ", count, "\n"),
@@ -70,7 +71,8 @@ fn push_head(text: &mut Draft, world: &World, verdict: Verdict, stop: Option<&St
 // Appends the row that decided with its place, and how it did by this verdict, in the world before it.
 #[tactic(auto, using(bully_draft::proofs::DraftLemmas::appends_nothing, bully_draft::proofs::DraftLemmas::appends_then))]
 fn push_stop(text: &mut Draft, world: &World, verdict: Verdict, stop: Option<&Stop>)
-    ensures { Appends text.old text.new (stop_text world.now.setup (world_of world.now) verdict (option_copied stop.entry)) }
+    ensures { Appends text.old text.new
+        (stop_text world.now.setup (world_of world.now) verdict (option_copied stop.entry)) }
 {
     if let Some(stop) = stop {
         push_row_place(text, stop.number, stop.line);
@@ -81,7 +83,8 @@ fn push_stop(text: &mut Draft, world: &World, verdict: Verdict, stop: Option<&St
 // Appends the row, and how it decided by this verdict, in the world before it.
 #[tactic(auto, using(bully_draft::proofs::DraftLemmas::appends_nothing, bully_draft::proofs::DraftLemmas::appends_then))]
 fn push_decided(text: &mut Draft, world: &World, verdict: Verdict, row: &Row)
-    ensures { Appends text.old text.new (line_of (row_fields row.now) ++ decided_text world.now.setup (world_of world.now) verdict row.now) }
+    ensures { Appends text.old text.new (line_of (row_fields row.now)
+        ++ decided_text world.now.setup (world_of world.now) verdict row.now) }
 {
     text.push_row(row);
     match verdict {
@@ -132,8 +135,8 @@ fn plan_of(alloc: Global, account: &Account, node: Node) -> Result<Option<Table>
     copied(procedure.table())
 }
 
-// Appends what stands behind the head of the sheet of the row that decided: why and by which rules it did, its node, and the others. Where
-// a plan was refused for its table, this is one that can be planned.
+// Appends what stands behind the head of the sheet of the row that decided: why and by which rules it did, its node,
+// and the others. Where a plan was refused for its table, this is one that can be planned.
 fn push_stopped(
     text: &mut Draft,
     account: &Account,
@@ -152,8 +155,8 @@ fn push_stopped(
     push_others(text, nodes, node);
 }
 
-/// The lines of the rules that the row breaks which decided, and that of the step at which its node stands, as a sheet has them; nothing of a
-/// lawful trace. Refused where an allocation fails.
+/// The lines of the rules that the row breaks which decided, and that of the step at which its node stands, as a sheet
+/// has them; nothing of a lawful trace. Refused where an allocation fails.
 pub fn account_rules(alloc: Global, account: &Account) -> Result<String, OutOfMemory>
     ensures { IfOk result (λ text. account.now.stop ≡ None → string_bytes text ≡ []) }
 {
@@ -207,8 +210,8 @@ fn node_of(row: &Row) -> Node {
     }
 }
 
-// Appends in a sentence why the row decided in this world, by this verdict, where what stands before it doesn't say all of it. Its node has
-// this sheet.
+// Appends in a sentence why the row decided in this world, by this verdict, where what stands before it doesn't say all
+// of it. Its node has this sheet.
 fn push_reason(
     text: &mut Draft,
     world: &World,
@@ -247,8 +250,8 @@ fn push_rules(text: &mut Draft, context: &DecisionContext, row: &Row) {
     push_step_line(text, context);
 }
 
-/// Why the row decided, by this verdict, in the world before it: its text, the cause, and what it speaks of, as a sheet has them. Refused
-/// where an allocation fails.
+/// Why the row decided, by this verdict, in the world before it: its text, the cause, and what it speaks of, as a sheet
+/// has them. Refused where an allocation fails.
 #[tactic(auto, using(crate::proofs::SheetLemmas::begins_more))]
 pub fn reason(
     alloc: Global,
@@ -256,7 +259,8 @@ pub fn reason(
     verdict: Verdict,
     row: &Row,
 ) -> Result<String, OutOfMemory>
-    ensures { IfOk result (λ text. Begins (string_bytes text) (line_of (row_fields row.now) ++ decided_text world.now.setup (world_of world.now) verdict row.now)) }
+    ensures { IfOk result (λ text. Begins (string_bytes text) (line_of (row_fields row.now)
+        ++ decided_text world.now.setup (world_of world.now) verdict row.now)) }
 {
     let mut text = reason_head(alloc, world, verdict, row)?;
     let rest = reason_rest(alloc, world, verdict, row)?;
@@ -271,7 +275,8 @@ fn reason_head(
     verdict: Verdict,
     row: &Row,
 ) -> Result<String, OutOfMemory>
-    ensures { IfOk result (λ text. string_bytes text ≡ line_of (row_fields row.now) ++ decided_text world.now.setup (world_of world.now) verdict row.now) }
+    ensures { IfOk result (λ text. string_bytes text ≡ line_of (row_fields row.now)
+        ++ decided_text world.now.setup (world_of world.now) verdict row.now) }
 {
     let mut text = Draft::new(alloc);
     push_decided(&mut text, world, verdict, row);
@@ -296,8 +301,8 @@ fn reason_rest(
     text.finish()
 }
 
-// Appends what stands behind the head of the sheet of a lawful trace: each node as the group stands at the end, and which of them aren't at
-// rest.
+// Appends what stands behind the head of the sheet of a lawful trace: each node as the group stands at the end, and
+// which of them aren't at rest.
 fn push_lawful(text: &mut Draft, account: &Account, nodes: &[NodeSheet]) {
     for (place, sheet) in nodes.iter().enumerate() {
         if let Some(node) = node_at(place) {
@@ -387,8 +392,8 @@ fn push_point_line(text: &mut Draft, shown: &NodeSummary, memory: Option<&Memory
     text.push_str("\n");
 }
 
-// Appends since which row the node stands at its point: the last one that it remembers to have moved it, or else one before
-// all that it remembers.
+// Appends since which row the node stands at its point: the last one that it remembers to have moved it, or else one
+// before all that it remembers.
 fn push_since(text: &mut Draft, notes: &[Note]) {
     if let Some(row) = last_move(notes) {
         text.push_behind(" since row ", row);

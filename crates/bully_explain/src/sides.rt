@@ -56,7 +56,8 @@ pub fn push_sets(text: &mut Draft, part: &'static str, said: &NodeSet, shown: &N
 
 /// The same with the owners of a task for each side; a dash for none.
 pub fn push_tasks(text: &mut Draft, part: &'static str, said: Option<&Table>, shown: Option<&Table>)
-    ensures { Appends text.old text.new (sides part.now (task_text 32 (option_copied said.entry)) (task_text 32 (option_copied shown.entry))) }
+    ensures { Appends text.old text.new
+        (sides part.now (task_text 32 (option_copied said.entry)) (task_text 32 (option_copied shown.entry))) }
 {
     let start = push_part(text, part);
     text.push_task(said);

@@ -113,7 +113,8 @@ pub fn push_held(text: &mut Draft, held: PendingCall) {
     });
 }
 
-/// Appends the vector but for the task, as `election, coordinator 2, halter 3, up 1`. What there is none of isn't named.
+/// Appends the vector but for the task, as `election, coordinator 2, halter 3, up 1`. What there is none of isn't
+/// named.
 pub fn push_vector(text: &mut Draft, shown: &NodeSummary) {
     text.push_str(status_word(shown.status));
     push_named(text, ", coordinator ", shown.coordinator);
@@ -147,8 +148,8 @@ pub fn push_what(text: &mut Draft, memory: &Memory, what: &What) {
     }
 }
 
-// Appends the owners behind a plan. Between two plans of a node there are as many rows as it remembers, or more, so the table
-// of its last plan is that of the plan among them.
+// Appends the owners behind a plan. Between two plans of a node there are as many rows as it remembers, or more, so the
+// table of its last plan is that of the plan among them.
 fn push_planned(text: &mut Draft, memory: &Memory, event_kind: EventKind) {
     let planned = memory.planned();
     if event_kind == EventKind::Plan && planned.is_some() {

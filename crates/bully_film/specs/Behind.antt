@@ -1,4 +1,5 @@
--- The world behind the rows of a trace: each row that doesn't decide takes the world on, and none behind the one that decides.
+-- The world behind the rows of a trace: each row that doesn't decide takes the world on, and none behind the one that
+-- decides.
 use Rattle.std.specs.Prelude.{◌≡◌, ℕ, ◌+◌, Bool, List, [], ◌∷◌, Some, None, ◌||◌, not, is_some, if◌then◌else◌}
 use Rattle.bully_base.specs.Setup.{Setup}
 use Rattle.bully_rows.specs.declared.trace.Row.{Row}
@@ -38,7 +39,8 @@ next_count count (Row.Whole whole) = count
 -- the world to which the rows are taken, from this world on, in which so many events were applied
 abbrev pub taken : Setup → World → ℕ → List Row → World
 taken setup w count [] = w
-taken setup w count (row ∷ rows) = if decides setup w count row then w else taken setup (next_world setup w row) (next_count count row) rows
+taken setup w count (row ∷ rows) = if decides setup w count row then w else
+    taken setup (next_world setup w row) (next_count count row) rows
 
 -- the world behind the first rows of a trace
 abbrev pub world_behind : Setup → List Row → World
@@ -46,4 +48,5 @@ world_behind setup rows = taken setup (first_world setup) 0 rows
 
 -- rows that are judged lead to the world behind them
 abbrev pub LeadsBehind : Type 0
-LeadsBehind = (setup : Setup) (rows : List Row) (verdict : Verdict) (w : World) → IsJudged setup (first_world setup) 0 2 rows verdict w → w ≡ world_behind setup rows
+LeadsBehind = (setup : Setup) (rows : List Row) (verdict : Verdict) (w : World)
+    → IsJudged setup (first_world setup) 0 2 rows verdict w → w ≡ world_behind setup rows

@@ -1,5 +1,8 @@
--- What is kept of the rows of a trace: those of a window, each with what it shows, and how the nodes stand behind the last of them.
-use Rattle.std.specs.Prelude.{◌≡◌, ◌⊎◌, ℕ, ◌+◌, ◌-◌, ◌<◌, ◌≤◌, ◌++◌, List, [], ◌∷◌, length, drop, min, nat_lt, nat_le, ◌==◌, true, false, is_none, is_some, slice_get, if◌then◌else◌, Option, Some, None, MatchOption}
+-- What is kept of the rows of a trace: those of a window, each with what it shows, and how the nodes stand behind the
+-- last of them.
+use Rattle.std.specs.Prelude.{◌≡◌, ◌⊎◌, ℕ, ◌+◌, ◌-◌, ◌<◌, ◌≤◌, ◌++◌, List, [], ◌∷◌, length, drop, min, nat_lt, nat_le}
+use Rattle.std.specs.Prelude.{◌==◌, true, false, is_none, is_some, slice_get, if◌then◌else◌, Option, Some, None}
+use Rattle.std.specs.Prelude.{MatchOption}
 use Rattle.std.specs.Option.{option_and_then}
 use Rattle.bully_base.specs.Setup.{Setup}
 use Rattle.bully_rows.specs.declared.header.Header.{Header}
@@ -20,8 +23,8 @@ use Rattle.bully_film.specs.Behind.{world_behind}
 use Rattle.bully_film.specs.Scene.{IsSceneStart, event_kind_in, node_in, said_in, scene_of, scenes_from, snapshots_of}
 use Rattle.bully_film.specs.Window.{IsWindow, WindowState}
 
--- a film: the judge that takes the rows, the window, what each row that is kept shows, the row that decided, and, once the window's
--- last row was taken, how the nodes stand behind it
+-- a film: the judge that takes the rows, the window, what each row that is kept shows, the row that decided, and, once
+-- the window's last row was taken, how the nodes stand behind it
 pub record FilmState : Type 0 where
   pub judge : JudgeState
   pub window : WindowState
@@ -64,10 +67,12 @@ closed film = record film {
   ];
 }
 
--- what is seen of a row before it is taken, with this kind of event, that names node i; nothing where the window's last row was taken
+-- what is seen of a row before it is taken, with this kind of event, that names node i; nothing where the window's last
+-- row was taken
 abbrev pub IsLook : FilmState → ℕ → Option EventKind → Option SceneStart → Type 0
 IsLook film i event_kind None = is_none film.at_end ≡ false
-IsLook film i event_kind (Some scene_start) = (is_none film.at_end ≡ true) × IsSceneStart (world_of film.judge.world) i event_kind scene_start
+IsLook film i event_kind (Some scene_start) =
+    (is_none film.at_end ≡ true) × IsSceneStart (world_of film.judge.world) i event_kind scene_start
 
 -- the row of this number was judged, where none had decided: it decided, and is kept; or it didn't, and none is
 abbrev pub IsNoted : ℕ → Row → FilmState → FilmState → Type 0
@@ -79,32 +84,40 @@ IsNoted number row film after =
 abbrev pub noted : Row → FilmState → FilmState
 noted row film = if is_some film.judge.stopped then record film { stop = Some row } else film
 
--- behind a row of this number that was judged, of which this was seen before it, and which says this, what it shows is kept, and how the
--- nodes stand at the window's last row; nothing of a row of which nothing was seen
+-- behind a row of this number that was judged, of which this was seen before it, and which says this, what it shows is
+-- kept, and how the nodes stand at the window's last row; nothing of a row of which nothing was seen
 abbrev pub GoesOn : ℕ → Option Row → Option SceneStart → FilmState → FilmState → Type 0
 GoesOn number said None film after = after ≡ film
-GoesOn number said (Some scene_start) film after = (w : World) (row : Row) → said ≡ said_in row → IsSceneStart w (node_in row) (event_kind_in row) scene_start
+GoesOn number said (Some scene_start) film after = (w : World) (row : Row) → said ≡ said_in row
+    → IsSceneStart w (node_in row) (event_kind_in row) scene_start
     → (shot : FilmState)
-    × (shot ≡ record film { scenes = kept film.window film.scenes (scene_of film.judge.world.setup w (world_of film.judge.world) number row) })
+    × (shot ≡ record film {
+      scenes = kept film.window film.scenes (scene_of film.judge.world.setup w (world_of film.judge.world) number row);
+    })
     × (after ≡ (if number == shot.window.to then closed shot else shot))
 
--- of the rows before and behind them these are those of the window: they begin where it does; or there are none, since the rows end
--- before it; or they are the last ones, as many as are kept
+-- of the rows before and behind them these are those of the window: they begin where it does; or there are none, since
+-- the rows end before it; or they are the last ones, as many as are kept
 abbrev pub IsInWindow : WindowState → List Row → List Row → Type 0
 IsInWindow window before shown =
     ((length before + 2 ≡ window.from) × (length shown ≤ window.most))
     ⊎ ((length before + 2 < window.from) × (shown ≡ []))
     ⊎ ((window.from < length before + 2) × (length shown ≡ window.most))
 
--- how the nodes stand behind the rows before and those shown is kept, and the last of these has this number; or it isn't kept yet: the
--- judge took just these rows, P holds of the last one's number, and no row is beyond them unless one decided
-abbrev pub IsAtEnd : Setup → List Row → List Row → List Row → JudgeState → ℕ → (ℕ → Type 0) → Option (List NodeSnapshot) → Type 0
+-- how the nodes stand behind the rows before and those shown is kept, and the last of these has this number; or it
+-- isn't kept yet: the judge took just these rows, P holds of the last one's number, and no row is beyond them unless
+-- one decided
+abbrev pub IsAtEnd : Setup → List Row → List Row → List Row → JudgeState → ℕ → (ℕ → Type 0) → Option (List NodeSnapshot)
+    → Type 0
 IsAtEnd setup before shown beyond judge to P at_end = MatchOption at_end
-    (HasJudged setup (before ++ shown) judge × (judge.stopped ≡ None → beyond ≡ []) × P (length before + length shown + 1))
-    (λ kept. (length before + length shown + 1 ≡ to) × (kept ≡ snapshots_of (world_behind setup (before ++ shown)) 1 setup.nodes))
+    (HasJudged setup (before ++ shown) judge × (judge.stopped ≡ None → beyond ≡ [])
+    × P (length before + length shown + 1))
+    (λ kept. (length before + length shown + 1 ≡ to)
+    × (kept ≡ snapshots_of (world_behind setup (before ++ shown)) 1 setup.nodes))
 
--- the rows of a trace were filmed: those that are shown, each with what it shows, and others before and beyond them. They end at the
--- window's last row, or at the last one up to that which decided. How the nodes stand is kept at the window's last row
+-- the rows of a trace were filmed: those that are shown, each with what it shows, and others before and beyond them.
+-- They end at the window's last row, or at the last one up to that which decided. How the nodes stand is kept at the
+-- window's last row
 pub record HasFilmedUp (setup : Setup) (rows : List Row) (film : FilmState) (P : ℕ → Type 0) : Type 0 where
   pub before : List Row
   pub shown : List Row
@@ -126,9 +139,10 @@ HasFilmed setup rows film = HasFilmedUp setup rows film (λ last. last < film.wi
 abbrev pub HasShot : Setup → List Row → FilmState → Type 0
 HasShot setup rows film = HasFilmedUp setup rows film (λ last. (last ≡ length rows + 1) × (last ≤ film.window.to))
 
--- what a film shows is that of the rows of a trace in a window: the verdict is the trace's, the judge took all of its rows, and the row
--- that decided is kept, none exactly of a lawful trace. Of each row in the window the film has what it shows, and how the nodes stand
--- behind the last of them. They end with the window, or else with the row that decided, or with the last one of a lawful trace
+-- what a film shows is that of the rows of a trace in a window: the verdict is the trace's, the judge took all of its
+-- rows, and the row that decided is kept, none exactly of a lawful trace. Of each row in the window the film has what
+-- it shows, and how the nodes stand behind the last of them. They end with the window, or else with the row that
+-- decided, or with the last one of a lawful trace
 pub record IsFilmOf (asked : WindowState) (finished : FinishedFilm) (trace : Trace) : Type 0 where
   pub same : finished.setup ≡ trace.setup
   pub judged : (w : World) × IsVerdict trace finished.verdict w

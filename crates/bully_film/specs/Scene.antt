@@ -1,5 +1,6 @@
 -- What a row of a trace shows: which nodes it speaks of, and how they were before it and behind it.
-use Rattle.std.specs.Prelude.{◌≡◌, ℕ, zero, suc, ◌+◌, Bool, true, false, List, [], ◌∷◌, ◌++◌, Option, Some, None, option_map, length, nat_le, not, ◌&&◌, if◌then◌else◌}
+use Rattle.std.specs.Prelude.{◌≡◌, ℕ, zero, suc, ◌+◌, Bool, true, false, List, [], ◌∷◌, ◌++◌, Option, Some, None}
+use Rattle.std.specs.Prelude.{option_map, length, nat_le, not, ◌&&◌, if◌then◌else◌}
 use Rattle.bully_base.specs.declared.node.Status.{Status}
 use Rattle.bully_base.specs.Setup.{Setup}
 use Rattle.bully_calls.specs.declared.call.Call.{Call}
@@ -23,7 +24,8 @@ use Rattle.bully_film.specs.Behind.{world_behind}
 
 -- node i as the world shows it: its status, its coordinator, and the call in its slot
 abbrev pub seen_of : NodeState → NodeSnapshot
-seen_of m = record { status = m.vector.status; coordinator = m.vector.coordinator; call = option_map pending_call m.pending }
+seen_of m =
+    record { status = m.vector.status; coordinator = m.vector.coordinator; call = option_map pending_call m.pending }
 
 abbrev pub snapshot : World → ℕ → NodeSnapshot
 snapshot w i = seen_of (node_state w i)
@@ -79,7 +81,8 @@ pub record IsSceneStart (w : World) (i : ℕ) (event_kind : Option EventKind) (s
 -- a table is planned, or comes with a Ready to a node that is Normal by it
 abbrev pub gets_table : Option EventKind → NodeSnapshot → NodeSnapshot → Bool
 gets_table (Some EventKind.Plan) before after = true
-gets_table (Some (EventKind.Node NodeEventKind.Run)) before after = not (is_normal before.status) && is_normal after.status
+gets_table (Some (EventKind.Node NodeEventKind.Run)) before after =
+    not (is_normal before.status) && is_normal after.status
 gets_table _ before after = false
 
 -- neither a second node may be changed by it, nor does a node get a table
@@ -126,7 +129,8 @@ scene_of setup w w' number row =
 
 -- the row behind these first rows of a trace
 abbrev pub scene_at : Setup → List Row → Row → Scene
-scene_at setup before row = scene_of setup (world_behind setup before) (world_behind setup (before ++ row ∷ [])) (length before + 2) row
+scene_at setup before row =
+    scene_of setup (world_behind setup before) (world_behind setup (before ++ row ∷ [])) (length before + 2) row
 
 -- rows behind these first rows of a trace
 abbrev pub scenes_from : Setup → List Row → List Row → List Scene
@@ -136,7 +140,8 @@ scenes_from setup before (row ∷ rows) = scene_at setup before row ∷ scenes_f
 -- node i behind each of these rows
 abbrev pub snapshots_from : Setup → List Row → ℕ → List Row → List NodeSnapshot
 snapshots_from setup before i [] = []
-snapshots_from setup before i (row ∷ rows) = snapshot (world_behind setup (before ++ row ∷ [])) i ∷ snapshots_from setup (before ++ row ∷ []) i rows
+snapshots_from setup before i (row ∷ rows) =
+    snapshot (world_behind setup (before ++ row ∷ [])) i ∷ snapshots_from setup (before ++ row ∷ []) i rows
 
 -- node i before these rows, and behind each of them
 abbrev pub lane_of : Setup → List Row → ℕ → List Row → List NodeSnapshot

@@ -1,5 +1,6 @@
 -- Which rows of a trace are shown.
-use Rattle.std.specs.Prelude.{ℕ, ◌+◌, ◌<◌, ◌≤◌, Bool, List, Option, Some, None, min, nat_le, nat_lt, ◌==◌, ◌&&◌, if◌then◌else◌}
+use Rattle.std.specs.Prelude.{ℕ, ◌+◌, ◌<◌, ◌≤◌, Bool, List, Option, Some, None, min, nat_le, nat_lt, ◌==◌, ◌&&◌}
+use Rattle.std.specs.Prelude.{if◌then◌else◌}
 use Rattle.std.specs.List.{after_first, before_first}
 use Rattle.std.specs.Option.{option_and_then}
 use Rattle.bully_table.specs.Numeral.{number_of}
@@ -43,8 +44,8 @@ window_between from to = if can_be_shown from to then Some (asked from to) else 
 abbrev pub is_dash : ℕ → Bool
 is_dash b = b == 45
 
--- the window that a text asks for: of two numbers, before and behind its first dash; none where there aren't two, or where their rows
--- can't be asked for
+-- the window that a text asks for: of two numbers, before and behind its first dash; none where there aren't two, or
+-- where their rows can't be asked for
 abbrev pub window_in : List ℕ → Option WindowState
 window_in text =
     option_and_then (λ from. option_and_then (λ to. window_between from to) (number_of (after_first is_dash text)))

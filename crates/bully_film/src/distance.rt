@@ -5,8 +5,8 @@ ghost use Rattle.bully_film.specs.Distance.{distance, number_up_to};
 
 use crate::window::BEYOND;
 
-/// By how much the second number is above the first, at most [`BEYOND`]; none where it is below. Both are `0`, or digits without a
-/// leading zero.
+/// By how much the second number is above the first, at most [`BEYOND`]; none where it is below. Both are `0`, or
+/// digits without a leading zero.
 pub fn distance(from: &[u8], to: &[u8]) -> Option<u32>
     requires from { is_numeral from.now ≡ true }
     requires to { is_numeral to.now ≡ true }

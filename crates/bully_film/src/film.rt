@@ -16,8 +16,9 @@ use std::alloc::Global;
 use std::collections::VecDeque;
 use std::marker::Model;
 
-/// What a film shows: the judge that took all rows of the trace, the setup and the verdict of it, the row that decided, none where the
-/// verdict is lawful, what each row of the window shows, and how the nodes stand behind the last of them, from node 1 on.
+/// What a film shows: the judge that took all rows of the trace, the setup and the verdict of it, the row that decided,
+/// none where the verdict is lawful, what each row of the window shows, and how the nodes stand behind the last of
+/// them, from node 1 on.
 #[derive(Drop)]
 pub struct FinishedFilm {
     pub judge: Judge,
@@ -28,7 +29,8 @@ pub struct FinishedFilm {
     pub at_end: Vec<NodeSnapshot>,
 }
 
-/// What takes the rows of a trace one by one and keeps what those of a window show. Its memory is that of a world and of the window.
+/// What takes the rows of a trace one by one and keeps what those of a window show. Its memory is that of a world and
+/// of the window.
 #[derive(Drop)]
 pub struct Film {
     judge: Judge,
@@ -46,11 +48,18 @@ impl Model for Film {
 
     ghost Value = { FilmState };
 
-    ghost view = { λ f. record { judge = f.judge; window = f.window; scenes = f.scenes.items; stop = f.stop; at_end = option_map (λ v. v.items) f.at_end } };
+    ghost view = { λ f. record {
+      judge = f.judge;
+      window = f.window;
+      scenes = f.scenes.items;
+      stop = f.stop;
+      at_end = option_map (λ v. v.items) f.at_end;
+    } };
 }
 
 impl Film {
-    ghost use Rattle.std.specs.Prelude.{◌≡◌, ◌+◌, ◌++◌, ◌==◌, ◌∷◌, [], List, Option, None, Some, true, false, is_none, is_some, length, IfOk, IfSome, OnOk, if◌then◌else◌};
+    ghost use Rattle.std.specs.Prelude.{◌≡◌, ◌+◌, ◌++◌, ◌==◌, ◌∷◌, [], List, Option, None, Some, true, false, is_none};
+    ghost use Rattle.std.specs.Prelude.{is_some, length, IfOk, IfSome, OnOk, if◌then◌else◌};
     ghost use Rattle.bully_base.specs.Setup.{Setup as SetupState};
     ghost use Rattle.bully_film.specs.Film.{GoesOn, HasFilmed, IsLook, IsNoted, closed, kept, noted};
     ghost use Rattle.bully_film.specs.Scene.{IsSceneStart, event_kind_in, node_in, said_in, scene_of};
@@ -75,9 +84,11 @@ impl Film {
     fn unclosed(alloc: Global, header: Header, window: Window) -> Result<Film, OutOfMemory>
         ensures judged { IfOk result (λ film. HasJudged header.setup [] film.judge) }
         ensures stopped { IfOk result (λ film. film.judge.stopped ≡ None) }
-        ensures empty { IfOk result (λ film. (film.window ≡ window) × (film.scenes ≡ []) × (film.stop ≡ None) × (film.at_end ≡ None)) }
+        ensures empty { IfOk result (λ film. (film.window ≡ window) × (film.scenes ≡ []) × (film.stop ≡ None)
+            × (film.at_end ≡ None)) }
     {
-        // (with all the room at once: a deque that grew by itself would go around in more, and leave the processor's cache)
+        // (with all the room at once: a deque that grew by itself would go around in more, and leave the processor's
+        // cache)
         Ok(Film {
             judge: Judge::new(alloc, header)?,
             window,
@@ -90,7 +101,8 @@ impl Film {
     /// Takes the row of this number. Refused where an allocation fails, and then the film is of no more use.
     pub fn feed_row(&mut self, alloc: Global, number: u32, row: Row) -> Result<(), OutOfMemory>
         ensures window { self.new.window ≡ self.old.window }
-        ensures filmed { (setup : SetupState) (rows : List RowState) → length rows + 2 ≡ number → HasFilmed setup rows self.old → OnOk result (HasFilmed setup (rows ++ row ∷ []) self.new) }
+        ensures filmed { (setup : SetupState) (rows : List RowState) → length rows + 2 ≡ number
+            → HasFilmed setup rows self.old → OnOk result (HasFilmed setup (rows ++ row ∷ []) self.new) }
     {
         if self.is_over() {
             return Ok(());
@@ -110,7 +122,8 @@ impl Film {
         event: NodeEvent,
     ) -> Result<(), OutOfMemory>
         ensures window { self.new.window ≡ self.old.window }
-        ensures filmed { (setup : SetupState) (rows : List RowState) → length rows + 2 ≡ number → HasFilmed setup rows self.old
+        ensures filmed { (setup : SetupState) (rows : List RowState) → length rows + 2 ≡ number
+            → HasFilmed setup rows self.old
             → OnOk result (HasFilmed setup (rows ++ Row.Event (event_at event.kind event.node) ∷ []) self.new) }
     {
         if self.is_over() {
@@ -129,7 +142,8 @@ impl Film {
         self.judge.stopped().is_some()
     }
 
-    // What is seen of a row before it is taken, whose event is this and which names this node; nothing behind the window.
+    // What is seen of a row before it is taken, whose event is this and which names this node; nothing behind the
+    // window.
     #[inline(always)]
     fn look(&self, event_kind: Option<EventKind>, node: Node) -> Option<SceneStart>
         ensures { IsLook self.now node event_kind result }
@@ -147,7 +161,8 @@ impl Film {
         ensures at_end { self.new.at_end ≡ self.old.at_end }
         ensures scenes { self.new.scenes ≡ self.old.scenes }
         ensures noted { OnOk result (self.old.judge.stopped ≡ None → IsNoted number row.now self.old self.new) }
-        ensures judged { (setup : SetupState) (rows : List RowState) → length rows + 2 ≡ number → HasJudged setup rows self.old.judge → HasJudged setup (rows ++ row.now ∷ []) self.new.judge }
+        ensures judged { (setup : SetupState) (rows : List RowState) → length rows + 2 ≡ number
+            → HasJudged setup rows self.old.judge → HasJudged setup (rows ++ row.now ∷ []) self.new.judge }
     {
         self.judge.feed_row(number, row);
         self.keep_stop(alloc, row)?;
@@ -160,8 +175,10 @@ impl Film {
         ensures window { self.new.window ≡ self.old.window }
         ensures at_end { self.new.at_end ≡ self.old.at_end }
         ensures scenes { self.new.scenes ≡ self.old.scenes }
-        ensures noted { self.old.judge.stopped ≡ None → IsNoted number (Row.Event (event_at kind node)) self.old self.new }
-        ensures judged { (setup : SetupState) (rows : List RowState) → length rows + 2 ≡ number → HasJudged setup rows self.old.judge
+        ensures noted { self.old.judge.stopped ≡ None
+            → IsNoted number (Row.Event (event_at kind node)) self.old self.new }
+        ensures judged { (setup : SetupState) (rows : List RowState) → length rows + 2 ≡ number
+            → HasJudged setup rows self.old.judge
             → HasJudged setup (rows ++ Row.Event (event_at kind node) ∷ []) self.new.judge }
     {
         self.judge.feed_node_event(number, NodeEvent { kind, node });
@@ -179,8 +196,8 @@ impl Film {
         self.stop = Some(Row::Event(NodeEvent { kind, node }.event()));
     }
 
-    // Goes on behind a row that was judged, of which this was seen before, and which says no more than its event's word and a node: keeps
-    // what it shows, and how the nodes stand, where it was the window's last row.
+    // Goes on behind a row that was judged, of which this was seen before, and which says no more than its event's word
+    // and a node: keeps what it shows, and how the nodes stand, where it was the window's last row.
     #[inline(always)]
     fn keep_shown(
         &mut self,
@@ -229,8 +246,10 @@ impl Film {
         ensures window { self.new.window ≡ self.old.window }
         ensures stop { self.new.stop ≡ self.old.stop }
         ensures at_end { self.new.at_end ≡ self.old.at_end }
-        ensures scenes { OnOk result ((w : WorldOf) (row : RowState) → said ≡ said_in row → IsSceneStart w (node_in row) (event_kind_in row) scene_start.now
-            → self.new.scenes ≡ kept self.old.window self.old.scenes (scene_of self.old.judge.world.setup w (world_of self.old.judge.world) number row)) }
+        ensures scenes { OnOk result ((w : WorldOf) (row : RowState) → said ≡ said_in row
+            → IsSceneStart w (node_in row) (event_kind_in row) scene_start.now
+            → self.new.scenes ≡ kept self.old.window self.old.scenes
+            (scene_of self.old.judge.world.setup w (world_of self.old.judge.world) number row)) }
     {
         if !is_quiet(scene_start) {
             return self.keep_wide_shot(number, scene_start, said);
@@ -251,8 +270,10 @@ impl Film {
         ensures window { self.new.window ≡ self.old.window }
         ensures stop { self.new.stop ≡ self.old.stop }
         ensures at_end { self.new.at_end ≡ self.old.at_end }
-        ensures scenes { OnOk result ((w : WorldOf) (row : RowState) → said ≡ said_in row → IsSceneStart w (node_in row) (event_kind_in row) scene_start.now
-            → self.new.scenes ≡ kept self.old.window self.old.scenes (scene_of self.old.judge.world.setup w (world_of self.old.judge.world) number row)) }
+        ensures scenes { OnOk result ((w : WorldOf) (row : RowState) → said ≡ said_in row
+            → IsSceneStart w (node_in row) (event_kind_in row) scene_start.now
+            → self.new.scenes ≡ kept self.old.window self.old.scenes
+            (scene_of self.old.judge.world.setup w (world_of self.old.judge.world) number row)) }
     {
         let scene = shot(number, scene_start, self.judge.world(), said)?;
         keep(&mut self.scenes, self.window, scene)
@@ -270,7 +291,8 @@ impl Film {
         Ok(())
     }
 
-    /// Keeps how the nodes stand now, where that wasn't kept at the window's last row. Refused where an allocation fails.
+    /// Keeps how the nodes stand now, where that wasn't kept at the window's last row. Refused where an allocation
+    /// fails.
     // (out of line, as it comes once)
     #[inline(never)]
     pub fn close(&mut self, alloc: Global) -> Result<(), OutOfMemory>
@@ -290,7 +312,8 @@ impl Film {
         ensures judge { result.judge ≡ self.judge }
         ensures stop { result.stop ≡ self.stop }
         ensures at_end { IfSome self.at_end (λ at_end. result.at_end.items ≡ at_end) }
-        ensures verdict { (setup : SetupState) (rows : List RowState) → HasJudged setup rows self.judge → IsJudged setup (first_world setup) 0 2 rows result.verdict (world_of self.judge.world) }
+        ensures verdict { (setup : SetupState) (rows : List RowState) → HasJudged setup rows self.judge
+            → IsJudged setup (first_world setup) 0 2 rows result.verdict (world_of self.judge.world) }
     {
         let Film {
             judge,
@@ -327,7 +350,8 @@ impl Film {
     }
 }
 
-// Keeps the scene, where its row isn't before the window: in the place of the oldest one, where as many are kept as may be.
+// Keeps the scene, where its row isn't before the window: in the place of the oldest one, where as many are kept as may
+// be.
 #[inline(always)]
 fn keep(scenes: &mut VecDeque<Scene>, window: Window, scene: Scene) -> Result<(), OutOfMemory>
     ensures { OnOk result (scenes.new.items ≡ kept window scenes.old.items scene) }

@@ -13,15 +13,16 @@ use crate::snapshot::{NodeSnapshot, unseen};
 use bully_base::{Node, OutOfMemory};
 use std::alloc::Global;
 
-/// How the node stood before the rows that the finished film shows, and behind each of them. The node is at most the setup's last. Refused
-/// where an allocation fails.
+/// How the node stood before the rows that the finished film shows, and behind each of them. The node is at most the
+/// setup's last. Refused where an allocation fails.
 pub fn lane_of(
     alloc: Global,
     finished: &FinishedFilm,
     node: Node,
 ) -> Result<Vec<NodeSnapshot>, OutOfMemory>
     requires { node ≤ finished.now.setup.nodes }
-    ensures { (window : WindowState) (trace : Trace) (is : IsFilmOf window finished.now trace) → IfOk result (λ snapshots. snapshots.items ≡ lane_seen trace.setup is.before node is.shown) }
+    ensures { (window : WindowState) (trace : Trace) (is : IsFilmOf window finished.now trace)
+        → IfOk result (λ snapshots. snapshots.items ≡ lane_seen trace.setup is.before node is.shown) }
 {
     let at_end = snapshot_at_end(finished, node);
     lane_in(alloc, finished.scenes.as_slice(), node, &at_end)
@@ -30,7 +31,8 @@ pub fn lane_of(
 // How the node stands behind the last row.
 fn snapshot_at_end(finished: &FinishedFilm, node: Node) -> NodeSnapshot
     requires { node ≤ finished.now.setup.nodes }
-    ensures { (window : WindowState) (trace : Trace) (is : IsFilmOf window finished.now trace) → result ≡ snapshot (world_behind trace.setup (is.before ++ is.shown)) node }
+    ensures { (window : WindowState) (trace : Trace) (is : IsFilmOf window finished.now trace)
+        → result ≡ snapshot (world_behind trace.setup (is.before ++ is.shown)) node }
 {
     snapshot_at(finished.at_end.as_slice(), usize::from(node.number() - 1))
 }

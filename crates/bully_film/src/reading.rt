@@ -11,8 +11,9 @@ use bully_rows::{Header, NodeEvent, Row, RowReader, TraceFault, TraceSink, feed_
 use std::alloc::Global;
 use std::io::Read;
 
-/// Judges a trace as [`bully_trace::check`] does, and tells what the rows of the window show. Each row is judged as it is read, and
-/// none is kept but the one that decides. Refused as [`bully_trace::check`] refuses the trace, where it isn't for writing.
+/// Judges a trace as [`bully_trace::check`] does, and tells what the rows of the window show. Each row is judged as it
+/// is read, and none is kept but the one that decides. Refused as [`bully_trace::check`] refuses the trace, where it
+/// isn't for writing.
 pub fn film_of<R: Read + Drop>(
     alloc: Global,
     reader: R,
@@ -30,7 +31,8 @@ pub fn film_of<R: Read + Drop>(
 
 /// What a film of all rows of a text shows. Refused where an allocation fails.
 pub fn finished_film(alloc: Global, film: Film) -> Result<FinishedFilm, OutOfMemory>
-    ensures { (known : Option (List ℕ)) (window : WindowState) → AreAllFilmed known window film → IfOk result (λ finished. OfTrace known (IsFilmOf window finished)) }
+    ensures { (known : Option (List ℕ)) (window : WindowState) → AreAllFilmed known window film
+        → IfOk result (λ finished. OfTrace known (IsFilmOf window finished)) }
 {
     let mut film = film;
     film.close(alloc)?;
@@ -42,8 +44,8 @@ fn film_text<R: Read + Drop>(alloc: Global, reader: R, window: Window) -> Result
     ensures filmed { IfOk result (AreAllFilmed (R.remaining reader) window) }
     ensures fault { IfErr result (EndsReading (R.remaining reader)) }
 {
-    // (by a reference to a reference: so the reader of rows is of another type than those of `check` and of `read_trace`, and is built
-    // into the loop over this film's rows)
+    // (by a reference to a reference: so the reader of rows is of another type than those of `check` and of
+    // `read_trace`, and is built into the loop over this film's rows)
     let mut reader = reader;
     let mut lent = &mut reader;
     let mut rows = RowReader::open(alloc, &mut lent);

@@ -4,7 +4,8 @@ ghost use Rattle.bully_handlers.specs.Vector.{is_normal};
 ghost use Rattle.bully_calls.specs.Events.{event_at, kind_of};
 ghost use Rattle.bully_rows.specs.declared.trace.Row.{Row as RowState};
 ghost use Rattle.bully_world.specs.Place.{call_at};
-ghost use Rattle.bully_film.specs.Scene.{IsSceneStart, cuts, event_kind_in, gets_table, is_halting, is_quiet, is_run, node_in, place_at, said_in, scene_of, snapshot, table_shown};
+ghost use Rattle.bully_film.specs.Scene.{IsSceneStart, cuts, event_kind_in, gets_table, is_halting, is_quiet, is_run};
+ghost use Rattle.bully_film.specs.Scene.{node_in, place_at, said_in, scene_of, snapshot, table_shown};
 ghost use Rattle.bully_world.specs.Cause.{is_idle};
 ghost use Rattle.bully_world.specs.State.{is_halt, world_of};
 ghost use Rattle.bully_world.specs.World.{World as WorldOf, point, vector};
@@ -27,9 +28,10 @@ pub struct Change {
     pub after: NodeSnapshot,
 }
 
-/// What a row shows: its number, from 2; what its event is, none of a claim; the node that it names, and the one whose vector it may
-/// change, which is the callee of a Run; whether a procedure is cut off there; the table that a node gets by it, if it does, where
-/// the table has at most [`OWNERS_SHOWN`] owners; and what the row says beside the word of its event and a node.
+/// What a row shows: its number, from 2; what its event is, none of a claim; the node that it names, and the one whose
+/// vector it may change, which is the callee of a Run; whether a procedure is cut off there; the table that a node gets
+/// by it, if it does, where the table has at most [`OWNERS_SHOWN`] owners; and what the row says beside the word of its
+/// event and a node.
 #[derive(Drop)]
 pub struct Scene {
     pub number: u32,
@@ -54,16 +56,18 @@ pub struct SceneStart {
 }
 
 /// The start of a row whose event is this and which names this node, in the world before it.
-// (a run alone may change a second node, and is out of line. What it answers is taken apart: else the start of every row would lie
-// where that call writes, and be copied from there three times)
+// (a run alone may change a second node, and is out of line. What it answers is taken apart: else the start of every
+// row would lie where that call writes, and be copied from there three times)
 #[inline(always)]
 pub fn open_on(world: &World, event_kind: Option<EventKind>, own: Node) -> SceneStart
     ensures event_kind { result.event_kind ≡ event_kind }
     ensures own { result.own ≡ own }
     ensures own_before { result.own_before ≡ snapshot (world_of world.now) own }
     ensures other { result.other ≡ place_at (world_of world.now) own event_kind }
-    ensures other_before { result.other_before ≡ snapshot (world_of world.now) (place_at (world_of world.now) own event_kind) }
-    ensures cuts { result.cuts ≡ cuts (world_of world.now) own (place_at (world_of world.now) own event_kind) event_kind }
+    ensures other_before { result.other_before
+        ≡ snapshot (world_of world.now) (place_at (world_of world.now) own event_kind) }
+    ensures cuts { result.cuts
+        ≡ cuts (world_of world.now) own (place_at (world_of world.now) own event_kind) event_kind }
 {
     if is_run(event_kind) {
         let SceneStart {
@@ -103,8 +107,10 @@ fn open_wide(world: &World, event_kind: Option<EventKind>, own: Node) -> SceneSt
     ensures own { result.own ≡ own }
     ensures own_before { result.own_before ≡ snapshot (world_of world.now) own }
     ensures other { result.other ≡ place_at (world_of world.now) own event_kind }
-    ensures other_before { result.other_before ≡ snapshot (world_of world.now) (place_at (world_of world.now) own event_kind) }
-    ensures cuts { result.cuts ≡ cuts (world_of world.now) own (place_at (world_of world.now) own event_kind) event_kind }
+    ensures other_before { result.other_before
+        ≡ snapshot (world_of world.now) (place_at (world_of world.now) own event_kind) }
+    ensures cuts { result.cuts
+        ≡ cuts (world_of world.now) own (place_at (world_of world.now) own event_kind) event_kind }
 {
     let own_before = snapshot_of(world, own);
     let other = place_at(&own_before, own, event_kind);
@@ -118,8 +124,8 @@ fn open_wide(world: &World, event_kind: Option<EventKind>, own: Node) -> SceneSt
     }
 }
 
-/// What the row of this number shows, of which this was seen before it, and which says this; the world is the one behind it. Refused
-/// where an allocation fails.
+/// What the row of this number shows, of which this was seen before it, and which says this; the world is the one
+/// behind it. Refused where an allocation fails.
 pub fn shot(
     number: u32,
     scene_start: &SceneStart,
@@ -127,8 +133,10 @@ pub fn shot(
     said: Said,
 ) -> Result<Scene, OutOfMemory>
     ensures { IfOk result (λ s. (w : WorldOf) (row : RowState)
-        → said ≡ said_in row → scene_start.now.event_kind ≡ event_kind_in row → scene_start.now.own ≡ node_in row → scene_start.now.own_before ≡ snapshot w (node_in row)
-        → scene_start.now.other ≡ place_at w (node_in row) (event_kind_in row) → scene_start.now.other_before ≡ snapshot w (place_at w (node_in row) (event_kind_in row))
+        → said ≡ said_in row → scene_start.now.event_kind ≡ event_kind_in row → scene_start.now.own ≡ node_in row
+        → scene_start.now.own_before ≡ snapshot w (node_in row)
+        → scene_start.now.other ≡ place_at w (node_in row) (event_kind_in row)
+        → scene_start.now.other_before ≡ snapshot w (place_at w (node_in row) (event_kind_in row))
         → scene_start.now.cuts ≡ cuts w (node_in row) (place_at w (node_in row) (event_kind_in row)) (event_kind_in row)
         → s ≡ scene_of world.now.setup w (world_of world.now) number row) }
 {
@@ -171,7 +179,8 @@ pub fn is_quiet(scene_start: &SceneStart) -> bool
 // (apart, since most rows are, and nothing can fail)
 #[inline(always)]
 pub fn quiet_shot(number: u32, scene_start: &SceneStart, world: &World, said: Said) -> Scene
-    ensures { (w : WorldOf) (row : RowState) → said ≡ said_in row → IsSceneStart w (node_in row) (event_kind_in row) scene_start.now → is_quiet scene_start.now.event_kind ≡ true
+    ensures { (w : WorldOf) (row : RowState) → said ≡ said_in row
+        → IsSceneStart w (node_in row) (event_kind_in row) scene_start.now → is_quiet scene_start.now.event_kind ≡ true
         → result ≡ scene_of world.now.setup w (world_of world.now) number row }
 {
     let own = Change {
@@ -246,7 +255,8 @@ fn place_at(shown: &NodeSnapshot, node: Node, event_kind: Option<EventKind>) -> 
 
 // Whether a Halt of the node of which this is seen runs at the other one, and cuts a procedure off.
 fn cuts(world: &World, shown: &NodeSnapshot, other: Node, event_kind: Option<EventKind>) -> bool
-    ensures { (i : ℕ) → shown.now ≡ snapshot (world_of world.now) i → result ≡ cuts (world_of world.now) i other event_kind }
+    ensures { (i : ℕ) → shown.now ≡ snapshot (world_of world.now) i
+        → result ≡ cuts (world_of world.now) i other event_kind }
 {
     if !is_run(event_kind) {
         return false;

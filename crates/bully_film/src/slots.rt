@@ -13,12 +13,12 @@ pub struct HeldCall {
     pub phase: Phase,
 }
 
-/// A stretch of rows behind each of which a node's slot held this, or nothing. A call that was sent is an arrow from the first row of its
-/// stretch to the one behind the last, in which it runs, is lost, or is given up.
+/// A stretch of rows behind each of which a node's slot held this, or nothing. A call that was sent is an arrow from
+/// the first row of its stretch to the one behind the last, in which it runs, is lost, or is given up.
 pub type Holding = Stretch<Option<HeldCall>>;
 
-/// How a stretch of a slot ends: the call runs at its callee, it is lost, it is taken out of the slot, or it is still there behind the
-/// last row.
+/// How a stretch of a slot ends: the call runs at its callee, it is lost, it is taken out of the slot, or it is still
+/// there behind the last row.
 #[derive(Clone, Copy)]
 pub enum End {
     Ran,

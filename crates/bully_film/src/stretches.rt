@@ -30,8 +30,8 @@ pub struct Stretch<T> {
     pub seen: T,
 }
 
-/// The stretches of a node that stood so behind each of these rows, of which the first has this number: over each the same is seen, and
-/// what is seen changes where two meet. Refused where an allocation fails.
+/// The stretches of a node that stood so behind each of these rows, of which the first has this number: over each the
+/// same is seen, and what is seen changes where two meet. Refused where an allocation fails.
 pub fn stretches_of<T: Seen>(
     alloc: Global,
     first: u32,

@@ -16,8 +16,8 @@ use crate::stretches::stretches_of;
 use bully_base::{Node, OutOfMemory};
 use std::alloc::{AllocError, Global};
 
-/// The lane of a node: the stretches over which it kept its status and its coordinator, and those over which its slot held the same;
-/// and whether the slot held an orphan, row by row.
+/// The lane of a node: the stretches over which it kept its status and its coordinator, and those over which its slot
+/// held the same; and whether the slot held an orphan, row by row.
 #[derive(Drop)]
 pub struct Lane {
     pub node: Node,
@@ -26,12 +26,14 @@ pub struct Lane {
     pub orphans: Vec<bool>,
 }
 
-/// The lanes of all nodes, from node 1 on: how each stands behind the row before those that the finished film shows, and behind each of them.
-/// Refused where an allocation fails; and where a row's number is 2^32 or more, which no trace has.
+/// The lanes of all nodes, from node 1 on: how each stands behind the row before those that the finished film shows,
+/// and behind each of them. Refused where an allocation fails; and where a row's number is 2^32 or more, which no trace
+/// has.
 pub fn lanes(alloc: Global, finished: &FinishedFilm) -> Result<Vec<Lane>, OutOfMemory>
     ensures count { IfOk result (λ lanes. length lanes.items ≡ finished.now.setup.nodes) }
     ensures lanes { (window : WindowState) (trace : Trace) (is : IsFilmOf window finished.now trace)
-        → IfOk result (λ lanes. AreLanes (λ i. lane_seen trace.setup is.before i is.shown) (row_before finished.now.scenes.items) 1 lanes.items) }
+        → IfOk result (λ lanes. AreLanes (λ i. lane_seen trace.setup is.before i is.shown)
+        (row_before finished.now.scenes.items) 1 lanes.items) }
 {
     let mut lanes = Vec::new(alloc);
     for before in 0..finished.setup.nodes() {
@@ -46,7 +48,8 @@ pub fn lanes(alloc: Global, finished: &FinishedFilm) -> Result<Vec<Lane>, OutOfM
 fn lane_at(alloc: Global, finished: &FinishedFilm, node: Node) -> Result<Lane, OutOfMemory>
     requires { node ≤ finished.now.setup.nodes }
     ensures { (window : WindowState) (trace : Trace) (is : IsFilmOf window finished.now trace)
-        → IfOk result (IsLane node (row_before finished.now.scenes.items) (lane_seen trace.setup is.before node is.shown)) }
+        → IfOk result
+        (IsLane node (row_before finished.now.scenes.items) (lane_seen trace.setup is.before node is.shown)) }
 {
     let snapshots = lane_of(alloc, finished, node)?;
     stretched(

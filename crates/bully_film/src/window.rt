@@ -16,8 +16,8 @@ pub const WINDOW_MAX: u32 = 2_000;
 /// The first number that no row of a trace has.
 pub const BEYOND: u32 = ROWS_MAX + 2;
 
-/// Which rows of a trace are shown: those from one to another, counted from 1, the header, which isn't shown; and of these the last
-/// ones, as many as are kept. A number above [`BEYOND`] is kept as that.
+/// Which rows of a trace are shown: those from one to another, counted from 1, the header, which isn't shown; and of
+/// these the last ones, as many as are kept. A number above [`BEYOND`] is kept as that.
 #[derive(Clone, Copy)]
 pub struct Window {
     from: u32,
@@ -52,9 +52,9 @@ impl Window {
         }
     }
 
-    /// The rows that a text `FROM-TO` asks for, as `2-50`: two numbers of any length, each `0` or digits without a leading zero, and
-    /// between them the first dash. None where there aren't two, where `FROM` is 0 or above `TO`, or where they are more rows than
-    /// [`WINDOW_MAX`].
+    /// The rows that a text `FROM-TO` asks for, as `2-50`: two numbers of any length, each `0` or digits without a
+    /// leading zero, and between them the first dash. None where there aren't two, where `FROM` is 0 or above `TO`, or
+    /// where they are more rows than [`WINDOW_MAX`].
     pub fn read(text: &str) -> Option<Window>
         ensures { result ≡ window_in text.now }
     {
@@ -69,7 +69,8 @@ impl Window {
         Window::between(row_of(from)?, row_of(to)?)
     }
 
-    /// The rows from one to another. None where the first is 0 or behind the last, or where they are more than [`WINDOW_MAX`].
+    /// The rows from one to another. None where the first is 0 or behind the last, or where they are more than
+    /// [`WINDOW_MAX`].
     pub fn between(from: u32, to: u32) -> Option<Window>
         ensures { result ≡ window_between from to }
     {

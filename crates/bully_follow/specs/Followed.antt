@@ -33,14 +33,16 @@ AreJudgedAs header rows verdict = (w : World) × IsVerdict (headed header rows) 
 abbrev pub Refuses : ReadSoFar → Option (BehindHeader Followed) → Option (BehindHeader Followed) → Stop → Type 0
 Refuses reader before after (Stop.Decided verdict) =
     TakesFollowed reader before after × (decides verdict reader.number ≡ true)
-    × ((begun : BehindHeader Followed) (header : Header) (rows : List Row) → after ≡ Some begun → HasFollowed header rows begun.sink → AreJudgedAs header rows verdict)
+    × ((begun : BehindHeader Followed) (header : Header) (rows : List Row) → after ≡ Some begun
+    → HasFollowed header rows begun.sink → AreJudgedAs header rows verdict)
 Refuses reader before after (Stop.Fault fault) = RefusesNext reader before fault ⊎ IsOfWriting fault
 
 -- the text means a trace with this verdict; or its first rows have it, and the last of them decided
 abbrev pub IsFollowedAs : Option (List ℕ) → Verdict → Type 0
 IsFollowedAs known verdict =
     ((header : Header) × (rows : List Row) × IsTraceOf known (headed header rows) × AreJudgedAs header rows verdict)
-    ⊎ ((left : RowsLeft) × (rows : List Row) × HasRead known rows left × AreJudgedAs left.header rows verdict × (decides verdict left.number ≡ true))
+    ⊎ ((left : RowsLeft) × (rows : List Row) × HasRead known rows left × AreJudgedAs left.header rows verdict
+    × (decides verdict left.number ≡ true))
 
 -- the text ends reading, or what is told can't be written
 abbrev pub IsFollowFault : Option (List ℕ) → TraceFault → Type 0
@@ -50,7 +52,8 @@ IsFollowFault known fault = EndsReading known fault ⊎ IsOfWriting fault
 abbrev pub IsEnded : Option (List ℕ) → Result (Unit {0}) Stop → Option Followed → Type 0
 IsEnded known (Ok u) followed = IsTakenToEnd HasFollowed known followed
 IsEnded known (Err (Stop.Decided verdict)) followed =
-    IsSome followed × (left : RowsLeft) × (rows : List Row) × HasRead known rows left × AreJudgedAs left.header rows verdict × (decides verdict left.number ≡ true)
+    IsSome followed × (left : RowsLeft) × (rows : List Row) × HasRead known rows left
+    × AreJudgedAs left.header rows verdict × (decides verdict left.number ≡ true)
 IsEnded known (Err (Stop.Fault fault)) followed = IsFollowFault known fault
 
 -- the fault that ended it; that of no header where another thing did

@@ -21,11 +21,14 @@ explained_told Telling.Json verdict text = sheet_line verdict text
 
 -- some text that explains what the account came to (what does is the caller's to say), as it is told
 abbrev pub IsExplainedTold : (AccountState → List ℕ → Type 0) → Telling → AccountState → Verdict → List ℕ → Type 0
-IsExplainedTold explains telling account verdict text = (told : List ℕ) × explains account told × (text ≡ explained_told telling verdict told)
+IsExplainedTold explains telling account verdict text =
+    (told : List ℕ) × explains account told × (text ≡ explained_told telling verdict told)
 
 -- the one or the other, by the verdict on what the account took
 abbrev pub IsLastText : (AccountState → List ℕ → Type 0) → Telling → AccountState → Verdict → List ℕ → Type 0
 IsLastText explains telling account (Verdict.Lawful count) text =
     text ≡ lawful_told telling account.judge.world.setup (Verdict.Lawful count) (world_of account.judge.world)
-IsLastText explains telling account (Verdict.Refused number why) text = IsExplainedTold explains telling account (Verdict.Refused number why) text
-IsLastText explains telling account (Verdict.Differs number) text = IsExplainedTold explains telling account (Verdict.Differs number) text
+IsLastText explains telling account (Verdict.Refused number why) text =
+    IsExplainedTold explains telling account (Verdict.Refused number why) text
+IsLastText explains telling account (Verdict.Differs number) text =
+    IsExplainedTold explains telling account (Verdict.Differs number) text

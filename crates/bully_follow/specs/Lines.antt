@@ -1,5 +1,6 @@
 -- The lines that tell of a trace that grows.
-use Rattle.std.specs.Prelude.{ℕ, ◌-◌, ◌%◌, Bool, ◌==◌, ◌&&◌, List, [], ◌++◌, Option, Some, None, codes, nat_le, if◌then◌else◌}
+use Rattle.std.specs.Prelude.{ℕ, ◌-◌, ◌%◌, Bool, ◌==◌, ◌&&◌, List, [], ◌++◌, Option, Some, None, codes, nat_le}
+use Rattle.std.specs.Prelude.{if◌then◌else◌}
 use Rattle.std.specs.Fmt.{decimal}
 use Rattle.std.specs.Io.KnownBytes.{Appends}
 use Rattle.bully_base.specs.Setup.{Setup}
@@ -15,11 +16,13 @@ use Rattle.bully_follow.specs.declared.followed.Followed.{Followed}
 
 -- what a node shows with this vector; a dash for none
 unfoldable pub vector_words : Vector → List ℕ
-vector_words v = status_word v.status ++ codes " " ++ node_text v.coordinator ++ codes " " ++ task_text 44 v.task ++ codes "\n"
+vector_words v =
+    status_word v.status ++ codes " " ++ node_text v.coordinator ++ codes " " ++ task_text 44 v.task ++ codes "\n"
 
 -- what node i shows behind the row that came at this time
 abbrev pub change_words : List ℕ → ℕ → ℕ → Vector → List ℕ
-change_words time row i v = time ++ codes " row " ++ decimal row ++ codes " node " ++ decimal i ++ codes " " ++ vector_words v
+change_words time row i v =
+    time ++ codes " row " ++ decimal row ++ codes " node " ++ decimal i ++ codes " " ++ vector_words v
 
 abbrev pub change_told : Telling → List ℕ → ℕ → ℕ → Vector → List ℕ
 change_told Telling.Words time row i v = change_words time row i v
@@ -28,15 +31,18 @@ change_told Telling.Json time row i v = change_line time row i v
 -- the line of a node, if there is one and the group has it
 abbrev pub node_told : Telling → List ℕ → ℕ → Setup → World → Option ℕ → List ℕ
 node_told telling time row setup w None = []
-node_told telling time row setup w (Some i) = if nat_le i setup.nodes then change_told telling time row i (vector w i) else []
+node_told telling time row setup w (Some i) = if nat_le i setup.nodes then change_told telling time row i (vector w i)
+    else []
 
 -- a line for each node that changed
 abbrev pub changed_told : Telling → List ℕ → ℕ → Setup → World → Changed → List ℕ
-changed_told telling time row setup w changed = node_told telling time row setup w changed.named ++ node_told telling time row setup w changed.callee
+changed_told telling time row setup w changed =
+    node_told telling time row setup w changed.named ++ node_told telling time row setup w changed.callee
 
 -- for how many more rows there is room behind the row
 abbrev pub room_told : Telling → List ℕ → ℕ → ℕ → List ℕ
-room_told Telling.Words time row room = time ++ codes " row " ++ decimal row ++ codes " room for " ++ decimal room ++ codes " rows\n"
+room_told Telling.Words time row room =
+    time ++ codes " row " ++ decimal row ++ codes " room for " ++ decimal room ++ codes " rows\n"
 room_told Telling.Json time row room = room_line time row room
 
 -- from row 900,000 on that is told every 10,000 rows
@@ -49,7 +55,9 @@ room_behind telling time row = if tells_room row then room_told telling time row
 -- what is told behind the row that came at this time
 abbrev pub row_told : Telling → List ℕ → ℕ → Followed → List ℕ
 row_told telling time row followed =
-    changed_told telling time row followed.account.judge.world.setup (world_of followed.account.judge.world) followed.changed ++ room_behind telling time row
+    changed_told telling time row followed.account.judge.world.setup
+    (world_of followed.account.judge.world) followed.changed ++ room_behind telling time row
 
 abbrev pub IsRowTold : Telling → ℕ → Followed → Option (List ℕ) → Option (List ℕ) → Type 0
-IsRowTold telling row followed output output' = (time : List ℕ) × Appends output output' (row_told telling time row followed)
+IsRowTold telling row followed output output' =
+    (time : List ℕ) × Appends output output' (row_told telling time row followed)

@@ -113,8 +113,8 @@ fn changed_node(seen: &Option<Seen>, world: &World) -> Option<Node> {
 }
 
 impl Seen {
-    // What the node shows, with its task if that may change; none of a node that the group doesn't have. Refused where an allocation
-    // fails.
+    // What the node shows, with its task if that may change; none of a node that the group doesn't have. Refused where
+    // an allocation fails.
     fn of(world: &World, node: Node, with_task: bool) -> Result<Option<Seen>, OutOfMemory> {
         let Some(vector) = vector_of(world, node) else {
             return Ok(None);

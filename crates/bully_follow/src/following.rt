@@ -159,9 +159,10 @@ fn put<W: Write>(text: &str, output: &mut W) -> Result<(), TraceFault>
     }
 }
 
-/// Judges a trace row by row as it is read, and writes a line for each change of a node's status, coordinator or task; then, at its end,
-/// what `check` writes. The first row that is refused or differs ends it: what explains it is written then. Memory is that of an account.
-/// Refused as `check` refuses the rows that were read; as `Write` where the output fails.
+/// Judges a trace row by row as it is read, and writes a line for each change of a node's status, coordinator or task;
+/// then, at its end, what `check` writes. The first row that is refused or differs ends it: what explains it is written
+/// then. Memory is that of an account. Refused as `check` refuses the rows that were read; as `Write` where the output
+/// fails.
 pub fn follow<C: Clock, X: Explainer, R: Read + Drop, W: Write + Drop>(
     clock: &C,
     explainer: &X,
@@ -224,9 +225,12 @@ fn finish<X: Explainer, W: Write>(
     account: &Account,
     output: &mut W,
 ) -> Result<Verdict, TraceFault>
-    ensures verdict { (known : Option (List ℕ)) (followed : FollowedState) → followed.account ≡ account.now → IsEnded known ended (Some followed) → IfOk result (IsFollowedAs known) }
-    ensures last { IfOk result (λ verdict. (text : List ℕ) × IsLastText X.explains telling account.now verdict text × Appends (W.contents output.old) (W.contents output.new) text) }
-    ensures fault { (known : Option (List ℕ)) (followed : Option FollowedState) → IsEnded known ended followed → IfErr result (IsFollowFault known) }
+    ensures verdict { (known : Option (List ℕ)) (followed : FollowedState) → followed.account ≡ account.now
+        → IsEnded known ended (Some followed) → IfOk result (IsFollowedAs known) }
+    ensures last { IfOk result (λ verdict. (text : List ℕ) × IsLastText X.explains telling account.now verdict text
+        × Appends (W.contents output.old) (W.contents output.new) text) }
+    ensures fault { (known : Option (List ℕ)) (followed : Option FollowedState) → IsEnded known ended followed
+        → IfErr result (IsFollowFault known) }
 {
     let verdict = match ended {
         Ok(()) => account.verdict(),
@@ -258,7 +262,8 @@ fn write_last<X: Explainer, W: Write>(
     account: &Account,
     output: &mut W,
 ) -> Result<(), TraceFault>
-    ensures written { OnOk result ((text : List ℕ) × IsLastText X.explains telling account.now verdict text × Appends (W.contents output.old) (W.contents output.new) text) }
+    ensures written { OnOk result ((text : List ℕ) × IsLastText X.explains telling account.now verdict text
+        × Appends (W.contents output.old) (W.contents output.new) text) }
     ensures fault { IfErr result IsOfWriting }
 {
     let text = last_text(explainer, alloc, telling, verdict, account)?;
@@ -290,7 +295,8 @@ fn lawful_text(
     verdict: Verdict,
     world: &World,
 ) -> Result<String, OutOfMemory>
-    ensures { IfOk result (λ text. string_bytes text ≡ lawful_told telling world.now.setup verdict (world_of world.now)) }
+    ensures { IfOk result (λ text.
+        string_bytes text ≡ lawful_told telling world.now.setup verdict (world_of world.now)) }
 {
     match telling {
         Telling::Words => verdict_lines(alloc, verdict, world),

@@ -17,8 +17,8 @@ pub enum Telling {
 }
 
 impl Telling {
-    /// Appends a line for each node that changed behind the row of this number, which came at this time. Refused where an allocation
-    /// fails.
+    /// Appends a line for each node that changed behind the row of this number, which came at this time. Refused where
+    /// an allocation fails.
     pub fn push_changed(
         self,
         text: &mut String,
@@ -27,7 +27,8 @@ impl Telling {
         world: &World,
         changed: Changed,
     ) -> Result<(), OutOfMemory>
-        ensures { OnOk result (string_bytes text.new ≡ string_bytes text.old ++ changed_told self time.now row world.now.setup (world_of world.now) changed) }
+        ensures { OnOk result (string_bytes text.new ≡ string_bytes text.old
+            ++ changed_told self time.now row world.now.setup (world_of world.now) changed) }
     {
         if let Some(node) = changed.named {
             self.push_node(text, time, row, world, node)?;
@@ -47,7 +48,8 @@ impl Telling {
         world: &World,
         node: Node,
     ) -> Result<(), OutOfMemory>
-        ensures { OnOk result (string_bytes text.new ≡ string_bytes text.old ++ node_told self time.now row world.now.setup (world_of world.now) (Some node)) }
+        ensures { OnOk result (string_bytes text.new ≡ string_bytes text.old
+            ++ node_told self time.now row world.now.setup (world_of world.now) (Some node)) }
     {
         let Some(vector) = vector_of(world, node) else {
             return Ok(());
@@ -83,7 +85,8 @@ fn push_node_words(
     node: Node,
     vector: &Vector,
 ) -> Result<(), OutOfMemory>
-    ensures { OnOk result (string_bytes text.new ≡ string_bytes text.old ++ change_words time.now row node vector.now.vector) }
+    ensures { OnOk result (string_bytes text.new ≡ string_bytes text.old
+        ++ change_words time.now row node vector.now.vector) }
 {
     let number = node.number();
     write!(text, "{time} row {row} node {number} ")?;

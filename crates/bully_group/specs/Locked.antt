@@ -27,9 +27,10 @@ abbrev pub name_of : Option PublisherState → Option PublisherId
 name_of None = None
 name_of (Some p) = Some p.publisher
 
--- What every locked group keeps, with this setup, this publisher's name and a ledger of so many parts: the entries are a
--- history, the world is the one that it leads to, the book counts its entries, the publisher is the one that is named,
--- and none where none is, and it follows the history; and the ledger has a part for the operator and for each node
+-- What every locked group keeps, with this setup, this publisher's name and a ledger of so many parts: the entries are
+-- a history, the world is the one that it leads to, the book counts its entries, the publisher is the one that is
+-- named, and none where none is, and it follows the history; and the ledger has a part for the operator and for each
+-- node
 pub record IsLocked (own : Setup) (named : Option PublisherId) (cut : ℕ) (s : LockedState) : Type 0 where
   pub setup : s.world.setup ≡ own
   pub history : IsHistory own s.history (world_of s.world)

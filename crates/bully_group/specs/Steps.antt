@@ -19,7 +19,8 @@ entry_of seat e answer = record { actor = seat.actor; event = e; answer = answer
 
 -- One entry more: the event is one step of the world, with the answer that it names, and raises generations as its kind
 -- does; the entry is the last of the history and, beside its index, of the seat. Nothing of it is published yet
-pub record Records (s : LockedState) (seat : SeatState) (e : Event) (s' : LockedState) (seat' : SeatState) : Type 0 where
+pub record Records (s : LockedState) (seat : SeatState) (e : Event) (s' : LockedState)
+    (seat' : SeatState) : Type 0 where
   pub answer : Answer
   pub step : Step s.world.setup (world_of s.world) e (world_of s'.world) answer
   pub history : s'.history ≡ s.history ++ entry_of seat e answer ∷ []

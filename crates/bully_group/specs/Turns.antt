@@ -1,5 +1,5 @@
--- What the turn of a node at a locked group does, and when each of its faults comes: the node serves, or else the procedure
--- that it holds has its turn.
+-- What the turn of a node at a locked group does, and when each of its faults comes: the node serves, or else the
+-- procedure that it holds has its turn.
 use Rattle.std.specs.Prelude.{◌≡◌, ◌≢◌, ◌<◌, ◌≤◌, ◌⊎◌, Bool, true, false, Result, Ok, Err}
 use Rattle.bully_steps.specs.ProcedureState.{ProcedureState}
 use Rattle.bully_calls.specs.declared.event.Refused.{Refused as Cause}
@@ -39,7 +39,8 @@ IsTurnFault s seat h (StepFault.Refused why) =
     × (s.world.setup.events_max ≤ s.world.events)
     × (why ≡ Cause.Full)
 IsTurnFault s seat h StepFault.OutOfMemory =
-    MayTurn s seat h × (kind : StepKind) × (turn s.world h ≡ Next.Take kind) × (s.world.events < s.world.setup.events_max)
+    MayTurn s seat h × (kind : StepKind) × (turn s.world h ≡ Next.Take kind)
+    × (s.world.events < s.world.setup.events_max)
 
 -- the turn rule has it rest, and it is as it was
 abbrev pub Waits : LockedState → SeatState → ProcedureState → ProcedureState → Type 0
@@ -58,14 +59,16 @@ abbrev pub ServesNone : LockedState → SeatState → Type 0
 ServesNone s seat = NoneServed s.world seat.actor
 
 -- what the turn of the procedure does, where the node served no call
-abbrev pub TurnsBy : LockedState → SeatState → ProcedureState → LockedState → SeatState → ProcedureState → NodeTurn → Type 0
+abbrev pub TurnsBy : LockedState → SeatState → ProcedureState → LockedState → SeatState → ProcedureState → NodeTurn
+    → Type 0
 TurnsBy s seat h s' seat' h' Served = ⊥
 TurnsBy s seat h s' seat' h' Went = Goes s seat h s' seat' h'
 TurnsBy s seat h s' seat' h' Waiting = Waits s seat h h' × (s' ≡ s) × (seat' ≡ seat)
 TurnsBy s seat h s' seat' h' Resynced = Resyncs s seat h h' × (s' ≡ s) × (seat' ≡ seat)
 
 -- the node serves, and its procedure is as it was; or it serves no call, and the procedure has its turn
-abbrev pub IsNodeTurn : LockedState → SeatState → ProcedureState → LockedState → SeatState → ProcedureState → NodeTurn → Type 0
+abbrev pub IsNodeTurn : LockedState → SeatState → ProcedureState → LockedState → SeatState → ProcedureState → NodeTurn
+    → Type 0
 IsNodeTurn s seat h s' seat' h' Served = MayTurn s seat h × Serves s seat s' seat' × (h' ≡ h)
 IsNodeTurn s seat h s' seat' h' Went = ServesNone s seat × TurnsBy s seat h s' seat' h' Went
 IsNodeTurn s seat h s' seat' h' Waiting = ServesNone s seat × TurnsBy s seat h s' seat' h' Waiting

@@ -8,8 +8,8 @@ use bully_watch::{Entry, Publisher};
 use std::marker::Model;
 use std::sync::Wait;
 
-/// A finished group, with the publisher of one that was watched. Its type keeps that its entries are a history, and that
-/// its view is that of the world that the history leads to. It isn't `Drop`: [`Closed::end`] ends it.
+/// A finished group, with the publisher of one that was watched. Its type keeps that its entries are a history, and
+/// that its view is that of the world that the history leads to. It isn't `Drop`: [`Closed::end`] ends it.
 pub struct Closed {
     history: Vec<Entry>,
     view: View,

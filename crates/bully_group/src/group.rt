@@ -12,16 +12,16 @@ use std::alloc::{AllocError, Global};
 use std::sync::Mutex;
 use std::sync::ledger::Blank;
 
-/// A group that threads share. Each takes the lock, and then one call of [`Locked`] on the guard. It isn't `Drop`: it is
-/// closed, and then finished or ended.
+/// A group that threads share. Each takes the lock, and then one call of [`Locked`] on the guard. It isn't `Drop`: it
+/// is closed, and then finished or ended.
 pub struct Group<L: Naming> {
     pub locked: Mutex<Locked<L>>,
 }
 
 impl<L: Naming> Group<L> {
-    /// A group before any event that nobody watches, as [`Locked::open`] makes it. Setup and blank are `L`'s, which names
-    /// no publisher, and the blank has a part for each seat. Refused where an allocation fails, and then the blank is
-    /// handed back.
+    /// A group before any event that nobody watches, as [`Locked::open`] makes it. Setup and blank are `L`'s, which
+    /// names no publisher, and the blank has a part for each seat. Refused where an allocation fails, and then the
+    /// blank is handed back.
     pub fn open(
         alloc: Global,
         setup: Setup,
@@ -43,8 +43,8 @@ impl<L: Naming> Group<L> {
     }
 
     /// The same, watched by the observers of this publisher, which showed and took in nothing yet. Setup, publisher and
-    /// blank are `L`'s, and the blank has a part for each seat. Refused where an allocation fails, and then publisher and
-    /// blank are handed back.
+    /// blank are `L`'s, and the blank has a part for each seat. Refused where an allocation fails, and then publisher
+    /// and blank are handed back.
     pub fn open_watched(
         alloc: Global,
         setup: Setup,

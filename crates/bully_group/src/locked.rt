@@ -23,10 +23,10 @@ use std::marker::Model;
 use std::sync::Wait;
 use std::sync::ledger::{Blank, Book, Share};
 
-/// What lies under the lock of a group: its world, its history, the book that counts the entries, and the publisher of a
-/// watched one. Its type keeps that the entries are a history of the setup that `L` names, that the world is the one that
-/// it leads to, that the book counts them, and that the publisher is the one that `L` names, and shows a beginning of the
-/// history. It isn't `Drop`: [`Locked::finish`] or [`Locked::end`] ends it.
+/// What lies under the lock of a group: its world, its history, the book that counts the entries, and the publisher of
+/// a watched one. Its type keeps that the entries are a history of the setup that `L` names, that the world is the one
+/// that it leads to, that the book counts them, and that the publisher is the one that `L` names, and shows a beginning
+/// of the history. It isn't `Drop`: [`Locked::finish`] or [`Locked::end`] ends it.
 pub struct Locked<L: Naming> {
     world: World,
     history: Vec<Entry>,
@@ -39,15 +39,17 @@ impl<L: Naming> Model for Locked<L> {
 
     ghost Value = { LockedState };
 
-    ghost view = { λ s. record { world = s.world; history = s.history.items; counted = s.book.total; publisher = s.publisher } };
+    ghost view = { λ s.
+        record { world = s.world; history = s.history.items; counted = s.book.total; publisher = s.publisher } };
 
-    ghost invariant = { λ s. IsLocked L.setup L.publisher L.parts (record { world = s.world; history = s.history.items; counted = s.book.total; publisher = s.publisher }) };
+    ghost invariant = { λ s. IsLocked L.setup L.publisher L.parts
+        (record { world = s.world; history = s.history.items; counted = s.book.total; publisher = s.publisher }) };
 }
 
 impl<L: Naming> Locked<L> {
     /// A group before any event that nobody watches, with a seat for the operator and then one for each node, and as
-    /// many passes. Setup and blank are `L`'s, which names no publisher, and the blank has a part for each seat. Refused
-    /// where an allocation fails, and then the blank is handed back.
+    /// many passes. Setup and blank are `L`'s, which names no publisher, and the blank has a part for each seat.
+    /// Refused where an allocation fails, and then the blank is handed back.
     pub fn open(
         alloc: Global,
         setup: Setup,

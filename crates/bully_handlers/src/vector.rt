@@ -1,7 +1,8 @@
 ghost use Rattle.std.specs.Prelude.{◌≡◌, ◌≢◌, [], length, IfOk, Some, None};
 ghost use Rattle.std.specs.Option.{option_copied};
 ghost use Rattle.bully_base.specs.NodeSet.{with_node};
-ghost use Rattle.bully_calls.specs.declared.call.CallKind.TheVariants.{AreYouUp, AreYouNormal, Halt, NewCoordinator, Ready};
+ghost use Rattle.bully_calls.specs.declared.call.CallKind.TheVariants.{AreYouUp, AreYouNormal, Halt, NewCoordinator};
+ghost use Rattle.bully_calls.specs.declared.call.CallKind.TheVariants.{Ready};
 ghost use Rattle.bully_handlers.specs.Handler.{callee_after, reply};
 ghost use Rattle.bully_handlers.specs.Vector.{empty_vector, kept_task};
 
@@ -28,7 +29,8 @@ impl Model for Vector {
     ghost Value = { StoredVector };
 
     ghost view = { λ v. record {
-      vector = record { status = v.status; coordinator = v.coordinator; halter = v.halter; up = v.up; task = v.task.table };
+      vector =
+          record { status = v.status; coordinator = v.coordinator; halter = v.halter; up = v.up; task = v.task.table };
       room = v.task.size;
     } };
 }
@@ -127,7 +129,8 @@ impl Vector {
     /// is the last that halted the node, which still is in Election.
     pub fn new_coordinator(&mut self, caller: Node) -> Answer
         requires { self.old.vector.status ≢ Status.Down }
-        ensures after { self.new ≡ record self.old { vector = callee_after caller NewCoordinator None self.old.vector } }
+        ensures after { self.new
+            ≡ record self.old { vector = callee_after caller NewCoordinator None self.old.vector } }
         ensures answer { result ≡ reply NewCoordinator self.old.vector }
     {
         let answer = self.reply(CallKind::NewCoordinator);
@@ -143,7 +146,8 @@ impl Vector {
     pub fn ready(&mut self, caller: Node, table: &Table) -> Answer
         requires up { self.old.vector.status ≢ Status.Down }
         requires fits { length table.now ≡ self.old.room }
-        ensures after { self.new ≡ record self.old { vector = callee_after caller Ready (Some table.now) self.old.vector } }
+        ensures after { self.new
+            ≡ record self.old { vector = callee_after caller Ready (Some table.now) self.old.vector } }
         ensures answer { result ≡ reply Ready self.old.vector }
     {
         let answer = self.reply(CallKind::Ready);
@@ -156,7 +160,8 @@ impl Vector {
 
     /// The node crashed: its vector is empty, but for the task, where `keeps`.
     pub fn crash(&mut self, keeps: bool)
-        ensures { self.new ≡ record self.old { vector = record empty_vector { task = kept_task keeps self.old.vector } } }
+        ensures { self.new
+            ≡ record self.old { vector = record empty_vector { task = kept_task keeps self.old.vector } } }
     {
         self.status = Status::Down;
         self.coordinator = None;
@@ -169,7 +174,9 @@ impl Vector {
 
     /// The node recovered: its vector is empty, but for the status, which is Election, and for the task, where `keeps`.
     pub fn recover(&mut self, keeps: bool)
-        ensures { self.new ≡ record self.old { vector = record empty_vector { status = Status.Election; task = kept_task keeps self.old.vector } } }
+        ensures { self.new ≡ record self.old {
+          vector = record empty_vector { status = Status.Election; task = kept_task keeps self.old.vector };
+        } }
     {
         self.crash(keeps);
         self.status = Status::Election;
@@ -177,7 +184,9 @@ impl Vector {
 
     /// The node, which this is, halts itself as a candidate; nobody is up yet.
     pub fn become_candidate(&mut self, node: Node)
-        ensures { self.new ≡ record self.old { vector = record self.old.vector { status = Status.Election; halter = Some node; up = [] } } }
+        ensures { self.new ≡ record self.old {
+          vector = record self.old.vector { status = Status.Election; halter = Some node; up = [] };
+        } }
     {
         self.status = Status::Election;
         self.halter = Some(node);
@@ -186,14 +195,17 @@ impl Vector {
 
     /// A lower node answered its halt.
     pub fn add_up(&mut self, node: Node)
-        ensures { self.new ≡ record self.old { vector = record self.old.vector { up = with_node node self.old.vector.up } } }
+        ensures { self.new
+            ≡ record self.old { vector = record self.old.vector { up = with_node node self.old.vector.up } } }
     {
         self.up.insert(node);
     }
 
     /// The node, which this is, is the coordinator from now on.
     pub fn become_coordinator(&mut self, node: Node)
-        ensures { self.new ≡ record self.old { vector = record self.old.vector { status = Status.Reorganization; coordinator = Some node } } }
+        ensures { self.new ≡ record self.old {
+          vector = record self.old.vector { status = Status.Reorganization; coordinator = Some node };
+        } }
     {
         self.status = Status::Reorganization;
         self.coordinator = Some(node);

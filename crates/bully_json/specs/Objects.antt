@@ -1,5 +1,6 @@
 -- What is written for tools, byte for byte: objects of JSON, each a line.
-use Rattle.std.specs.Prelude.{ℕ, zero, suc, ◌+◌, ◌/◌, ◌%◌, List, [], ◌∷◌, ◌++◌, ◌==◌, Option, Some, None, codes, encode_utf8, nat_lt, if◌then◌else◌}
+use Rattle.std.specs.Prelude.{ℕ, zero, suc, ◌+◌, ◌/◌, ◌%◌, List, [], ◌∷◌, ◌++◌, ◌==◌, Option, Some, None, codes}
+use Rattle.std.specs.Prelude.{encode_utf8, nat_lt, if◌then◌else◌}
 use Rattle.std.specs.Fmt.{decimal}
 use Rattle.std.specs.Str.{chars}
 use Rattle.bully_base.specs.Setup.{Setup}
@@ -23,7 +24,8 @@ escaped_letter c =
     if c == 34 then codes "\\\""
     else (if c == 92 then codes "\\\\"
     else (if c == 10 then codes "\\n"
-    else (if nat_lt c 32 then codes "\\u00" ++ encode_utf8 (hex_digit (c / 16)) ++ encode_utf8 (hex_digit (c % 16)) else encode_utf8 c)))
+    else (if nat_lt c 32 then codes "\\u00" ++ encode_utf8 (hex_digit (c / 16)) ++ encode_utf8 (hex_digit (c % 16)) else
+    encode_utf8 c)))
 
 abbrev pub escaped : List ℕ → List ℕ
 escaped [] = []
@@ -47,7 +49,8 @@ task_text (Some owners) = codes "[" ++ owners_text 44 owners ++ codes "]"
 
 -- the members that each object of a node has: its status, and its coordinator
 unfoldable pub place_members : Vector → List ℕ
-place_members v = codes "\"status\":\"" ++ status_word v.status ++ codes "\",\"coordinator\":" ++ number_text v.coordinator
+place_members v =
+    codes "\"status\":\"" ++ status_word v.status ++ codes "\",\"coordinator\":" ++ number_text v.coordinator
 
 -- its halter
 unfoldable pub halter_member : Vector → List ℕ
@@ -73,7 +76,8 @@ node_objects w (suc n) = node_objects w n ++ comma_behind n ++ node_object (n + 
 -- the members that tell a verdict
 abbrev pub verdict_members : Verdict → List ℕ
 verdict_members (Verdict.Lawful count) = codes "\"verdict\":\"lawful\",\"events\":" ++ decimal count
-verdict_members (Verdict.Refused row why) = codes "\"verdict\":\"refused\",\"row\":" ++ decimal row ++ codes ",\"cause\":\"" ++ refusal_word why ++ codes "\""
+verdict_members (Verdict.Refused row why) =
+    codes "\"verdict\":\"refused\",\"row\":" ++ decimal row ++ codes ",\"cause\":\"" ++ refusal_word why ++ codes "\""
 verdict_members (Verdict.Differs row) = codes "\"verdict\":\"differs\",\"row\":" ++ decimal row
 
 -- a verdict, with the nodes of the last world where the trace is lawful
@@ -90,7 +94,8 @@ sheet_line verdict sheet = codes "{" ++ verdict_members verdict ++ codes ",\"she
 
 -- a plan: the owners, how many partitions move, and how many could stay
 abbrev pub plan_line : TablePlan → List ℕ
-plan_line plan = codes "{\"owners\":[" ++ owners_text 44 plan.table ++ codes "],\"moves\":" ++ decimal plan.moves ++ codes ",\"bound\":" ++ decimal plan.bound ++ codes "}\n"
+plan_line plan = codes "{\"owners\":[" ++ owners_text 44 plan.table ++ codes "],\"moves\":" ++ decimal plan.moves
+    ++ codes ",\"bound\":" ++ decimal plan.bound ++ codes "}\n"
 
 -- how a line begins that tells of a row which came at this time
 unfoldable pub row_members : List ℕ → ℕ → List ℕ
@@ -98,7 +103,8 @@ row_members time row = codes "{\"time\":" ++ quoted time ++ codes ",\"row\":" ++
 
 -- what node i shows with this vector behind the row; and for how many more rows there is room behind it
 abbrev pub change_line : List ℕ → ℕ → ℕ → Vector → List ℕ
-change_line time row i v = row_members time row ++ codes "\"node\":" ++ decimal i ++ codes "," ++ place_members v ++ task_member v ++ codes "\n"
+change_line time row i v = row_members time row ++ codes "\"node\":" ++ decimal i ++ codes "," ++ place_members v
+    ++ task_member v ++ codes "\n"
 
 abbrev pub room_line : List ℕ → ℕ → ℕ → List ℕ
 room_line time row room = row_members time row ++ codes "\"room\":" ++ decimal room ++ codes "}\n"

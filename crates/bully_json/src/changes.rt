@@ -6,8 +6,8 @@ use crate::values::{push_last, push_place, push_quoted};
 use bully_base::{Node, OutOfMemory};
 use bully_handlers::Vector;
 
-/// Appends the line of what the node shows with this vector, behind the row of this number, which came at this time. Refused where an
-/// allocation fails.
+/// Appends the line of what the node shows with this vector, behind the row of this number, which came at this time.
+/// Refused where an allocation fails.
 pub fn push_change(
     text: &mut String,
     time: &str,
@@ -15,7 +15,8 @@ pub fn push_change(
     node: Node,
     vector: &Vector,
 ) -> Result<(), OutOfMemory>
-    ensures { OnOk result (string_bytes text.new ≡ string_bytes text.old ++ change_line time.now row node vector.now.vector) }
+    ensures { OnOk result (string_bytes text.new ≡ string_bytes text.old
+        ++ change_line time.now row node vector.now.vector) }
 {
     let number = node.number();
     push_row(text, time, row)?;
@@ -25,8 +26,8 @@ pub fn push_change(
     text.push('\n')
 }
 
-/// Appends the line of how many rows a trace has room for behind the row of this number, which came at this time. Refused where an
-/// allocation fails.
+/// Appends the line of how many rows a trace has room for behind the row of this number, which came at this time.
+/// Refused where an allocation fails.
 pub fn push_room(text: &mut String, time: &str, row: u32, room: u32) -> Result<(), OutOfMemory>
     ensures { OnOk result (string_bytes text.new ≡ string_bytes text.old ++ room_line time.now row room) }
 {

@@ -6,8 +6,8 @@ use bully_base::OutOfMemory;
 use bully_table::{TablePlan, push_owners};
 use std::alloc::Global;
 
-/// The line of the plan: the owners from partition 0 on, how many partitions move, and how many could stay. Refused where an allocation
-/// fails.
+/// The line of the plan: the owners from partition 0 on, how many partitions move, and how many could stay. Refused
+/// where an allocation fails.
 pub fn plan_line(alloc: Global, plan: &TablePlan) -> Result<String, OutOfMemory>
     ensures { IfOk result (λ line. string_bytes line ≡ plan_line plan.now) }
 {

@@ -2,7 +2,8 @@
 ghost use Rattle.std.specs.Prelude.{◌≡◌, ◌/◌, ◌%◌, ◌++◌, ◌<◌, OnOk, codes, encode_utf8, string_bytes};
 ghost use Rattle.std.specs.Option.{option_copied};
 ghost use Rattle.std.specs.Str.{chars};
-ghost use Rattle.bully_json.specs.Objects.{escaped, escaped_letter, halter_member, hex_digit, number_text, place_members, quoted, task_member, task_text};
+ghost use Rattle.bully_json.specs.Objects.{escaped, escaped_letter, halter_member, hex_digit, number_text};
+ghost use Rattle.bully_json.specs.Objects.{place_members, quoted, task_member, task_text};
 
 use bully_base::{Node, OutOfMemory};
 use bully_handlers::Vector;
@@ -47,7 +48,8 @@ fn push_letter(text: &mut String, letter: char) -> Result<(), OutOfMemory>
 
 // Appends a control by its escape.
 fn push_control(text: &mut String, control: u8) -> Result<(), OutOfMemory>
-    ensures { OnOk result (string_bytes text.new ≡ string_bytes text.old ++ (codes "\\u00" ++ encode_utf8 (hex_digit (control / 16)) ++ encode_utf8 (hex_digit (control % 16)))) }
+    ensures { OnOk result (string_bytes text.new ≡ string_bytes text.old
+        ++ (codes "\\u00" ++ encode_utf8 (hex_digit (control / 16)) ++ encode_utf8 (hex_digit (control % 16)))) }
 {
     text.push_str("\\u00")?;
     text.push(hex_digit(control / 16))?;

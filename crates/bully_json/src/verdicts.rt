@@ -1,6 +1,7 @@
 //! Verdicts, with the nodes of a lawful trace, or with a sheet.
 ghost use Rattle.std.specs.Prelude.{◌≡◌, ◌++◌, IfOk, OnOk, codes, string_bytes};
-ghost use Rattle.bully_json.specs.Objects.{comma_behind, node_object, node_objects, sheet_line, verdict_line, verdict_members};
+ghost use Rattle.bully_json.specs.Objects.{comma_behind, node_object, node_objects, sheet_line, verdict_line};
+ghost use Rattle.bully_json.specs.Objects.{verdict_members};
 ghost use Rattle.bully_world.specs.State.{world_of};
 
 use crate::values::{push_halter, push_last, push_place, push_quoted};
@@ -56,7 +57,8 @@ fn push_verdict(text: &mut String, verdict: Verdict) -> Result<(), OutOfMemory>
 
 // Appends the member with all nodes of the world.
 fn push_nodes_member(text: &mut String, world: &World) -> Result<(), OutOfMemory>
-    ensures { OnOk result (string_bytes text.new ≡ string_bytes text.old ++ (codes ",\"nodes\":[" ++ node_objects (world_of world.now) world.now.setup.nodes ++ codes "]")) }
+    ensures { OnOk result (string_bytes text.new ≡ string_bytes text.old
+        ++ (codes ",\"nodes\":[" ++ node_objects (world_of world.now) world.now.setup.nodes ++ codes "]")) }
 {
     text.push_str(",\"nodes\":[")?;
     push_nodes(text, world)?;
@@ -65,7 +67,8 @@ fn push_nodes_member(text: &mut String, world: &World) -> Result<(), OutOfMemory
 
 // Appends the objects of all nodes.
 fn push_nodes(text: &mut String, world: &World) -> Result<(), OutOfMemory>
-    ensures { OnOk result (string_bytes text.new ≡ string_bytes text.old ++ node_objects (world_of world.now) world.now.setup.nodes) }
+    ensures { OnOk result (string_bytes text.new ≡ string_bytes text.old
+        ++ node_objects (world_of world.now) world.now.setup.nodes) }
 {
     for before in 0..world.setup().nodes() {
         let node = Node::new(before + 1).unwrap();
@@ -76,7 +79,8 @@ fn push_nodes(text: &mut String, world: &World) -> Result<(), OutOfMemory>
 
 // Appends the object of the node with this vector, behind so many others.
 fn push_node(text: &mut String, before: u16, node: Node, vector: &Vector) -> Result<(), OutOfMemory>
-    ensures { OnOk result (string_bytes text.new ≡ string_bytes text.old ++ (comma_behind before ++ node_object node vector.now.vector)) }
+    ensures { OnOk result (string_bytes text.new ≡ string_bytes text.old
+        ++ (comma_behind before ++ node_object node vector.now.vector)) }
 {
     if before > 0 {
         text.push(',')?;

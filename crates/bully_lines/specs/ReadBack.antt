@@ -1,4 +1,5 @@
--- Requests and replies that a line can tell: what is written of one means that very one, and each that is read is such a one.
+-- Requests and replies that a line can tell: what is written of one means that very one, and each that is read is such
+-- a one.
 use Rattle.std.specs.Prelude.{◌≡◌, ◌≢◌, ◌⊎◌, ◌<◌, ℕ, List, Option, Some, None, Ok}
 use Rattle.bully_base.specs.Setup.{IsNode, IsSetup, Setup}
 use Rattle.bully_calls.specs.declared.call.Answer.TheVariants.{Yes, No}
@@ -28,13 +29,16 @@ pub record IsReplyTold (setup : Setup) (r : Reply) : Type 0 where
   pub answer : (r.answer ≡ Yes) ⊎ (r.answer ≡ No)
 
 abbrev pub ReadsRequestBack : Type 0
-ReadsRequestBack = (setup : Setup) (r : Request) → IsSetup setup → IsRequestTold setup r → request_of_text setup (request_text r) ≡ Ok r
+ReadsRequestBack = (setup : Setup) (r : Request) → IsSetup setup → IsRequestTold setup r
+    → request_of_text setup (request_text r) ≡ Ok r
 
 abbrev pub ReadsReplyBack : Type 0
-ReadsReplyBack = (setup : Setup) (r : Reply) → IsSetup setup → IsReplyTold setup r → reply_of_text setup (reply_text r) ≡ Ok r
+ReadsReplyBack = (setup : Setup) (r : Reply) → IsSetup setup → IsReplyTold setup r
+    → reply_of_text setup (reply_text r) ≡ Ok r
 
 abbrev pub RequestsAreTold : Type 0
-RequestsAreTold = (setup : Setup) (line : List ℕ) (r : Request) → request_of_text setup line ≡ Ok r → IsRequestTold setup r
+RequestsAreTold = (setup : Setup) (line : List ℕ) (r : Request) → request_of_text setup line ≡ Ok r
+    → IsRequestTold setup r
 
 abbrev pub RepliesAreTold : Type 0
 RepliesAreTold = (setup : Setup) (line : List ℕ) (r : Reply) → reply_of_text setup line ≡ Ok r → IsReplyTold setup r

@@ -1,5 +1,6 @@
 -- The lines of a request and of a reply, without their end, and what a line means.
-use Rattle.std.specs.Prelude.{◌≡◌, ◌⊎◌, ℕ, Bool, List, [], ◌∷◌, ◌++◌, Option, Some, None, Result, Ok, Err, IsOk, codes, nat_lt, ◌==◌, if◌then◌else◌}
+use Rattle.std.specs.Prelude.{◌≡◌, ◌⊎◌, ℕ, Bool, List, [], ◌∷◌, ◌++◌, Option, Some, None, Result, Ok, Err, IsOk, codes}
+use Rattle.std.specs.Prelude.{nat_lt, ◌==◌, if◌then◌else◌}
 use Rattle.std.specs.Fmt.{decimal}
 use Rattle.std.specs.List.{before_first, after_first}
 use Rattle.std.specs.Option.{option_and_then}
@@ -57,17 +58,20 @@ call_number_in setup text = option_and_then (λ n. if nat_lt n setup.events_max 
 -- the request with what its last field says, where that is a call without a table
 abbrev pub plain_request : ℕ → ℕ → ℕ → Option CallKind → Result Request RequestFault
 plain_request caller number callee None = Err RequestFault.Kind
-plain_request caller number callee (Some kind) = Ok (record { caller = caller; number = number; call = record { callee = callee; kind = kind }; table = None })
+plain_request caller number callee (Some kind) =
+    Ok (record { caller = caller; number = number; call = record { callee = callee; kind = kind }; table = None })
 
 -- a Ready with the table that the text spells
 abbrev pub ready_request : ℕ → ℕ → ℕ → Result (List ℕ) TableFault → Result Request RequestFault
 ready_request caller number callee (Err fault) = Err (RequestFault.Table fault)
-ready_request caller number callee (Ok table) = Ok (record { caller = caller; number = number; call = record { callee = callee; kind = Ready }; table = Some table })
+ready_request caller number callee (Ok table) = Ok
+    (record { caller = caller; number = number; call = record { callee = callee; kind = Ready }; table = Some table })
 
 -- what the fields mean, from the call on, and from each field before it on
 abbrev pub request_by_kind : Setup → ℕ → ℕ → ℕ → List ℕ → Result Request RequestFault
 request_by_kind setup caller number callee text =
-    if bytes_eq (field text) (call_word Ready) then ready_request caller number callee (table_of_text setup (behind text))
+    if bytes_eq (field text) (call_word Ready)
+    then ready_request caller number callee (table_of_text setup (behind text))
     else plain_request caller number callee (call_named text)
 
 abbrev pub request_by_callee : Setup → ℕ → ℕ → Option ℕ → List ℕ → Result Request RequestFault
@@ -76,22 +80,26 @@ request_by_callee setup caller number (Some callee) text = request_by_kind setup
 
 abbrev pub request_by_number : Setup → ℕ → Option ℕ → List ℕ → Result Request RequestFault
 request_by_number setup caller None text = Err RequestFault.Number
-request_by_number setup caller (Some number) text = request_by_callee setup caller number (node_in setup (field text)) (behind text)
+request_by_number setup caller (Some number) text =
+    request_by_callee setup caller number (node_in setup (field text)) (behind text)
 
 abbrev pub request_by_caller : Setup → Option ℕ → List ℕ → Result Request RequestFault
 request_by_caller setup None text = Err RequestFault.Caller
-request_by_caller setup (Some caller) text = request_by_number setup caller (call_number_in setup (field text)) (behind text)
+request_by_caller setup (Some caller) text =
+    request_by_number setup caller (call_number_in setup (field text)) (behind text)
 
 -- the request of the line, or the first fault from its left
 abbrev pub request_of_text : Setup → List ℕ → Result Request RequestFault
 request_of_text setup line =
-    if bytes_eq (field line) (codes "ask") then request_by_caller setup (node_in setup (field (behind line))) (behind (behind line))
+    if bytes_eq (field line) (codes "ask")
+    then request_by_caller setup (node_in setup (field (behind line))) (behind (behind line))
     else Err RequestFault.Word
 
 -- why the line is refused: its first fault, and want of memory only of a line that is a request
 abbrev pub IsRequestFault : Setup → List ℕ → RequestFault → Type 0
 IsRequestFault setup line fault =
-    (request_of_text setup line ≡ Err fault) ⊎ ((fault ≡ RequestFault.Table TableFault.OutOfMemory) × IsOk (request_of_text setup line))
+    (request_of_text setup line ≡ Err fault)
+    ⊎ ((fault ≡ RequestFault.Table TableFault.OutOfMemory) × IsOk (request_of_text setup line))
 
 abbrev pub reply_by_answer : ℕ → ℕ → Option Answer → Result Reply ReplyFault
 reply_by_answer caller number None = Err ReplyFault.Answer
@@ -108,5 +116,6 @@ reply_by_caller setup (Some caller) text = reply_by_number caller (call_number_i
 -- the reply of the line, or the first fault from its left
 abbrev pub reply_of_text : Setup → List ℕ → Result Reply ReplyFault
 reply_of_text setup line =
-    if bytes_eq (field line) (codes "tell") then reply_by_caller setup (node_in setup (field (behind line))) (behind (behind line))
+    if bytes_eq (field line) (codes "tell")
+    then reply_by_caller setup (node_in setup (field (behind line))) (behind (behind line))
     else Err ReplyFault.Word

@@ -1,8 +1,8 @@
 //! A line of text for each request and each reply.
 //!
-//! It stands on bully_calls, on bully_rows for the words of calls and answers, and on the crates below them. Whoever carries
-//! lines relies on a line being read as the request or the reply that it spells, or being refused by its first fault, and on
-//! what is written being read back.
+//! It stands on bully_calls, on bully_rows for the words of calls and answers, and on the crates below them. Whoever
+//! carries lines relies on a line being read as the request or the reply that it spells, or being refused by its first
+//! fault, and on what is written being read back.
 #![tactic(auto)]
 
 ghost use Rattle.bully_lines.specs.ReadBack.{ReadsReplyBack, ReadsRequestBack, RepliesAreTold, RequestsAreTold};
@@ -17,9 +17,9 @@ pub use fault::{ReplyFault, RequestFault};
 pub use reading::{read_reply, read_request};
 pub use writing::{push_reply, push_request};
 
-/// The law of what is written and read. What [`push_request`] writes of a request that a line can tell, one between nodes of the
-/// setup, means that very request to [`read_request`], and so does what [`push_reply`] writes of such a reply to [`read_reply`].
-/// Each request and each reply that is read is one that a line can tell.
+/// The law of what is written and read. What [`push_request`] writes of a request that a line can tell, one between
+/// nodes of the setup, means that very request to [`read_request`], and so does what [`push_reply`] writes of such a
+/// reply to [`read_reply`]. Each request and each reply that is read is one that a line can tell.
 pub fn read_back()
     ensures request { ReadsRequestBack }
     ensures reply { ReadsReplyBack }

@@ -48,8 +48,11 @@ fn read_call(
     callee: Node,
     text: &str,
 ) -> Result<(Call, Option<Table>), RequestFault>
-    ensures ok { IfOk result (λ parts. (caller number : ℕ) → request_by_kind setup.now caller number callee text.now ≡ Ok (record { caller = caller; number = number; call = parts.0; table = parts.1 })) }
-    ensures err { IfErr result (λ fault. (caller number : ℕ) → (request_by_kind setup.now caller number callee text.now ≡ Err fault) ⊎ ((fault ≡ RequestFault.Table TableFault.OutOfMemory) × IsOk (request_by_kind setup.now caller number callee text.now))) }
+    ensures ok { IfOk result (λ parts. (caller number : ℕ) → request_by_kind setup.now caller number callee text.now
+        ≡ Ok (record { caller = caller; number = number; call = parts.0; table = parts.1 })) }
+    ensures err { IfErr result (λ fault. (caller number : ℕ) → (request_by_kind setup.now caller number callee text.now
+        ≡ Err fault) ⊎ ((fault ≡ RequestFault.Table TableFault.OutOfMemory)
+        × IsOk (request_by_kind setup.now caller number callee text.now))) }
 {
     let (word, owners) = first_field(text);
     if word == call_word(CallKind::Ready) {

@@ -1,8 +1,11 @@
 -- What a member does next: the first rule that applies. Each definition is a part of the table in docs/REBALANCING.md.
-use Rattle.std.specs.Prelude.{◌+◌, ◌-◌, ◌^◌, ◌==◌, ◌&&◌, ◌||◌, not, if◌then◌else◌, ℕ, Bool, true, false, Option, Some, None, nat_lt, min, fold, filter}
+use Rattle.std.specs.Prelude.{◌+◌, ◌-◌, ◌^◌, ◌==◌, ◌&&◌, ◌||◌, not, if◌then◌else◌, ℕ, Bool, true, false, Option, Some}
+use Rattle.std.specs.Prelude.{None, nat_lt, min, fold, filter}
 use Rattle.std.specs.Option.{option_map}
-use Rattle.bully_member.specs.Member.{MemberState, above, all_idle, is_admitted, has_room, here, is_alone, is_closing, is_down, are_none, offset_of, lease_of, replica_of, same_promise, stay_left}
-use Rattle.bully_member.specs.Times.{awaiting_backoff, left, pause_left, paused_backoff, renewal_left, stopping_backoff, sure, turn_left}
+use Rattle.bully_member.specs.Member.{MemberState, above, all_idle, is_admitted, has_room, here, is_alone, is_closing}
+use Rattle.bully_member.specs.Member.{is_down, are_none, offset_of, lease_of, replica_of, same_promise, stay_left}
+use Rattle.bully_member.specs.Times.{awaiting_backoff, left, pause_left, paused_backoff, renewal_left, stopping_backoff}
+use Rattle.bully_member.specs.Times.{sure, turn_left}
 use Rattle.bully_member.specs.declared.values.Asked.{Asked}
 use Rattle.bully_member.specs.declared.values.Until.{Until}
 use Rattle.bully_member.specs.declared.values.Ending.{Ending}
@@ -28,7 +31,8 @@ is_none_of (Some a) = false
 
 -- whether work by this token goes on: the lease is sure, the group is stable, and the token is that of the node's plan
 abbrev pub goes_on : MemberState → (now : ℕ) → (is_stable : Bool) → ℕ → Bool
-goes_on m now is_stable token = sure m.session m.ttl now && is_none_of m.ending && not m.is_past && is_stable && is_some_token (token_now m) token
+goes_on m now is_stable token =
+    sure m.session m.ttl now && is_none_of m.ending && not m.is_past && is_stable && is_some_token (token_now m) token
 
 abbrev pub has_to_stop : MemberState → (now : ℕ) → (is_stable : Bool) → Work → Bool
 has_to_stop m now is_stable (Work.Lost token) = true
@@ -54,7 +58,8 @@ unstable_step m now session =
 
 -- how long it waits while the group is stable: until the next renewal is due, or one more lease is admitted
 abbrev pub stable_wait : MemberState → (now : ℕ) → ℕ
-stable_wait m now = fold (λ least p. min least (stay_left m.arrivals now p.node)) (renewal_left m.session m.ttl now) (filter (λ p. not (is_admitted m now p)) m.leases)
+stable_wait m now = fold (λ least p. min least (stay_left m.arrivals now p.node)) (renewal_left m.session m.ttl now)
+    (filter (λ p. not (is_admitted m now p)) m.leases)
 
 -- the group is stable: it works on what its node owns
 abbrev pub stable_step : MemberState → (now : ℕ) → Work → Option ℕ → Step
@@ -65,7 +70,8 @@ stable_step m now work token = Step.Wait (stable_wait m now) Until.AnyIdle
 abbrev pub leaving_step : MemberState → (are_down : Bool) → SessionId → Step
 leaving_step m are_down session =
     if is_alone m && not are_down && has_room m && not m.has_closed then
-    (if same_promise m.own (here m) then Step.Ask (Request.Append (offset_of m)) else Step.Ask (Request.Promise session (offset_of m)))
+    (if same_promise m.own (here m) then Step.Ask (Request.Append (offset_of m)) else
+    Step.Ask (Request.Promise session (offset_of m)))
     else Step.Ask (Request.Release session)
 
 abbrev pub is_left : Ending → Bool
@@ -95,7 +101,8 @@ rebalance_left m now = if is_down m m.terms.node || are_none m.leases then 0 els
 -- by who holds the lease of its node: an earlier session of its own, which was acquired late; another process; or
 -- nobody
 abbrev pub acquiring_step : MemberState → (now : ℕ) → Option Lease → Step
-acquiring_step m now (Some p) = if p.session.process == m.process then Step.Ask (Request.Release p.session) else Step.Wait m.ttl Until.News
+acquiring_step m now (Some p) = if p.session.process == m.process then Step.Ask (Request.Release p.session) else
+    Step.Wait m.ttl Until.News
 acquiring_step m now None =
     if nat_lt 0 (rebalance_left m now) then Step.Wait (rebalance_left m now) Until.News else
     Step.Ask (Request.Acquire (record { process = m.process; number = min (m.tries + 1) (2 ^ 64 - 1) }) (offset_of m))
@@ -138,7 +145,8 @@ stopping_step m now session = Step.BackOff m.ttl
 -- its work goes on, or it has none
 abbrev pub going_step : MemberState → (now : ℕ) → (is_stable are_down : Bool) → Step
 going_step m now is_stable are_down =
-    if nat_lt 0 (pause_left m.paused m.ttl now) then Step.BackOff (paused_backoff m.work m.session m.ttl now m.paused) else
+    if nat_lt 0 (pause_left m.paused m.ttl now) then Step.BackOff (paused_backoff m.work m.session m.ttl now m.paused)
+    else
     session_step m now is_stable are_down m.session
 
 abbrev pub step_by_work : MemberState → (now : ℕ) → (is_stable are_down : Bool) → Work → Step
@@ -152,7 +160,8 @@ step_unless_awaiting m now is_stable are_down None = step_by_work m now is_stabl
 
 -- what is due now, given whether the group is stable, and whether all nodes are Down
 abbrev pub due : MemberState → (now : ℕ) → (is_stable are_down : Bool) → Step
-due m now is_stable are_down = if has_to_stop m now is_stable m.work then Step.Stop else step_unless_awaiting m now is_stable are_down m.asked
+due m now is_stable are_down = if has_to_stop m now is_stable m.work then Step.Stop else
+    step_unless_awaiting m now is_stable are_down m.asked
 
 -- What is noted of a step.
 

@@ -32,7 +32,8 @@ stops_or_backs_off Step.Stop = true
 stops_or_backs_off (Step.BackOff at_most) = true
 stops_or_backs_off _ = false
 
--- one request is under way at a time: as long as one isn't answered, nothing else is asked for, and it stays the one that is awaited
+-- one request is under way at a time: as long as one isn't answered, nothing else is asked for, and it stays the one
+-- that is awaited
 abbrev pub Awaits : Option Asked → Step → Option Asked → Type 0
 Awaits None _ _ = Unit {0}
 Awaits (Some asked) answer after = (stops_or_backs_off answer ≡ true) × (after ≡ Some asked)

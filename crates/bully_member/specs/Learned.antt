@@ -1,5 +1,6 @@
 -- How a member changes by rows that it learns, and by an epoch in which it goes on.
-use Rattle.std.specs.Prelude.{nat_le, ◌≡◌, ◌==◌, not, if◌then◌else◌, ℕ, Bool, true, false, [], Option, Some, None, Result, Ok, Err, replicate}
+use Rattle.std.specs.Prelude.{nat_le, ◌≡◌, ◌==◌, not, if◌then◌else◌, ℕ, Bool, true, false, [], Option, Some, None}
+use Rattle.std.specs.Prelude.{Result, Ok, Err, replicate}
 use Rattle.bully_member.specs.Member.{MemberState, nobody_yet}
 use Rattle.bully_member.specs.Told.{end_for, to_pause}
 use Rattle.bully_member.specs.declared.opening.MemberFault.{MemberFault}
@@ -62,7 +63,8 @@ in_epoch m now f t = record m {
 abbrev pub followed : MemberState → (now : ℕ) → Header → Terms → MemberState
 followed m now header t =
     if not (is_following m.asked) then m else
-    if nat_le t.epoch m.terms.epoch then to_pause (record m { asked = None; is_past = false; needs_snapshot = true }) now else
+    if nat_le t.epoch m.terms.epoch
+    then to_pause (record m { asked = None; is_past = false; needs_snapshot = true }) now else
     in_epoch m now (record { replica = first_replica header; rows = 0 }) t
 
 -- refused for the terms' first fault, or because an allocation failed

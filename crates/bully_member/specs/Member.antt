@@ -1,5 +1,7 @@
 -- What a member knows.
-use Rattle.std.specs.Prelude.{All, ◌∷◌, find, length, ◌-◌, filter, slice_get, replicate, ◌≡◌, ◌<◌, ◌≤◌, ◌+◌, ◌*◌, ℕ, Bool, true, false, List, [], Option, None, nat_le, max, min, ◌==◌, ◌&&◌, ◌||◌, not, if◌then◌else◌, fold, count_by, nat_lt}
+use Rattle.std.specs.Prelude.{All, ◌∷◌, find, length, ◌-◌, filter, slice_get, replicate, ◌≡◌, ◌<◌, ◌≤◌, ◌+◌, ◌*◌, ℕ}
+use Rattle.std.specs.Prelude.{Bool, true, false, List, [], Option, None, nat_le, max, min, ◌==◌, ◌&&◌, ◌||◌, not}
+use Rattle.std.specs.Prelude.{if◌then◌else◌, fold, count_by, nat_lt}
 use Rattle.std.specs.List.{list_all}
 use Rattle.bully_base.specs.NodeSet.{with_node}
 use Rattle.bully_base.specs.declared.TheConstants.{NODES_MAX}
@@ -97,7 +99,8 @@ group_of m now = fold (with_counted m now) [] m.leases
 
 -- the highest offset of this epoch up to which an admitted session is idle, or the member's own
 abbrev pub most_idle : MemberState → (now : ℕ) → ℕ
-most_idle m now = fold (λ most p. max most (offset_in m.terms.epoch p.promise)) (offset_in m.terms.epoch m.own) (counted m now)
+most_idle m now =
+    fold (λ most p. max most (offset_in m.terms.epoch p.promise)) (offset_in m.terms.epoch m.own) (counted m now)
 
 -- what the holder of this lease owns: by a plan after what its session has promised in this epoch
 abbrev pub owned_of : MemberState → Lease → Option Owned
@@ -155,7 +158,8 @@ abbrev pub AreNodes : RowReplicaState → List Lease → Type 0
 AreNodes f leases = All (λ (p : Lease). p.node ≤ f.replica.world.setup.nodes) leases
 
 -- what its type keeps
-pub record IsMember (f : RowReplicaState) (t : Terms) (ttl : ℕ) (leases : List Lease) (arrivals : List Arrival) : Type 0 where
+pub record IsMember (f : RowReplicaState) (t : Terms) (ttl : ℕ) (leases : List Lease)
+    (arrivals : List Arrival) : Type 0 where
   pub fits : terms_fault f.replica.world.setup t ≡ None
   pub paced : ttl ≤ TTL_MAX
   pub nodes : AreNodes f leases
@@ -191,4 +195,5 @@ member_with f arrivals t process ttl = record {
 
 -- a member that has learned nothing, and asked for nothing
 abbrev pub new_member : Header → Terms → (process ttl : ℕ) → MemberState
-new_member header t process ttl = member_with (record { replica = first_replica header; rows = 0 }) (replicate header.setup.nodes nobody_yet) t process ttl
+new_member header t process ttl = member_with (record { replica = first_replica header; rows = 0 })
+    (replicate header.setup.nodes nobody_yet) t process ttl

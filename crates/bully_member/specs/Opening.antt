@@ -1,5 +1,6 @@
 -- What a member begins with.
-use Rattle.std.specs.Prelude.{◌≡◌, ◌*◌, ℕ, Bool, false, List, Option, Some, None, length, nat_lt, ◌==◌, not, ◌||◌, if◌then◌else◌}
+use Rattle.std.specs.Prelude.{◌≡◌, ◌*◌, ℕ, Bool, false, List, Option, Some, None, length, nat_lt, ◌==◌, not, ◌||◌}
+use Rattle.std.specs.Prelude.{if◌then◌else◌}
 use Rattle.bully_base.specs.Setup.{Setup}
 use Rattle.bully_member.specs.declared.opening.MemberFault.{MemberFault}
 use Rattle.bully_member.specs.declared.opening.Terms.{Terms}
@@ -15,7 +16,8 @@ abbrev pub terms_fault : Setup → Terms → Option MemberFault
 terms_fault setup t =
     if nat_lt setup.nodes t.node then Some MemberFault.BadNode else
     if is_other_length t.old setup.partitions then Some MemberFault.TableLength else
-    if nat_lt t.rows_max (2 * REBALANCE_MAX * setup.nodes) || nat_lt setup.events_max t.rows_max then Some MemberFault.BadRowsMax else
+    if nat_lt t.rows_max (2 * REBALANCE_MAX * setup.nodes) || nat_lt setup.events_max t.rows_max
+    then Some MemberFault.BadRowsMax else
     None
 
 abbrev pub or_else : Option MemberFault → Option MemberFault → Option MemberFault
@@ -24,7 +26,8 @@ or_else (Some fault) other = Some fault
 
 -- ... or of its ttl
 abbrev pub member_fault : Setup → Terms → (ttl : ℕ) → Option MemberFault
-member_fault setup t ttl = or_else (terms_fault setup t) (if nat_lt ttl TTL_MIN || nat_lt TTL_MAX ttl then Some MemberFault.BadTtl else None)
+member_fault setup t ttl =
+    or_else (terms_fault setup t) (if nat_lt ttl TTL_MIN || nat_lt TTL_MAX ttl then Some MemberFault.BadTtl else None)
 
 -- a member is refused for its first fault, or if it has none because an allocation failed
 abbrev pub RefusesMember : Option MemberFault → MemberFault → Type 0

@@ -1,5 +1,6 @@
 -- How a member changes by what it is told.
-use Rattle.std.specs.Prelude.{◌==◌, ◌&&◌, not, if◌then◌else◌, ℕ, Bool, true, false, List, Option, Some, None, length, fold, nat_lt, ◌-◌, slice_get, slice_set}
+use Rattle.std.specs.Prelude.{◌==◌, ◌&&◌, not, if◌then◌else◌, ℕ, Bool, true, false, List, Option, Some, None, length}
+use Rattle.std.specs.Prelude.{fold, nat_lt, ◌-◌, slice_get, slice_set}
 use Rattle.std.specs.List.{list_all, zip}
 use Rattle.std.specs.Option.{option_map_or}
 use Rattle.bully_member.specs.Due.{is_none_of}
@@ -38,9 +39,13 @@ to_end_session m = record (to_snapshot m) { session = SessionState.Absent }
 -- what became of a request to acquire the lease for this session, which was asked for at this time
 abbrev pub when_acquired : MemberState → (now : ℕ) → StoreAnswer → SessionId → (offset at : ℕ) → MemberState
 when_acquired m now StoreAnswer.Done session offset at =
-    record (to_snapshot m) { session = SessionState.Live session at; own = record { epoch = m.terms.epoch; offset = offset } }
+    record (to_snapshot m) {
+      session = SessionState.Live session at;
+      own = record { epoch = m.terms.epoch; offset = offset };
+    }
 when_acquired m now StoreAnswer.Refused session offset at = to_snapshot m
-when_acquired m now StoreAnswer.Unanswered session offset at = record (to_pause (to_snapshot m) now) { session = SessionState.Unknown session }
+when_acquired m now StoreAnswer.Unanswered session offset at =
+    record (to_pause (to_snapshot m) now) { session = SessionState.Unknown session }
 
 -- ... to renew it: the lease counts from when that was asked for
 abbrev pub when_renewed : MemberState → (now : ℕ) → StoreAnswer → SessionId → (at : ℕ) → MemberState
@@ -78,7 +83,8 @@ renewed_by session m after = m
 -- what became of a request that was asked for at this time. An answer to a Snapshot or a Follow without a result counts
 -- as none
 abbrev pub when_answered : MemberState → (now : ℕ) → StoreAnswer → Request → (at : ℕ) → MemberState
-when_answered m now answer (Request.Acquire session offset) at = acquired_by m.session m (when_acquired m now answer session offset at)
+when_answered m now answer (Request.Acquire session offset) at =
+    acquired_by m.session m (when_acquired m now answer session offset at)
 when_answered m now answer (Request.Renew session) at = renewed_by m.session m (when_renewed m now answer session at)
 when_answered m now answer (Request.Release session) at = when_released m now answer
 when_answered m now answer Request.Snapshot at = to_pause m now
@@ -120,7 +126,8 @@ own_by m session here = m
 -- settings are requested
 abbrev pub last_change_then : MemberState → (now : ℕ) → List Lease → (has_request : Bool) → LastChange
 last_change_then m now leases has_request =
-    if (offset_of m == m.last_change.offset) && same_leases m.leases leases && same_bool m.has_request has_request then m.last_change
+    if (offset_of m == m.last_change.offset) && same_leases m.leases leases && same_bool m.has_request has_request
+    then m.last_change
     else record { at = now; offset = offset_of m }
 
 -- whether the session that was seen is this one
@@ -130,15 +137,18 @@ is_same_session (Some seen) session = same_session seen session
 
 -- how long a new session has to stay
 abbrev pub stay_of : Arrival → (ttl now : ℕ) → ℕ
-stay_of a ttl now = if not (is_none_of a.session) && nat_lt (now - a.at) (remembered_for ttl) then longer_stay a.stay ttl else first_stay ttl
+stay_of a ttl now = if not (is_none_of a.session) && nat_lt (now - a.at) (remembered_for ttl)
+    then longer_stay a.stay ttl else first_stay ttl
 
 -- what is noted of a session that holds the lease of a node, of which this was noted before
 abbrev pub arrived : Arrival → SessionId → (ttl now : ℕ) → Arrival
-arrived a session ttl now = if is_same_session a.session session then a else record { session = Some session; at = now; stay = stay_of a ttl now }
+arrived a session ttl now = if is_same_session a.session session then a else
+    record { session = Some session; at = now; stay = stay_of a ttl now }
 
 -- ... of one lease, and of all
 abbrev pub with_arrival : (ttl now : ℕ) → List Arrival → Lease → List Arrival
-with_arrival ttl now arrivals p = option_map_or (λ (a : Arrival). slice_set arrivals (p.node - 1) (arrived a p.session ttl now)) (slice_get arrivals (p.node - 1)) arrivals
+with_arrival ttl now arrivals p = option_map_or (λ (a : Arrival).
+    slice_set arrivals (p.node - 1) (arrived a p.session ttl now)) (slice_get arrivals (p.node - 1)) arrivals
 
 abbrev pub arrivals_then : (ttl now : ℕ) → List Arrival → List Lease → List Arrival
 arrivals_then ttl now arrivals leases = fold (with_arrival ttl now) arrivals leases
@@ -150,7 +160,14 @@ with_arrivals m now leases = record m { arrivals = arrivals_then m.ttl now m.arr
 -- what was found
 abbrev pub found : MemberState → (now : ℕ) → List Lease → (has_unknown has_request : Bool) → MemberState
 found m now leases has_unknown has_request =
-    record m { leases = leases; has_unknown = has_unknown; has_request = has_request; needs_snapshot = false; last_change = last_change_then m now leases has_request; asked = None }
+    record m {
+      leases = leases;
+      has_unknown = has_unknown;
+      has_request = has_request;
+      needs_snapshot = false;
+      last_change = last_change_then m now leases has_request;
+      asked = None;
+    }
 
 -- how it changes by who holds the lease of its own node
 abbrev pub with_own : MemberState → MemberState
@@ -158,7 +175,8 @@ with_own m = own_by m m.session (lease_of m.terms.node m.leases)
 
 -- what was found in the member's epoch
 abbrev pub seen_here : MemberState → (now : ℕ) → List Lease → (has_unknown has_request : Bool) → MemberState
-seen_here m now leases has_unknown has_request = with_own (found (with_arrivals m now leases) now leases has_unknown has_request)
+seen_here m now leases has_unknown has_request =
+    with_own (found (with_arrivals m now leases) now leases has_unknown has_request)
 
 abbrev pub is_snapshot : Request → Bool
 is_snapshot Request.Snapshot = true

@@ -15,7 +15,8 @@ ghost use Rattle.bully_member.specs.Member.{MemberState, offset_of, replica_of};
 ghost use Rattle.bully_member.specs.Rebalance.{rebalanced_nodes};
 ghost use Rattle.bully_replica.specs.Replica.{IsLogOf};
 ghost use Rattle.bully_rebalance.specs.Rebalancing.{Rebalances};
-ghost use Rattle.bully_work.specs.Store.{AcceptsAppend, IsLive, MayAppend, MayBegin, MayPromise, MayAcquire, MayYield, Store, promises};
+ghost use Rattle.bully_work.specs.Store.{AcceptsAppend, IsLive, MayAppend, MayBegin, MayPromise, MayAcquire, MayYield};
+ghost use Rattle.bully_work.specs.Store.{Store, promises};
 
 mod member;
 mod opening;
@@ -36,12 +37,18 @@ pub use values::{
 /// acquires its lease, a session that has promised no more may promise that offset, and then acquire the lease. Where
 /// the member appends, the events of `Member::rebalance` may be appended, wherever the store accepts an append.
 pub fn asks_by_the_rules()
-    ensures begin { (m : MemberState) (s : Store) (n now token : ℕ) → ActsBy m s n → IsLive s m.terms.node n → BeginsBy m now token
+    ensures begin { (m : MemberState) (s : Store) (n now token : ℕ) → ActsBy m s n → IsLive s m.terms.node n
+        → BeginsBy m now token
         → (p : Planned) × (p.token ≡ token) × MayBegin (replica_of m).world.setup s m.terms.node n p }
-    ensures promise { (m : MemberState) (s : Store) (n offset : ℕ) → ActsBy m s n → (s.sessions m.terms.node n).promised ≤ offset_of m → AsksAt m offset
+    ensures promise { (m : MemberState) (s : Store) (n offset : ℕ) → ActsBy m s n
+        → (s.sessions m.terms.node n).promised ≤ offset_of m → AsksAt m offset
         → MayPromise s m.terms.node n offset × MayYield (promises s m.terms.node n offset) m.terms.node n offset }
-    ensures take { (m : MemberState) (s : Store) (n offset : ℕ) → AsksAt m offset → (s.sessions m.terms.node n).work ≡ None → (s.sessions m.terms.node n).promised ≤ offset
+    ensures take { (m : MemberState) (s : Store) (n offset : ℕ) → AsksAt m offset
+        → (s.sessions m.terms.node n).work ≡ None → (s.sessions m.terms.node n).promised ≤ offset
         → MayPromise s m.terms.node n offset × MayAcquire (promises s m.terms.node n offset) m.terms.node n offset }
-    ensures append { (m : MemberState) (s : Store) (n offset : ℕ) (old : Option (List ℕ)) (events : List Event) → ActsBy m s n → AcceptsAppend s offset → ChangesAt m offset
-        → ((log : List Event) → IsLogOf (replica_of m) log → Rebalances (replica_of m).world.setup log old (rebalanced_nodes m) events) → MayAppend (replica_of m).world.setup s events }
+    ensures append { (m : MemberState) (s : Store) (n offset : ℕ) (old : Option (List ℕ)) (events : List Event)
+        → ActsBy m s n → AcceptsAppend s offset → ChangesAt m offset
+        → ((log : List Event)
+        → IsLogOf (replica_of m) log → Rebalances (replica_of m).world.setup log old (rebalanced_nodes m) events)
+        → MayAppend (replica_of m).world.setup s events }
 {}

@@ -1,7 +1,9 @@
 //! Durations that depend on the ttl, in whole nanoseconds, rounded down.
 ghost use Rattle.std.specs.Prelude.{◌≡◌, ◌≤◌};
 ghost use Rattle.bully_base.specs.declared.TheConstants.{NODES_MAX};
-ghost use Rattle.bully_member.specs.Times.{awaiting_backoff, first_stay, left, longer_stay, pause_left, paused_backoff, remembered_for, renewal_left, stopping_backoff, sure, sure_for, sure_left, turn_left};
+ghost use Rattle.bully_member.specs.Times.{awaiting_backoff, first_stay, left, longer_stay, pause_left, paused_backoff};
+ghost use Rattle.bully_member.specs.Times.{remembered_for, renewal_left, stopping_backoff, sure, sure_for, sure_left};
+ghost use Rattle.bully_member.specs.Times.{turn_left};
 ghost use Rattle.bully_member.specs.declared.opening.TheConstants.{TTL_MAX};
 
 use crate::values::{SessionState, Work};

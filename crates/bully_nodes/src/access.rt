@@ -17,8 +17,8 @@ use bully_world::Event;
 use std::alloc::{AllocError, Global};
 use std::sync::{MutexGuard, Wait};
 
-/// A thread's place at a group: its seat and its pass, beside the lock. Each call takes the lock once, and a node's serve or
-/// step is one call. A fault other than the want of memory ends a turn without effect.
+/// A thread's place at a group: its seat and its pass, beside the lock. Each call takes the lock once, and a node's
+/// serve or step is one call. A fault other than the want of memory ends a turn without effect.
 #[derive(Drop)]
 pub(crate) struct GroupAccess<'a, L: Naming, R: Wait> {
     pub rt: &'a R,
@@ -34,11 +34,15 @@ impl<'a, L: Naming, R: Wait> Backend for GroupAccess<'a, L, R> {
 
     ghost setup = { λ _. L.setup };
 
-    ghost applies = { λ e before after. AppliesAt (IsLocked L.setup L.publisher L.parts) e (record { seat = before.seat; counted = before.pass }) (record { seat = after.seat; counted = after.pass }) };
+    ghost applies = { λ e before after. AppliesAt (IsLocked L.setup L.publisher L.parts) e
+        (record { seat = before.seat; counted = before.pass }) (record { seat = after.seat; counted = after.pass }) };
 
-    ghost prepares = { λ before h ready. PreparesAt (IsLocked L.setup L.publisher L.parts) (record { seat = before.seat; counted = before.pass }) h ready };
+    ghost prepares = { λ before h ready. PreparesAt (IsLocked L.setup L.publisher L.parts)
+        (record { seat = before.seat; counted = before.pass }) h ready };
 
-    ghost takes = { λ choice before h after h'. TakesAt (IsLocked L.setup L.publisher L.parts) choice (record { seat = before.seat; counted = before.pass }) h (record { seat = after.seat; counted = after.pass }) h' };
+    ghost takes = { λ choice before h after h'. TakesAt
+        (IsLocked L.setup L.publisher L.parts) choice (record { seat = before.seat; counted = before.pass }) h
+        (record { seat = after.seat; counted = after.pass }) h' };
 
     fn apply(&mut self, event: Event) -> Result<(), OutOfMemory> {
         let mut guard = self.group.locked.lock(self.rt);
@@ -84,7 +88,8 @@ fn apply_at<L: Naming>(
     event: &Event,
     pass: &mut Pass<L>,
 ) -> Result<(), OutOfMemory>
-    ensures { OnOk result (AppliesAt (IsLocked L.setup L.publisher L.parts) event.now (record { seat = seat.old; counted = pass.old }) (record { seat = seat.new; counted = pass.new })) }
+    ensures { OnOk result (AppliesAt (IsLocked L.setup L.publisher L.parts) event.now
+        (record { seat = seat.old; counted = pass.old }) (record { seat = seat.new; counted = pass.new })) }
 {
     // Shows the proof that the group's state is one that its type keeps.
     let _ = locked.history();
@@ -100,7 +105,9 @@ fn carry_out_at<L: Naming>(
     pass: &mut Pass<L>,
 ) -> Result<(), OutOfMemory>
     requires { (state_of procedure.old).setup ≡ L.setup }
-    ensures takes { OnOk result (TakesAt (IsLocked L.setup L.publisher L.parts) choice (record { seat = seat.old; counted = pass.old }) (state_of procedure.old) (record { seat = seat.new; counted = pass.new }) (state_of procedure.new)) }
+    ensures takes { OnOk result
+        (TakesAt (IsLocked L.setup L.publisher L.parts) choice (record { seat = seat.old; counted = pass.old })
+        (state_of procedure.old) (record { seat = seat.new; counted = pass.new }) (state_of procedure.new)) }
     ensures same_node { HasSameNode (state_of procedure.old) (state_of procedure.new) }
 {
     let _ = locked.history();
@@ -119,7 +126,9 @@ fn apply_to<L: Naming>(
     event: &Event,
     pass: &mut Pass<L>,
 ) -> Result<(), OutOfMemory>
-    ensures { OnOk result (Applies event.now (record { group = locked.old; own = record { seat = seat.old; counted = pass.old } }) (record { group = locked.new; own = record { seat = seat.new; counted = pass.new } })) }
+    ensures { OnOk result
+        (Applies event.now (record { group = locked.old; own = record { seat = seat.old; counted = pass.old } })
+        (record { group = locked.new; own = record { seat = seat.new; counted = pass.new } })) }
 {
     match locked.step(seat, event, pass) {
         Err(StepFault::OutOfMemory) => Err(AllocError),
@@ -133,7 +142,9 @@ fn serve_at<L: Naming>(
     seat: &mut Seat,
     pass: &mut Pass<L>,
 ) -> Result<bool, OutOfMemory>
-    ensures { IfOk result (λ served. (node : ℕ) → Serves (record { group = locked.old; own = record { seat = seat.old; counted = pass.old } }) node served (record { group = locked.new; own = record { seat = seat.new; counted = pass.new } })) }
+    ensures { IfOk result (λ served. (node : ℕ)
+        → Serves (record { group = locked.old; own = record { seat = seat.old; counted = pass.old } }) node served
+        (record { group = locked.new; own = record { seat = seat.new; counted = pass.new } })) }
 {
     match locked.serve(seat, pass) {
         Ok(served) => Ok(served),
@@ -149,7 +160,9 @@ fn serve_or_apply<L: Naming>(
     event: &Event,
     pass: &mut Pass<L>,
 ) -> Result<(), OutOfMemory>
-    ensures { OnOk result (ServesOrApplies event.now (record { group = locked.old; own = record { seat = seat.old; counted = pass.old } }) (record { group = locked.new; own = record { seat = seat.new; counted = pass.new } })) }
+    ensures { OnOk result
+        (ServesOrApplies event.now (record { group = locked.old; own = record { seat = seat.old; counted = pass.old } })
+        (record { group = locked.new; own = record { seat = seat.new; counted = pass.new } })) }
 {
     if serve_at(locked, seat, pass)? {
         return Ok(());
@@ -166,7 +179,10 @@ fn serve_or_proceed<L: Naming>(
 ) -> Result<(), OutOfMemory>
     requires setup { (state_of procedure.old).setup ≡ L.setup }
     requires node { 0 < (state_of procedure.old).node }
-    ensures takes { OnOk result (ServesOrGoesOn Applies Serves Proceeds AnyChoice.Proceed (record { group = locked.old; own = record { seat = seat.old; counted = pass.old } }) (state_of procedure.old) (record { group = locked.new; own = record { seat = seat.new; counted = pass.new } }) (state_of procedure.new)) }
+    ensures takes { OnOk result (ServesOrGoesOn Applies Serves Proceeds AnyChoice.Proceed
+        (record { group = locked.old; own = record { seat = seat.old; counted = pass.old } })
+        (state_of procedure.old) (record { group = locked.new; own = record { seat = seat.new; counted = pass.new } })
+        (state_of procedure.new)) }
     ensures same_node { HasSameNode (state_of procedure.old) (state_of procedure.new) }
 {
     match locked.serve_or_turn(seat, procedure, pass) {
@@ -185,7 +201,8 @@ fn is_ready(procedure: &Procedure) -> bool
 // Prepares the procedure from the task that is shown of its node.
 fn prepare_by(alloc: Global, shown: &View, procedure: &mut Procedure) -> Result<(), OutOfMemory>
     requires { (state_of procedure.old).setup ≡ shown.now.setup }
-    ensures prepared { OnOk result (state_of procedure.new ≡ prepared_from (shown_at shown.now (state_of procedure.old).node).task (state_of procedure.old)) }
+    ensures prepared { OnOk result (state_of procedure.new
+        ≡ prepared_from (shown_at shown.now (state_of procedure.old).node).task (state_of procedure.old)) }
     ensures same_node { HasSameNode (state_of procedure.old) (state_of procedure.new) }
 {
     // Shows the proof that a lawful list leads to the world that is viewed.

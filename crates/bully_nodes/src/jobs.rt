@@ -1,6 +1,7 @@
 ghost use Rattle.std.specs.Prelude.{◌≡◌, ◌+◌, ◌≤◌, [], ℕ, Option, All, IfOk, OnOk};
 ghost use Rattle.bully_group.specs.Locked.{IsLocked};
-ghost use Rattle.bully_nodes.specs.Run.{IsGivenBack, HasDueLog, IsRoleOf, procedure_of, first_of, IsActorsTurn, ActorsTurns};
+ghost use Rattle.bully_nodes.specs.Run.{IsGivenBack, HasDueLog, IsRoleOf, procedure_of, first_of, IsActorsTurn};
+ghost use Rattle.bully_nodes.specs.Run.{ActorsTurns};
 ghost use Rattle.bully_steps.specs.ProcedureState.{ProcedureState};
 
 use crate::access::GroupAccess;
@@ -30,7 +31,8 @@ impl<L: Scheduled> Promise<Result<Job<L>, OutOfMemory>> for SeatOf {
     ghost use Rattle.std.specs.Prelude.{IfOk};
     ghost use Rattle.bully_nodes.specs.Run.{IsGivenBack};
 
-    ghost kept_by = { λ p r. IfOk r (λ job. IsGivenBack L.faults p.0 (record { seat = job.seat; counted = job.pass })) };
+    ghost kept_by = { λ p r.
+        IfOk r (λ job. IsGivenBack L.faults p.0 (record { seat = job.seat; counted = job.pass })) };
 }
 
 /// What an actor's turns go on from: the operator's from the faults that are left, a node's from its procedure.
@@ -48,7 +50,8 @@ pub(crate) fn pair_jobs<L: Scheduled>(
 ) -> Result<Vec<Job<L>>, OutOfMemory>
     requires seats { All (λ s. (s.actor ≤ L.setup.nodes) × (s.log ≡ [])) seats.items }
     requires passes { All (λ p. p ≡ 0) passes.items }
-    ensures { IfOk result (λ jobs. All (λ j. (j.seat.actor ≤ L.setup.nodes) × (j.seat.log ≡ []) × (j.pass ≡ 0)) jobs.items) }
+    ensures { IfOk result (λ jobs. All (λ j. (j.seat.actor ≤ L.setup.nodes) × (j.seat.log ≡ [])
+        × (j.pass ≡ 0)) jobs.items) }
 {
     let mut jobs = Vec::new(alloc);
     while let Some(seat) = seats.pop() {
@@ -96,8 +99,11 @@ pub(crate) fn do_job<L: Scheduled, R: Wait, G: Gate>(
     job: Job<L>,
 ) -> Result<Job<L>, OutOfMemory>
     requires new { (job.seat.actor ≤ L.setup.nodes) × (job.seat.log ≡ []) × (job.pass ≡ 0) }
-    ensures turns { IfOk result (λ back. (last : Option ProcedureState) × ActorsTurns (IsLocked L.setup L.publisher L.parts) run.now run.now.turns 1 (record { seat = job.seat; counted = job.pass }) (first_of run.now.setup job.seat.actor) (record { seat = back.seat; counted = back.pass }) last) }
-    ensures kept { IfOk result (λ back. IsGivenBack L.faults job.seat.actor (record { seat = back.seat; counted = back.pass })) }
+    ensures turns { IfOk result (λ back. (last : Option ProcedureState) × ActorsTurns
+        (IsLocked L.setup L.publisher L.parts) run.now run.now.turns 1 (record { seat = job.seat; counted = job.pass })
+        (first_of run.now.setup job.seat.actor) (record { seat = back.seat; counted = back.pass }) last) }
+    ensures kept { IfOk result (λ back.
+        IsGivenBack L.faults job.seat.actor (record { seat = back.seat; counted = back.pass })) }
 {
     let Job { seat, pass } = job;
     let mut access = GroupAccess {
@@ -131,8 +137,12 @@ fn take_turns<'a, L: Scheduled, R: Wait, G: Gate>(
     requires setup { config.now.setup ≡ L.setup }
     requires faults { config.now.faults ≡ L.faults }
     requires within { access.old.seat.actor ≤ config.now.setup.nodes }
-    ensures turns { OnOk result ((last : Option ProcedureState) × ActorsTurns (IsLocked L.setup L.publisher L.parts) config.now config.now.turns 1 (record { seat = access.old.seat; counted = access.old.pass }) (first_of config.now.setup access.old.seat.actor) (record { seat = access.new.seat; counted = access.new.pass }) last) }
-    ensures kept { OnOk result ((actor : ℕ) → IsGivenBack L.faults actor (record { seat = access.old.seat; counted = access.old.pass }) → IsGivenBack L.faults actor (record { seat = access.new.seat; counted = access.new.pass })) }
+    ensures turns { OnOk result ((last : Option ProcedureState) × ActorsTurns (IsLocked L.setup L.publisher L.parts)
+        config.now config.now.turns 1 (record { seat = access.old.seat; counted = access.old.pass }) (first_of
+        config.now.setup access.old.seat.actor) (record { seat = access.new.seat; counted = access.new.pass }) last) }
+    ensures kept { OnOk result ((actor : ℕ)
+        → IsGivenBack L.faults actor (record { seat = access.old.seat; counted = access.old.pass })
+        → IsGivenBack L.faults actor (record { seat = access.new.seat; counted = access.new.pass })) }
 {
     let actor = access.seat.actor();
     let mut role = first_role(access.alloc, config, actor)?;
@@ -171,7 +181,9 @@ fn take_role_turn<'a, L: Scheduled, R: Wait>(
     requires setup { config.now.setup ≡ L.setup }
     requires role { IsRoleOf config.now turn role.old }
     ensures role { OnOk result (IsRoleOf config.now (turn + 1) role.new) }
-    ensures turn { OnOk result (IsActorsTurn (IsLocked L.setup L.publisher L.parts) config.now turn (record { seat = access.old.seat; counted = access.old.pass }) (procedure_of role.old) (record { seat = access.new.seat; counted = access.new.pass }) (procedure_of role.new)) }
+    ensures turn { OnOk result (IsActorsTurn (IsLocked L.setup L.publisher L.parts) config.now turn
+        (record { seat = access.old.seat; counted = access.old.pass }) (procedure_of role.old)
+        (record { seat = access.new.seat; counted = access.new.pass }) (procedure_of role.new)) }
 {
     match role {
         Role::Operator(schedule) => take_operator_turn(access, schedule, turn),

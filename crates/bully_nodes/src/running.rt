@@ -234,7 +234,8 @@ fn start_job<'s, E, L: Scheduled + Send + Sync, R: Threads + Wait + Sync, G: Gat
     let actor = job.seat.actor();
     let thread = move || -> Result<Job<L>, OutOfMemory>
         requires new { (job.seat.actor ≤ L.setup.nodes) × (job.seat.log ≡ []) × (job.pass ≡ 0) }
-        ensures { IfOk result (λ back. IsGivenBack L.faults job.seat.actor (record { seat = back.seat; counted = back.pass })) }
+        ensures { IfOk result (λ back.
+            IsGivenBack L.faults job.seat.actor (record { seat = back.seat; counted = back.pass })) }
     { do_job(run, job) };
     match scope.spawn_with(SeatOf(actor), thread) {
         Ok(handle) => Some(handle),

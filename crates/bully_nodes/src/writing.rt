@@ -15,17 +15,19 @@ use bully_watch::Entry;
 use std::alloc::Global;
 use std::io::Write;
 
-/// Writes the history of a finished group as a trace, in version 1 where that can tell the setup, and else in version 2: a
-/// row for the event of each entry, in order. Where nothing stood before, what is written means that very trace.
-/// Refused as `OutOfMemory` where an allocation fails, and then nothing was written; as `Write` where the writer fails, and
-/// then a prefix of the trace may have been written. The rule: docs/FORMATS.md.
+/// Writes the history of a finished group as a trace, in version 1 where that can tell the setup, and else in version
+/// 2: a row for the event of each entry, in order. Where nothing stood before, what is written means that very trace.
+/// Refused as `OutOfMemory` where an allocation fails, and then nothing was written; as `Write` where the writer fails,
+/// and then a prefix of the trace may have been written. The rule: docs/FORMATS.md.
 pub fn write_history<W: Write>(
     alloc: Global,
     writer: &mut W,
     closed: &Closed,
 ) -> Result<(), PlayFault>
-    ensures written { OnOk result (Appends (W.contents writer.old) (W.contents writer.new) (trace_text (trace_with closed.now.view.setup (map event_of closed.now.history)))) }
-    ensures read_back { OnOk result (W.contents writer.old ≡ Some [] → IsTraceOf (W.contents writer.new) (trace_with closed.now.view.setup (map event_of closed.now.history))) }
+    ensures written { OnOk result (Appends (W.contents writer.old) (W.contents writer.new)
+        (trace_text (trace_with closed.now.view.setup (map event_of closed.now.history)))) }
+    ensures read_back { OnOk result (W.contents writer.old ≡ Some []
+        → IsTraceOf (W.contents writer.new) (trace_with closed.now.view.setup (map event_of closed.now.history))) }
     ensures memory { result ≡ Err PlayFault.OutOfMemory → writer.new ≡ writer.old }
 {
     let trace = trace_of(alloc, closed)?;

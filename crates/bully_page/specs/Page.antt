@@ -1,5 +1,6 @@
 -- What stands in a page: its ends, the title, the text below the picture, and the rows, each with what it changes.
-use Rattle.std.specs.Prelude.{◌≡◌, ℕ, ◌-◌, Bool, true, false, List, [], ◌++◌, ◌==◌, ◌&&◌, Option, Some, None, All, codes, nat_le, not, slice_get, if◌then◌else◌}
+use Rattle.std.specs.Prelude.{◌≡◌, ℕ, ◌-◌, Bool, true, false, List, [], ◌++◌, ◌==◌, ◌&&◌, Option, Some, None, All}
+use Rattle.std.specs.Prelude.{codes, nat_le, not, slice_get, if◌then◌else◌}
 use Rattle.std.specs.Fmt.{decimal}
 use Rattle.std.specs.List.{flat_map}
 use Rattle.std.specs.Str.{chars}
@@ -59,7 +60,8 @@ opening is_decided = if is_decided then codes " class=\"decided\" open" else []
 abbrev pub summary_text : Bool → Scene → List ℕ
 summary_text is_decided s =
     codes "<details id=\"row" ++ decimal s.number ++ codes "\"" ++ opening is_decided
-    ++ (codes "><summary><b>" ++ decimal s.number ++ codes "</b> ") ++ said_text s ++ meaning_text is_decided s ++ codes "</summary>\n"
+    ++ (codes "><summary><b>" ++ decimal s.number ++ codes "</b> ") ++ said_text s ++ meaning_text is_decided s
+    ++ codes "</summary>\n"
 
 -- ---- what it changes
 
@@ -75,7 +77,8 @@ orphan_text is_live = if is_live then [] else codes ", an orphan"
 -- the call in a slot, and how far it came; or that there is none
 abbrev pub slot_text : Option PendingCall → List ℕ
 slot_text None = codes "no call"
-slot_text (Some held) = kind_text held.call.kind ++ (codes " to " ++ decimal held.call.callee ++ []) ++ phase_text held.phase ++ orphan_text held.is_live
+slot_text (Some held) = kind_text held.call.kind ++ (codes " to " ++ decimal held.call.callee ++ [])
+    ++ phase_text held.phase ++ orphan_text held.is_live
 
 -- what is new is bold
 abbrev pub bold_start : Bool → List ℕ
@@ -87,7 +90,8 @@ bold_end is_new = if is_new then codes "</b>" else []
 -- how a node stands: its status and its coordinator, and the call in its slot
 abbrev pub cell_text : Bool → Bool → NodeSnapshot → List ℕ
 cell_text has_new_stand has_new_call node =
-    codes " <td>" ++ bold_start has_new_stand ++ followed_text (status_word node.status) (codes " under ") node.coordinator ++ bold_end has_new_stand
+    codes " <td>" ++ bold_start has_new_stand
+    ++ followed_text (status_word node.status) (codes " under ") node.coordinator ++ bold_end has_new_stand
     ++ codes "<br>" ++ bold_start has_new_call ++ slot_text node.call ++ bold_end has_new_call ++ codes "</td>"
 
 abbrev pub same_phase : Phase → Phase → Bool
@@ -113,8 +117,10 @@ name_text (Some name) = codes ": <bdi>" ++ escaped (chars name) ++ codes "</bdi>
 -- a node before a row and behind it, with these names of the nodes from node 1 on
 abbrev pub change_text : List (List ℕ) → Change → List ℕ
 change_text names change =
-    (codes "<tr><th>node " ++ decimal change.node ++ []) ++ name_text (slice_get names (change.node - 1)) ++ codes "</th>" ++ cell_text false false change.before
-    ++ cell_text (not (is_same_stand change.before change.after)) (not (is_same_slot change.before.call change.after.call)) change.after ++ codes "</tr>\n"
+    (codes "<tr><th>node " ++ decimal change.node ++ []) ++ name_text (slice_get names (change.node - 1))
+    ++ codes "</th>" ++ cell_text false false change.before
+    ++ cell_text (not (is_same_stand change.before change.after))
+    (not (is_same_slot change.before.call change.after.call)) change.after ++ codes "</tr>\n"
 
 -- the other node whose vector the row may change, if there is one
 abbrev pub other_text : List (List ℕ) → Scene → List ℕ
@@ -123,14 +129,16 @@ other_text names s = if s.other.node == s.own.node then [] else change_text name
 -- the node that the row names, and the other one; or that the group, of so many nodes, doesn't have it
 abbrev pub changes_text : ℕ → List (List ℕ) → Scene → List ℕ
 changes_text nodes names s =
-    if nat_le s.own.node nodes then codes "<table>\n<tr><th></th> <th>before</th> <th>behind</th></tr>\n" ++ change_text names s.own ++ other_text names s ++ codes "</table>\n"
+    if nat_le s.own.node nodes then codes "<table>\n<tr><th></th> <th>before</th> <th>behind</th></tr>\n"
+    ++ change_text names s.own ++ other_text names s ++ codes "</table>\n"
     else codes "<p>The group has no node " ++ decimal s.own.node ++ codes ".</p>\n"
 
 -- ---- what else it does
 
 -- that a Halt stops a procedure
 abbrev pub stop_text : Scene → List ℕ
-stop_text s = if s.cuts then codes "<p>The Halt stops the procedure of node " ++ decimal s.other.node ++ codes ".</p>\n" else []
+stop_text s = if s.cuts then codes "<p>The Halt stops the procedure of node " ++ decimal s.other.node ++ codes ".</p>\n"
+    else []
 
 -- the owners, from partition 0 on
 abbrev pub owner_text : ℕ → List ℕ
@@ -146,7 +154,8 @@ table_text (Some owners) = codes ": the owners are" ++ owners_text owners
 -- that a node gets a table
 abbrev pub getting_text : Scene → List ℕ
 getting_text s =
-    if s.gets_table then (codes "<p>Node " ++ decimal s.other.node ++ codes " gets a table") ++ table_text s.table ++ codes ".</p>\n" else []
+    if s.gets_table then (codes "<p>Node " ++ decimal s.other.node ++ codes " gets a table") ++ table_text s.table
+    ++ codes ".</p>\n" else []
 
 -- the effects of a row that was taken; the row that decided has none
 abbrev pub effects_text : Bool → Scene → List ℕ
@@ -156,7 +165,8 @@ effects_text is_decided s = if is_decided then [] else stop_text s ++ getting_te
 
 abbrev pub row_text : Verdict → ℕ → List (List ℕ) → Scene → List ℕ
 row_text verdict nodes names s =
-    summary_text (decides verdict s.number) s ++ changes_text nodes names s ++ effects_text (decides verdict s.number) s ++ codes "</details>\n"
+    summary_text (decides verdict s.number) s ++ changes_text nodes names s ++ effects_text (decides verdict s.number) s
+    ++ codes "</details>\n"
 
 -- the row, if it is shown
 abbrev pub shown_row : Claims → Verdict → ℕ → List (List ℕ) → Scene → List ℕ
@@ -172,15 +182,18 @@ HasRowsOf text claims verdict nodes names scenes =
 
 -- ---- the whole
 
--- what stands before the picture: a head, which says how the page looks, and this title, twice: of the window, and as the heading
+-- what stands before the picture: a head, which says how the page looks, and this title, twice: of the window, and as
+-- the heading
 abbrev pub front_text : List ℕ → List ℕ
 front_text title =
-    page_start ++ HEAD.now ++ titled title ++ codes "\n</head>\n<body>\n" ++ headed title ++ codes "\n<div class=\"picture\">\n"
+    page_start ++ HEAD.now ++ titled title ++ codes "\n</head>\n<body>\n" ++ headed title
+    ++ codes "\n<div class=\"picture\">\n"
 
 -- what stands behind it: the lines of this text, the search, these rows, and the script of the search
 abbrev pub behind_text : List ℕ → List ℕ → List ℕ
 behind_text below rows =
-    codes "</div>\n" ++ lines_text (lines below) ++ SEARCH.now ++ (codes "<div id=\"rows\">\n" ++ rows ++ codes "</div>\n") ++ SCRIPT.now ++ page_end
+    codes "</div>\n" ++ lines_text (lines below) ++ SEARCH.now
+    ++ (codes "<div id=\"rows\">\n" ++ rows ++ codes "</div>\n") ++ SCRIPT.now ++ page_end
 
 -- a page of this title, this picture, this text below it, and these rows
 abbrev pub page_text : List ℕ → List ℕ → List ℕ → List ℕ → List ℕ

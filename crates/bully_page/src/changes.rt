@@ -1,6 +1,8 @@
 //! What a row changes.
 ghost use Rattle.std.specs.Prelude.{◌≡◌, map, option_map};
-ghost use Rattle.bully_page.specs.Page.{bold_end, bold_start, cell_text, change_text, changes_text, effects_text, getting_text, is_same_slot, name_text, orphan_text, other_text, owners_text, phase_text, same_live, same_phase, slot_text, stop_text, table_text};
+ghost use Rattle.bully_page.specs.Page.{bold_end, bold_start, cell_text, change_text, changes_text, effects_text};
+ghost use Rattle.bully_page.specs.Page.{getting_text, is_same_slot, name_text, orphan_text, other_text, owners_text};
+ghost use Rattle.bully_page.specs.Page.{phase_text, same_live, same_phase, slot_text, stop_text, table_text};
 ghost use Rattle.bully_picture.specs.Written.{Writes};
 
 use bully_calls::{PendingCall, Phase};
@@ -9,8 +11,8 @@ use bully_picture::{Paper, is_same_stand, kind_text, name_at, push_followed};
 use bully_rows::{answer_word, status_word};
 use bully_table::Table;
 
-/// Writes what the row changes: the node that it names, and the other one whose vector it may change, before it and behind it; or that
-/// the group doesn't have that node.
+/// Writes what the row changes: the node that it names, and the other one whose vector it may change, before it and
+/// behind it; or that the group doesn't have that node.
 pub fn push_changes(page: &mut Paper, finished: &FinishedFilm, scene: &Scene, names: &[&str])
     ensures { Writes page.old page.new (changes_text finished.now.setup.nodes (map (λ s. s.now) names.now) scene.now) }
 {

@@ -2,7 +2,8 @@
 ghost use Rattle.std.specs.Prelude.{◌≡◌, ◌++◌, false, length, map, IfOk, string_bytes};
 ghost use Rattle.std.specs.Str.Lines.{lines};
 ghost use Rattle.bully_film.specs.Lane.{row_before};
-ghost use Rattle.bully_page.specs.Page.{HasLines, HasRowsOf, IsPage, behind_text, front_text, headed, line_text, lines_text, page_end, page_start, page_text, rows_text, titled};
+ghost use Rattle.bully_page.specs.Page.{HasLines, HasRowsOf, IsPage, behind_text, front_text, headed, line_text};
+ghost use Rattle.bully_page.specs.Page.{lines_text, page_end, page_start, page_text, rows_text, titled};
 ghost use Rattle.bully_picture.specs.Title.{Begins, Ends, Has, title_text};
 ghost use Rattle.bully_picture.specs.Written.{IsIn, Writes};
 ghost use Rattle.bully_trace.specs.VerdictText.{verdict_head};
@@ -50,8 +51,8 @@ details::details-content { content-visibility: visible; block-size: auto; }\n\
 const SEARCH: &str = "\
 <p id=\"search\" hidden><label>Rows with <input type=\"search\" id=\"sought\" autocomplete=\"off\"></label> <output id=\"found\"></output></p>\n";
 
-// The script. The box of the picture opens at the row that decided, and the verdict is a link to it, if it is shown. The search: of what
-// is typed, the rows that have it are open, and the others hidden.
+// The script. The box of the picture opens at the row that decided, and the verdict is a link to it, if it is shown.
+// The search: of what is typed, the rows that have it are open, and the others hidden.
 const SCRIPT: &str = "\
 <script>\n\
 (function () {\n\
@@ -82,9 +83,10 @@ heading.append(link);\n\
 }());\n\
 </script>\n";
 
-/// The page of what a film shows: an HTML document with the verdict, this picture as it is, this text below it, a line each, and the
-/// rows, each once and in order, folded, with what it changes inside. With these names of the nodes, from node 1 on. Where claims are left
-/// out, so are their rows, but for one that decided. Refused where an allocation fails.
+/// The page of what a film shows: an HTML document with the verdict, this picture as it is, this text below it, a line
+/// each, and the rows, each once and in order, folded, with what it changes inside. With these names of the nodes, from
+/// node 1 on. Where claims are left out, so are their rows, but for one that decided. Refused where an allocation
+/// fails.
 pub fn html_page(
     alloc: Global,
     finished: &FinishedFilm,
@@ -96,17 +98,22 @@ pub fn html_page(
     ensures document { IfOk result (λ text. IsPage (string_bytes text)) }
     ensures verdict { IfOk result (λ text. Has (string_bytes text) (verdict_head finished.now.verdict)) }
     ensures title { IfOk result (λ text. Has (string_bytes text)
-        (titled (title_text finished.now.verdict finished.now.setup.nodes finished.now.setup.partitions (row_before finished.now.scenes.items) (length finished.now.scenes.items)))) }
+        (titled (title_text finished.now.verdict finished.now.setup.nodes finished.now.setup.partitions
+        (row_before finished.now.scenes.items) (length finished.now.scenes.items)))) }
     ensures heading { IfOk result (λ text. Has (string_bytes text)
-        (headed (title_text finished.now.verdict finished.now.setup.nodes finished.now.setup.partitions (row_before finished.now.scenes.items) (length finished.now.scenes.items)))) }
+        (headed (title_text finished.now.verdict finished.now.setup.nodes finished.now.setup.partitions
+        (row_before finished.now.scenes.items) (length finished.now.scenes.items)))) }
     ensures picture { IfOk result (λ text. Has (string_bytes text) picture.now) }
     ensures below { IfOk result (λ text. HasLines (string_bytes text) below.now) }
-    ensures rows { IfOk result (λ text. HasRowsOf (string_bytes text) claims finished.now.verdict finished.now.setup.nodes (map (λ s. s.now) names.now) finished.now.scenes.items) }
+    ensures rows { IfOk result (λ text. HasRowsOf (string_bytes text) claims finished.now.verdict
+        finished.now.setup.nodes (map (λ s. s.now) names.now) finished.now.scenes.items) }
 
     // It has nothing else.
     ensures whole { IfOk result (λ text. string_bytes text ≡ page_text
-        (title_text finished.now.verdict finished.now.setup.nodes finished.now.setup.partitions (row_before finished.now.scenes.items) (length finished.now.scenes.items))
-        picture.now below.now (rows_text claims finished.now.verdict finished.now.setup.nodes (map (λ s. s.now) names.now) finished.now.scenes.items)) }
+        (title_text finished.now.verdict finished.now.setup.nodes finished.now.setup.partitions
+        (row_before finished.now.scenes.items) (length finished.now.scenes.items))
+        picture.now below.now (rows_text claims finished.now.verdict finished.now.setup.nodes
+        (map (λ s. s.now) names.now) finished.now.scenes.items)) }
 {
     let front = front_of(alloc, finished);
     let behind = behind_of(alloc, finished, names, claims, below);
@@ -130,11 +137,14 @@ fn joined(front: Paper, picture: &str, behind: Paper) -> Result<String, OutOfMem
 fn front_of(alloc: Global, finished: &FinishedFilm) -> Paper
     ensures begins { IsIn result (λ text. Begins text page_start) }
     ensures title { IsIn result (λ text. Has text
-        (titled (title_text finished.now.verdict finished.now.setup.nodes finished.now.setup.partitions (row_before finished.now.scenes.items) (length finished.now.scenes.items)))) }
+        (titled (title_text finished.now.verdict finished.now.setup.nodes finished.now.setup.partitions
+        (row_before finished.now.scenes.items) (length finished.now.scenes.items)))) }
     ensures heading { IsIn result (λ text. Has text
-        (headed (title_text finished.now.verdict finished.now.setup.nodes finished.now.setup.partitions (row_before finished.now.scenes.items) (length finished.now.scenes.items)))) }
+        (headed (title_text finished.now.verdict finished.now.setup.nodes finished.now.setup.partitions
+        (row_before finished.now.scenes.items) (length finished.now.scenes.items)))) }
     ensures text { IsIn result (λ text. text ≡ front_text
-        (title_text finished.now.verdict finished.now.setup.nodes finished.now.setup.partitions (row_before finished.now.scenes.items) (length finished.now.scenes.items))) }
+        (title_text finished.now.verdict finished.now.setup.nodes finished.now.setup.partitions
+        (row_before finished.now.scenes.items) (length finished.now.scenes.items))) }
 {
     let mut front = Paper::new(alloc);
     front.push("<!DOCTYPE html>\n");
@@ -154,7 +164,8 @@ fn push_titled(
     behind: &'static str,
 )
     ensures { Writes page.old page.new
-        (before.now ++ title_text finished.now.verdict finished.now.setup.nodes finished.now.setup.partitions (row_before finished.now.scenes.items) (length finished.now.scenes.items) ++ behind.now) }
+        (before.now ++ title_text finished.now.verdict finished.now.setup.nodes finished.now.setup.partitions
+        (row_before finished.now.scenes.items) (length finished.now.scenes.items) ++ behind.now) }
 {
     page.push(before);
     push_title(page, finished);
@@ -171,9 +182,11 @@ fn behind_of(
 ) -> Paper
     ensures ends { IsIn result (λ text. Ends text page_end) }
     ensures below { IsIn result (λ text. HasLines text below.now) }
-    ensures rows { IsIn result (λ text. HasRowsOf text claims finished.now.verdict finished.now.setup.nodes (map (λ s. s.now) names.now) finished.now.scenes.items) }
+    ensures rows { IsIn result (λ text. HasRowsOf text claims finished.now.verdict finished.now.setup.nodes
+        (map (λ s. s.now) names.now) finished.now.scenes.items) }
     ensures text { IsIn result (λ text. text ≡ behind_text below.now
-        (rows_text claims finished.now.verdict finished.now.setup.nodes (map (λ s. s.now) names.now) finished.now.scenes.items)) }
+        (rows_text claims finished.now.verdict finished.now.setup.nodes
+        (map (λ s. s.now) names.now) finished.now.scenes.items)) }
 {
     let mut behind = Paper::new(alloc);
     behind.push("</div>\n");

@@ -9,7 +9,8 @@ use bully_picture::{Claims, Paper, is_shown, push_meaning, push_said};
 
 /// Writes the rows of a film, with these names of the nodes.
 pub fn push_rows(page: &mut Paper, finished: &FinishedFilm, names: &[&str], claims: Claims)
-    ensures { Writes page.old page.new (rows_text claims finished.now.verdict finished.now.setup.nodes (map (λ s. s.now) names.now) finished.now.scenes.items) }
+    ensures { Writes page.old page.new (rows_text claims finished.now.verdict finished.now.setup.nodes
+        (map (λ s. s.now) names.now) finished.now.scenes.items) }
 {
     for scene in finished.scenes.as_slice() {
         if is_shown(claims, finished.verdict, scene) {
@@ -20,7 +21,8 @@ pub fn push_rows(page: &mut Paper, finished: &FinishedFilm, names: &[&str], clai
 
 // Writes a row, folded, but for the one that decided.
 fn push_row(page: &mut Paper, finished: &FinishedFilm, scene: &Scene, names: &[&str])
-    ensures { Writes page.old page.new (row_text finished.now.verdict finished.now.setup.nodes (map (λ s. s.now) names.now) scene.now) }
+    ensures { Writes page.old page.new
+        (row_text finished.now.verdict finished.now.setup.nodes (map (λ s. s.now) names.now) scene.now) }
 {
     let decides = finished.verdict.decides(scene.number);
     push_summary(page, scene, decides);

@@ -12,9 +12,11 @@ text_with None held = None
 text_with (Some bytes) held = if is_whole bytes then Some (unpainted (bytes ++ held)) else None
 
 module _ {W : Type 0} {g : Ghosts W} where
-  -- what was written: with marks, the text of what the writer below got, of what is next there, and of what is held back
+  -- what was written: with marks, the text of what the writer below got, of what is next there, and of what is held
+  -- back
   abbrev pub text_in : Painted W g → Option (List ℕ)
-  text_in p = if p.paints then text_with (append_known (g.contents p.below) p.queue.now) p.held.now else g.contents p.below
+  text_in p = if p.paints then text_with (append_known (g.contents p.below) p.queue.now) p.held.now else
+      g.contents p.below
 
   -- nothing is held back: what the writer below got is all
   abbrev pub IsSent : Painted W g → Type 0

@@ -1,5 +1,7 @@
--- What goes out of bytes that are written one by one: a word that has a colour is held back up to its end, and goes out as it is painted.
-use Rattle.std.specs.Prelude.{◌≡◌, ℕ, ◌-◌, Bool, true, false, not, ◌&&◌, ◌==◌, List, [], ◌∷◌, ◌++◌, codes, drop, length, slice_get, take, if◌then◌else◌}
+-- What goes out of bytes that are written one by one: a word that has a colour is held back up to its end, and goes out
+-- as it is painted.
+use Rattle.std.specs.Prelude.{◌≡◌, ℕ, ◌-◌, Bool, true, false, not, ◌&&◌, ◌==◌, List, [], ◌∷◌, ◌++◌, codes, drop, length}
+use Rattle.std.specs.Prelude.{slice_get, take, if◌then◌else◌}
 use Rattle.std.specs.List.{list_any}
 use Rattle.std.specs.Option.{option_map_or}
 use Rattle.std.specs.Str.{bytes_eq}
@@ -62,7 +64,8 @@ begun out within b =
 abbrev pub stroke : Brush → ℕ → Stroke
 stroke brush b =
     if joins brush b then record { out = []; brush = record brush { held = brush.held ++ b ∷ [] } }
-    else if joins_title brush.held b then record { out = codes "the "; brush = record brush { held = drop 4 brush.held ++ b ∷ [] } }
+    else if joins_title brush.held b
+    then record { out = codes "the "; brush = record brush { held = drop 4 brush.held ++ b ∷ [] } }
     else begun (ending_of brush.held b) (goes_within brush.within brush.held) b
 
 -- behind several bytes
@@ -76,4 +79,5 @@ strokes brush (b ∷ bytes) =
 -- what goes out of a word up to what parts it from the next one is its painting, and nothing is held back then
 abbrev pub PaintsWords : Type 0
 PaintsWords =
-    (word : Word) (b : ℕ) → is_separator b ≡ true → strokes clean (text_of word ++ b ∷ []) ≡ record { out = painting_of word ++ b ∷ []; brush = clean }
+    (word : Word) (b : ℕ) → is_separator b ≡ true
+    → strokes clean (text_of word ++ b ∷ []) ≡ record { out = painting_of word ++ b ∷ []; brush = clean }

@@ -41,7 +41,8 @@ painting_of word = mark_of (style_of word) ++ text_of word ++ mark_of (codes "0"
 
 abbrev pub every_word : List Word
 every_word =
-    Word.Lawful ∷ Word.Refused ∷ Word.Differs ∷ Word.Election ∷ Word.Reorganization ∷ Word.Normal ∷ Word.Down ∷ Word.Rule ∷ Word.Step
+    Word.Lawful ∷ Word.Refused ∷ Word.Differs ∷ Word.Election ∷ Word.Reorganization ∷ Word.Normal ∷ Word.Down
+    ∷ Word.Rule ∷ Word.Step
     ∷ Word.Fault ∷ Word.Mistake ∷ []
 
 -- the word of this text

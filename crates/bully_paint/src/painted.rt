@@ -1,5 +1,6 @@
 //! A writer that paints words.
-ghost use Rattle.std.specs.Prelude.{◌≡◌, ◌∷◌, ◌++◌, ◌<◌, ◌≤◌, [], true, false, codes, drop, length, slice_index, take, IfOk, OnOk};
+ghost use Rattle.std.specs.Prelude.{◌≡◌, ◌∷◌, ◌++◌, ◌<◌, ◌≤◌, [], true, false, codes, drop, length, slice_index, take};
+ghost use Rattle.std.specs.Prelude.{IfOk, OnOk};
 ghost use Rattle.std.specs.Io.KnownBytes.{Appends, Keeps, WriteAppends};
 ghost use Rattle.std.specs.Io.{WritesAtMost};
 ghost use Rattle.bully_paint.specs.Marks.{is_whole, unpainted};
@@ -16,8 +17,8 @@ const ESCAPE: u8 = 0x1b;
 /// An ESC that is text, as a terminal gets it: with a mark behind it, so that it begins none with what follows.
 const KEPT_ESCAPE: &[u8] = b"\x1b\x1b[0m";
 
-/// A writer through which words get colours, if it paints. What it holds back are at most the bytes of a word that isn't at its end:
-/// up to the byte that ends it, a flush or a drop.
+/// A writer through which words get colours, if it paints. What it holds back are at most the bytes of a word that
+/// isn't at its end: up to the byte that ends it, a flush or a drop.
 pub struct Painted<W: Write + Drop> {
     below: W,
     paints: bool,
@@ -89,14 +90,16 @@ impl<W: Write + Drop> Painted<W> {
         self.pass(bytes)
     }
 
-    // Whether the byte is held back, as it goes on with a word that may have a colour, or with one behind an article that is held back.
+    // Whether the byte is held back, as it goes on with a word that may have a colour, or with one behind an article
+    // that is held back.
     fn goes_on(&mut self, byte: u8) -> bool
         requires queue { self.old.queue.now ≡ [] }
         requires paints { self.old.paints ≡ true }
         ensures held { result ≡ true → Appends (text_in self.old) (text_in self.new) (byte ∷ []) }
         ensures free { result ≡ false → self.new ≡ self.old }
         ensures painted { result ≡ true → PaintsByte self.old self.new byte }
-        ensures other { result ≡ false → (joins (brush_of self.new) byte ≡ false) × (joins_title self.new.held.now byte ≡ false) }
+        ensures other { result ≡ false → (joins (brush_of self.new) byte ≡ false)
+            × (joins_title self.new.held.now byte ≡ false) }
     {
         if self.holds(byte) {
             return true;
@@ -111,7 +114,8 @@ impl<W: Write + Drop> Painted<W> {
         ensures held { result ≡ true → Appends (text_in self.old) (text_in self.new) (byte ∷ []) }
         ensures free { result ≡ false → self.new ≡ self.old }
         ensures joins { result ≡ joins (brush_of self.old) byte }
-        ensures painted { result ≡ true → GoesOut self.old self.new (record { out = []; brush = record (brush_of self.old) { held = self.old.held.now ++ byte ∷ [] } }) }
+        ensures painted { result ≡ true → GoesOut self.old self.new
+            (record { out = []; brush = record (brush_of self.old) { held = self.old.held.now ++ byte ∷ [] } }) }
     {
         if self.within || byte == ESCAPE {
             return false;
@@ -132,7 +136,10 @@ impl<W: Write + Drop> Painted<W> {
         ensures held { result ≡ true → Appends (text_in self.old) (text_in self.new) (byte ∷ []) }
         ensures free { result ≡ false → self.new ≡ self.old }
         ensures joins { result ≡ joins_title self.old.held.now byte }
-        ensures painted { result ≡ true → GoesOut self.old self.new (record { out = codes "the "; brush = record (brush_of self.old) { held = drop 4 self.old.held.now ++ byte ∷ [] } }) }
+        ensures painted { result ≡ true → GoesOut self.old self.new (record {
+          out = codes "the ";
+          brush = record (brush_of self.old) { held = drop 4 self.old.held.now ++ byte ∷ [] };
+        }) }
     {
         if byte == ESCAPE {
             return false;
@@ -156,7 +163,10 @@ impl<W: Write + Drop> Painted<W> {
         ensures text { Keeps (text_in self.old) (text_in self.new) }
         ensures held { self.new.held.now ≡ [] }
         ensures paints { self.new.paints ≡ true }
-        ensures painted { GoesOut self.old self.new (record { out = out.now; brush = record { held = []; within = goes_within self.old.within self.old.held.now } }) }
+        ensures painted { GoesOut self.old self.new (record {
+          out = out.now;
+          brush = record { held = []; within = goes_within self.old.within self.old.held.now };
+        }) }
     {
         self.within = goes_within(self.within, self.held);
         self.queue = out;
@@ -172,7 +182,8 @@ impl<W: Write + Drop> Painted<W> {
         ensures bound { WritesAtMost result bytes.now }
         ensures bytes { WriteAppends (text_in self.old) (text_in self.new) result bytes.now }
         ensures one { IfOk result (λ count. count ≤ 1) }
-        ensures painted { IfOk result (λ count. count ≡ 1 → GoesOut self.old self.new (passed [] (slice_index bytes.now 0))) }
+        ensures painted { IfOk result (λ count. count ≡ 1
+            → GoesOut self.old self.new (passed [] (slice_index bytes.now 0))) }
     {
         let byte = bytes[0];
         if byte == ESCAPE {
@@ -197,7 +208,8 @@ impl<W: Write + Drop> Write for Painted<W> {
     fn write(&mut self, buf: &[u8]) -> io::Result<usize>
         ensures bound { WritesAtMost result buf.now }
         ensures bytes { WriteAppends (text_in self.old) (text_in self.new) result buf.now }
-        ensures painted { self.old.paints ≡ true → IfOk result (λ count. 0 < count → Paints self.old self.new (take count buf.now)) }
+        ensures painted { self.old.paints ≡ true
+            → IfOk result (λ count. 0 < count → Paints self.old self.new (take count buf.now)) }
     {
         if self.paints {
             self.paint(buf)

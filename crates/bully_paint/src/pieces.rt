@@ -13,7 +13,8 @@ pub const ARTICLE: &[u8] = b"the ";
 
 /// Writes these bytes up to their end or to the first write that fails, and tells what is left of them.
 pub fn put<W: Write>(below: &mut W, bytes: &'static [u8]) -> (&'static [u8], io::Result<()>)
-    ensures bytes { Keeps (append_known (W.contents below.old) bytes.now) (append_known (W.contents below.new) result.0.now) }
+    ensures bytes { Keeps (append_known (W.contents below.old) bytes.now)
+        (append_known (W.contents below.new) result.0.now) }
     ensures empty { OnOk result.1 (result.0.now ≡ []) }
 {
     let mut rest = bytes;
@@ -53,7 +54,8 @@ pub fn goes_within(within: bool, bytes: &[u8]) -> bool
 /// Behind an article in this front, the front of a word that the rest of it and this byte are, if they are one.
 pub fn title_in(front: &[u8], byte: u8) -> Option<&'static [u8]>
     ensures title { IfSome result (λ title. codes "the " ++ title.now ≡ front.now ++ byte ∷ []) }
-    ensures joins { MatchOption result (joins_article front.now byte ≡ false) (λ title. (joins_article front.now byte ≡ true) × (title.now ≡ drop 4 front.now ++ byte ∷ [])) }
+    ensures joins { MatchOption result (joins_article front.now byte ≡ false) (λ title.
+        (joins_article front.now byte ≡ true) × (title.now ≡ drop 4 front.now ++ byte ∷ [])) }
 {
     longer(front.strip_prefix(ARTICLE)?, byte)
 }

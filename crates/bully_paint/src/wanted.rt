@@ -2,10 +2,11 @@
 ghost use Rattle.std.specs.Prelude.{◌≡◌, option_map, codes};
 ghost use Rattle.bully_paint.specs.Wanted.{is_able, is_unset, wants_colours};
 
-/// Whether a terminal is to have colours, by the values of `NO_COLOR` and `TERM`, where they are set: not if the first has a value that
-/// isn't empty, nor on a terminal without a name or one named `dumb`. The rule: docs/FORMATS.md.
+/// Whether a terminal is to have colours, by the values of `NO_COLOR` and `TERM`, where they are set: not if the first
+/// has a value that isn't empty, nor on a terminal without a name or one named `dumb`. The rule: docs/FORMATS.md.
 pub fn wants_colours(no_color: Option<&str>, term: Option<&str>) -> bool
-    ensures { result ≡ wants_colours (option_map (λ text. text.now) no_color.entry) (option_map (λ text. text.now) term.entry) }
+    ensures { result
+        ≡ wants_colours (option_map (λ text. text.now) no_color.entry) (option_map (λ text. text.now) term.entry) }
 {
     is_empty(no_color) && is_able(term)
 }

@@ -127,7 +127,8 @@ pub fn is_separator(byte: u8) -> bool
 /// The front of a word that this text and this byte are, if they are one.
 pub fn longer(front: &[u8], byte: u8) -> Option<&'static [u8]>
     ensures longer { IfSome result (λ longer. longer.now ≡ front.now ++ byte ∷ []) }
-    ensures front { MatchOption result (is_front (front.now ++ byte ∷ []) ≡ false) (λ _. is_front (front.now ++ byte ∷ []) ≡ true) }
+    ensures front { MatchOption result (is_front (front.now ++ byte ∷ []) ≡ false) (λ _.
+        is_front (front.now ++ byte ∷ []) ≡ true) }
 {
     for word in WORDS.iter() {
         let text = word.text().as_bytes();
@@ -140,7 +141,8 @@ pub fn longer(front: &[u8], byte: u8) -> Option<&'static [u8]>
 
 // Whether the text begins with this front and this byte.
 fn is_next(text: &[u8], front: &[u8], byte: u8) -> bool
-    ensures next { result ≡ true → (length front.now < length text.now) × (take (length front.now + 1) text.now ≡ front.now ++ byte ∷ []) }
+    ensures next { result ≡ true
+        → (length front.now < length text.now) × (take (length front.now + 1) text.now ≡ front.now ++ byte ∷ []) }
     ensures begins { result ≡ begins text.now (front.now ++ byte ∷ []) }
 {
     let Some(rest) = text.strip_prefix(front) else {

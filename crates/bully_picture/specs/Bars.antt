@@ -1,5 +1,7 @@
--- What stands in a picture of how the nodes stand: a bar for each stretch of rows over which a node keeps its status and its coordinator.
-use Rattle.std.specs.Prelude.{◌≡◌, ℕ, ◌-◌, ◌<◌, ◌≤◌, Bool, true, false, List, [], ◌∷◌, ◌++◌, All, Some, codes, map, slice_get}
+-- What stands in a picture of how the nodes stand: a bar for each stretch of rows over which a node keeps its status
+-- and its coordinator.
+use Rattle.std.specs.Prelude.{◌≡◌, ℕ, ◌-◌, ◌<◌, ◌≤◌, Bool, true, false, List, [], ◌∷◌, ◌++◌, All, Some, codes, map}
+use Rattle.std.specs.Prelude.{slice_get}
 use Rattle.std.specs.Fmt.{decimal}
 use Rattle.bully_base.specs.declared.node.Status.{Status}
 use Rattle.bully_rows.specs.Words.{status_word}
@@ -36,10 +38,12 @@ abbrev pub behind_rows : Bool → ℕ → ℕ → List ℕ
 behind_rows false first last = []
 behind_rows true first last = (codes ", behind rows " ++ decimal first ++ codes " to ") ++ (decimal last ++ [])
 
--- the look of a bar of node i, and what is shown where the pointer rests on it: the node, how it stood, and behind which rows
+-- the look of a bar of node i, and what is shown where the pointer rests on it: the node, how it stood, and behind
+-- which rows
 abbrev pub bar_label : Bool → ℕ → Bar → List ℕ
 bar_label shows i bar =
-    bar_look bar.seen.status ++ (codes "<title>node " ++ decimal i ++ codes ": ") ++ stand_text bar.seen ++ behind_rows shows bar.first bar.last ++ codes "</title>"
+    bar_look bar.seen.status ++ (codes "<title>node " ++ decimal i ++ codes ": ") ++ stand_text bar.seen
+    ++ behind_rows shows bar.first bar.last ++ codes "</title>"
 
 -- all of these bars of node i stand there, and those of all lanes
 abbrev pub HasBars : List ℕ → Bool → ℕ → List Bar → Type 0
@@ -52,9 +56,10 @@ HasLaneBars text shows lanes = All (λ lane. HasBars text shows lane.node lane.b
 abbrev pub IsBehind : {T : Type 0} → ℕ → List T → T → ℕ → Type 0
 IsBehind first values value row = (first ≤ row) × (slice_get values (row - first) ≡ Some value)
 
--- the text has a bar of how node i stood behind this row. It goes from one row to another around this one, and behind each of those the
--- node stood so
-pub record HasBar (text : List ℕ) (shows : Bool) (i first : ℕ) (stands : List Stand) (stand : Stand) (row : ℕ) : Type 0 where
+-- the text has a bar of how node i stood behind this row. It goes from one row to another around this one, and behind
+-- each of those the node stood so
+pub record HasBar (text : List ℕ) (shows : Bool) (i first : ℕ) (stands : List Stand) (stand : Stand)
+    (row : ℕ) : Type 0 where
   pub from : ℕ
   pub to : ℕ
   pub around : (from ≤ row) × (row ≤ to)

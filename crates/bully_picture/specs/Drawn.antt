@@ -1,6 +1,7 @@
--- What stands in a picture of what a film shows: the number and the text of each row that is shown, the name of each node, an arrow of each
--- call, and the text below.
-use Rattle.std.specs.Prelude.{◌≡◌, ℕ, ◌+◌, ◌-◌, ◌<◌, ◌≤◌, Bool, true, false, List, [], ◌∷◌, ◌++◌, Option, Some, None, All, codes, filter, get_or, is_some, map, not, ◌||◌, ◌&&◌, if◌then◌else◌}
+-- What stands in a picture of what a film shows: the number and the text of each row that is shown, the name of each
+-- node, an arrow of each call, and the text below.
+use Rattle.std.specs.Prelude.{◌≡◌, ℕ, ◌+◌, ◌-◌, ◌<◌, ◌≤◌, Bool, true, false, List, [], ◌∷◌, ◌++◌, Option, Some, None}
+use Rattle.std.specs.Prelude.{All, codes, filter, get_or, is_some, map, not, ◌||◌, ◌&&◌, if◌then◌else◌}
 use Rattle.std.specs.Fmt.{decimal}
 use Rattle.std.specs.List.{join_with_byte}
 use Rattle.std.specs.Str.{chars}
@@ -47,14 +48,16 @@ colour_of is_decided plain = if is_decided then codes "#D55E00" else plain
 -- the number of a row at the left, at this height
 abbrev pub number_text : ℕ → Bool → ℕ → List ℕ
 number_text y is_decided row =
-    (codes "<text x=\"48\" y=\"" ++ decimal y ++ codes "\" font-size=\"10\" text-anchor=\"end\" fill=\"") ++ colour_of is_decided (codes "#777")
+    (codes "<text x=\"48\" y=\"" ++ decimal y ++ codes "\" font-size=\"10\" text-anchor=\"end\" fill=\"")
+    ++ colour_of is_decided (codes "#777")
     ++ (codes "\">" ++ decimal row ++ codes "</text>\n")
 
 -- the text is the numbers of these rows, one after the other
 abbrev pub AreNumbers : Verdict → List Scene → List ℕ → Type 0
 AreNumbers verdict [] text = text ≡ []
 AreNumbers verdict (s ∷ scenes) text =
-    (y : ℕ) × (rest : List ℕ) × (text ≡ number_text y (decides verdict s.number) s.number ++ rest) × AreNumbers verdict scenes rest
+    (y : ℕ) × (rest : List ℕ) × (text ≡ number_text y (decides verdict s.number) s.number ++ rest)
+    × AreNumbers verdict scenes rest
 
 -- the word and the node of a row
 abbrev pub row_word : Option EventKind → List ℕ
@@ -70,28 +73,36 @@ bare_text event_kind i = row_word event_kind ++ (codes "," ++ decimal i ++ [])
 
 -- the row as a line of the trace has it
 abbrev pub said_text : Scene → List ℕ
-said_text s = elim s.said as (λ _. List ℕ) [ None ↦ bare_text s.event_kind s.own.node | Some row ↦ join_with_byte 44 (row_fields row) ]
+said_text s = elim s.said as (λ _.
+    List ℕ) [ None ↦ bare_text s.event_kind s.own.node | Some row ↦ join_with_byte 44 (row_fields row) ]
 
 -- who gets a table that has no room at the lane: it stands behind these words where it is shown
 abbrev pub getting_text : Scene → List ℕ
 getting_text s =
     if is_some s.table && is_plan s.event_kind then codes ":"
-    else (codes ": " ++ decimal s.other.node ++ codes " ") ++ (if is_some s.table then codes "gets" else codes "gets a table")
+    else (codes ": " ++ decimal s.other.node ++ codes " ") ++ (if is_some s.table then codes "gets" else
+    codes "gets a table")
 
--- what stands behind what a row says: what it does, or, without room at the lane, who gets a table; nothing of the row that decided
+-- what stands behind what a row says: what it does, or, without room at the lane, who gets a table; nothing of the row
+-- that decided
 abbrev pub tail_text : Bool → Bool → Scene → List ℕ
-tail_text has_room is_decided s = if not is_decided && s.gets_table && not has_room then getting_text s else meaning_text is_decided s
+tail_text has_room is_decided s = if not is_decided && s.gets_table && not has_room then getting_text s else
+    meaning_text is_decided s
 
 -- the row's text at the right of its line, with as many letters at most, and what stands behind it
 abbrev pub HasText : List ℕ → Bool → Scene → Type 0
 HasText text is_decided s =
     (letters : ℕ) × (has_room : Bool)
-    × Has text (codes " fill=\"" ++ colour_of is_decided (codes "#555") ++ codes "\">" ++ cut_text letters (said_text s) ++ tail_text has_room is_decided s ++ codes "</text>\n")
+    × Has text (codes " fill=\"" ++ colour_of is_decided (codes "#555") ++ codes "\">" ++ cut_text letters (said_text s)
+    ++ tail_text has_room is_decided s ++ codes "</text>\n")
 
--- a node over its lane: all of its name, for where the pointer rests; or its number, where it has none, behind a word in wide lanes
+-- a node over its lane: all of its name, for where the pointer rests; or its number, where it has none, behind a word
+-- in wide lanes
 abbrev pub node_label : Bool → ℕ → Option (List ℕ) → List ℕ
-node_label is_wide i (Some name) = codes "<title>node " ++ decimal i ++ codes ": " ++ escaped (chars name) ++ codes "</title></text>\n"
-node_label is_wide i None = codes " unicode-bidi=\"isolate\">" ++ (if is_wide then codes "node " else []) ++ decimal i ++ codes "</text>\n"
+node_label is_wide i (Some name) =
+    codes "<title>node " ++ decimal i ++ codes ": " ++ escaped (chars name) ++ codes "</title></text>\n"
+node_label is_wide i None =
+    codes " unicode-bidi=\"isolate\">" ++ (if is_wide then codes "node " else []) ++ decimal i ++ codes "</text>\n"
 
 -- the arrow of a call of node i, which its slot holds behind these rows
 abbrev pub arrow_label : ℕ → Call → ℕ → ℕ → List ℕ
@@ -103,7 +114,8 @@ abbrev pub has_failed : Phase → Bool
 has_failed Phase.Failed = true
 has_failed _ = false
 
--- of what the slot of node i holds behind these rows: the arrow of a call that was sent, or ran; nothing of one that failed
+-- of what the slot of node i holds behind these rows: the arrow of a call that was sent, or ran; nothing of one that
+-- failed
 abbrev pub held_label : ℕ → ℕ → ℕ → Option HeldCall → List ℕ
 held_label i first last None = []
 held_label i first last (Some held) = if has_failed held.phase then [] else arrow_label i held.call first last
@@ -118,7 +130,8 @@ HasSaid text verdict scenes = All (λ s. HasText text (decides verdict s.number)
 
 -- so many nodes, from node 1 on, have their names here, or their numbers, all of one kind
 abbrev pub HasNodes : List ℕ → ℕ → (ℕ → Option (List ℕ)) → Type 0
-HasNodes text nodes name_at = (is_wide : Bool) × ((i : ℕ) → i < nodes → Has text (node_label is_wide (i + 1) (name_at i)))
+HasNodes text nodes name_at =
+    (is_wide : Bool) × ((i : ℕ) → i < nodes → Has text (node_label is_wide (i + 1) (name_at i)))
 
 -- all stretches of the slot of node i have their arrows
 abbrev pub HasHoldings : List ℕ → ℕ → List Holding → Type 0
@@ -132,9 +145,10 @@ HasLanes text lanes = All (λ lane. HasHoldings text lane.node lane.holdings.ite
 abbrev pub Holds : ℕ → List (Option HeldCall) → HeldCall → ℕ → Type 0
 Holds first helds held row = (first ≤ row) × (get_or helds (row - first) None ≡ Some held)
 
--- the text has an arrow of what the slot of node i holds behind this row. It goes from one row to another around this one, and behind each
--- of those the slot holds the same
-pub record HasArrow (text : List ℕ) (i first : ℕ) (helds : List (Option HeldCall)) (held : HeldCall) (row : ℕ) : Type 0 where
+-- the text has an arrow of what the slot of node i holds behind this row. It goes from one row to another around this
+-- one, and behind each of those the slot holds the same
+pub record HasArrow (text : List ℕ) (i first : ℕ) (helds : List (Option HeldCall)) (held : HeldCall)
+    (row : ℕ) : Type 0 where
   pub from : ℕ
   pub to : ℕ
   pub around : (from ≤ row) × (row ≤ to)
@@ -143,7 +157,8 @@ pub record HasArrow (text : List ℕ) (i first : ℕ) (helds : List (Option Held
 
 -- each call has its that the slot of node i holds behind a row from the first on, and that was sent, or ran
 abbrev pub HasArrows : List ℕ → ℕ → ℕ → List (Option HeldCall) → Type 0
-HasArrows text i first helds = (held : HeldCall) (row : ℕ) → Holds first helds held row → has_failed held.phase ≡ false → HasArrow text i first helds held row
+HasArrows text i first helds = (held : HeldCall) (row : ℕ) → Holds first helds held row → has_failed held.phase ≡ false
+    → HasArrow text i first helds held row
 
 -- each of so many nodes, from node 1 on, stood so behind each row from the first on: its calls have their arrows
 abbrev pub HasCalls : List ℕ → ℕ → ℕ → (ℕ → List NodeSnapshot) → Type 0

@@ -1,6 +1,7 @@
 -- Text within an XML document.
 use Rattle.std.specs.Str.{chars}
-use Rattle.std.specs.Prelude.{ℕ, Bool, List, [], ◌∷◌, ◌++◌, ◌==◌, ◌||◌, ◌&&◌, length, take, codes, encode_utf8, nat_lt, nat_le, if◌then◌else◌}
+use Rattle.std.specs.Prelude.{ℕ, Bool, List, [], ◌∷◌, ◌++◌, ◌==◌, ◌||◌, ◌&&◌, length, take, codes, encode_utf8, nat_lt}
+use Rattle.std.specs.Prelude.{nat_le, if◌then◌else◌}
 
 -- a control character, or one that no XML document has
 abbrev pub is_forbidden : ℕ → Bool
@@ -30,4 +31,5 @@ hover_text line = codes "<title>" ++ escaped (chars line) ++ codes "</title>"
 
 -- so many letters of a line, and, where it has more bytes, all of it for where the pointer rests
 abbrev pub cut_text : ℕ → List ℕ → List ℕ
-cut_text letters line = escaped (shortened letters (chars line)) ++ (if nat_lt letters (length line) then hover_text line else [])
+cut_text letters line =
+    escaped (shortened letters (chars line)) ++ (if nat_lt letters (length line) then hover_text line else [])

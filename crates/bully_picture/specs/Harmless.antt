@@ -10,8 +10,8 @@ entities = codes "lt;" ∷ codes "gt;" ∷ codes "amp;" ∷ codes "quot;" ∷ co
 abbrev pub BeginsEntity : List ℕ → Type 0
 BeginsEntity text = (name : List ℕ) × (rest : List ℕ) × Contains entities name × (text ≡ name ++ rest)
 
--- a letter, before these ones, that begins or ends no tag, ends no attribute, is no control character, and is an & only before the name of
--- an entity
+-- a letter, before these ones, that begins or ends no tag, ends no attribute, is no control character, and is an & only
+-- before the name of an entity
 pub record IsHarmlessLetter (letter : ℕ) (behind : List ℕ) : Type 0 where
   pub no_less_than : letter ≢ 60
   pub no_greater_than : letter ≢ 62
@@ -22,4 +22,5 @@ pub record IsHarmlessLetter (letter : ℕ) (behind : List ℕ) : Type 0 where
 
 -- all letters of the text are so, each before what stands behind it
 abbrev pub IsHarmless : List ℕ → Type 0
-IsHarmless letters = (before behind : List ℕ) (letter : ℕ) → letters ≡ before ++ letter ∷ behind → IsHarmlessLetter letter behind
+IsHarmless letters = (before behind : List ℕ) (letter : ℕ) → letters ≡ before ++ letter ∷ behind
+    → IsHarmlessLetter letter behind

@@ -18,11 +18,13 @@ Ends text part = (before : List ℕ) × (text ≡ before ++ part)
 
 -- the text is one SVG element, with no text before or behind it
 abbrev pub IsDocument : List ℕ → Type 0
-IsDocument text = (inside : List ℕ) × (text ≡ codes "<svg xmlns=\"http://www.w3.org/2000/svg\"" ++ inside ++ codes "</svg>\n")
+IsDocument text =
+    (inside : List ℕ) × (text ≡ codes "<svg xmlns=\"http://www.w3.org/2000/svg\"" ++ inside ++ codes "</svg>\n")
 
 -- which rows are shown: so many behind this one
 abbrev pub shown_text : ℕ → ℕ → List ℕ
-shown_text before count = if count == 0 then codes "no rows" else codes "rows " ++ decimal (before + 1) ++ codes " to " ++ decimal (before + count)
+shown_text before count = if count == 0 then codes "no rows" else
+    codes "rows " ++ decimal (before + 1) ++ codes " to " ++ decimal (before + count)
 
 -- a count and the word for what is counted
 abbrev pub counted_text : ℕ → List ℕ → List ℕ
@@ -30,7 +32,8 @@ counted_text count word = decimal count ++ codes " " ++ word ++ (if count == 1 t
 
 -- how large the group is
 abbrev pub size_text : ℕ → ℕ → List ℕ
-size_text nodes partitions = codes " (" ++ counted_text nodes (codes "node") ++ codes ", " ++ counted_text partitions (codes "partition") ++ codes ", "
+size_text nodes partitions = codes " (" ++ counted_text nodes (codes "node") ++ codes ", "
+    ++ counted_text partitions (codes "partition") ++ codes ", "
 
 -- the verdict's line, how large the group is, and which rows are shown
 abbrev pub title_text : Verdict → ℕ → ℕ → ℕ → ℕ → List ℕ

@@ -1,5 +1,7 @@
--- What stands in a picture for a terminal: a line of each row that changes what a node is, with how all nodes stand behind it.
-use Rattle.std.specs.Prelude.{ℕ, zero, suc, ◌+◌, ◌-◌, ◌/◌, ◌%◌, ◌==◌, ◌||◌, Bool, true, false, List, [], ◌∷◌, ◌++◌, codes, length, max, nat_le, nat_lt, not, replicate, if◌then◌else◌}
+-- What stands in a picture for a terminal: a line of each row that changes what a node is, with how all nodes stand
+-- behind it.
+use Rattle.std.specs.Prelude.{ℕ, zero, suc, ◌+◌, ◌-◌, ◌/◌, ◌%◌, ◌==◌, ◌||◌, Bool, true, false, List, [], ◌∷◌, ◌++◌}
+use Rattle.std.specs.Prelude.{codes, length, max, nat_le, nat_lt, not, replicate, if◌then◌else◌}
 use Rattle.std.specs.Fmt.{decimal}
 use Rattle.std.specs.List.{flat_map}
 use Rattle.bully_base.specs.declared.node.Status.{Status}
@@ -30,7 +32,10 @@ pub record Told : Type 0 where
 abbrev pub told_from : Setup → List Row → List Row → List Told
 told_from setup before [] = []
 told_from setup before (row ∷ rows) =
-    record { scene = scene_at setup before row; nodes = snapshots_of (world_behind setup (before ++ row ∷ [])) 1 setup.nodes } ∷ told_from setup (before ++ row ∷ []) rows
+    record {
+      scene = scene_at setup before row;
+      nodes = snapshots_of (world_behind setup (before ++ row ∷ [])) 1 setup.nodes;
+    } ∷ told_from setup (before ++ row ∷ []) rows
 
 -- the row decided, or it changes a status or a coordinator
 abbrev pub is_told : Verdict → Scene → Bool
@@ -40,7 +45,8 @@ is_told verdict s = decides verdict s.number || not (is_same_stand s.other.befor
 
 -- how they look for so many nodes
 abbrev pub form_of : ℕ → Form
-form_of nodes = if nat_le nodes 6 then Form.Words else (if nat_le nodes 20 then Form.Short else (if nat_le nodes 100 then Form.Letters else Form.Changes))
+form_of nodes = if nat_le nodes 6 then Form.Words else
+    (if nat_le nodes 20 then Form.Short else (if nat_le nodes 100 then Form.Letters else Form.Changes))
 
 -- how wide one is
 abbrev pub column_of : Form → ℕ
@@ -68,8 +74,10 @@ filled width text = text ++ replicate (max 1 (width - length text)) 32
 
 -- how a node stands in its column
 abbrev pub cell_text : Form → NodeSnapshot → List ℕ
-cell_text Form.Words node = filled (column_of Form.Words) (followed_text (column_word node.status) (codes " ") node.coordinator)
-cell_text Form.Short node = filled (column_of Form.Short) (followed_text (column_letter node.status) (codes "") node.coordinator)
+cell_text Form.Words node =
+    filled (column_of Form.Words) (followed_text (column_word node.status) (codes " ") node.coordinator)
+cell_text Form.Short node =
+    filled (column_of Form.Short) (followed_text (column_letter node.status) (codes "") node.coordinator)
 cell_text Form.Letters node = column_letter node.status
 cell_text Form.Changes node = []
 
@@ -79,7 +87,8 @@ cells_text form nodes = flat_map (cell_text form) nodes
 -- how a node stands behind a row, if the group has it
 abbrev pub change_words : ℕ → Change → List ℕ
 change_words nodes change =
-    if nat_le change.node nodes then (codes "  " ++ decimal change.node ++ codes ": ") ++ followed_text (column_word change.after.status) (codes " ") change.after.coordinator else []
+    if nat_le change.node nodes then (codes "  " ++ decimal change.node ++ codes ": ")
+    ++ followed_text (column_word change.after.status) (codes " ") change.after.coordinator else []
 
 -- what stands behind the columns, where these have no room for it
 abbrev pub tells_change : Form → Bool
@@ -93,21 +102,25 @@ change_text form nodes change = if tells_change form then filled CHANGE (change_
 
 -- ---- the lines
 
--- the line of a row, behind the line feed of the one before it: its number, each node in its column, what the row says, and what it does
+-- the line of a row, behind the line feed of the one before it: its number, each node in its column, what the row says,
+-- and what it does
 abbrev pub told_line : ℕ → Bool → Told → List ℕ
 told_line nodes is_decided told =
-    codes "\n" ++ right_text told.scene.number ++ codes "  " ++ cells_text (form_of nodes) told.nodes ++ change_text (form_of nodes) nodes told.scene.other
+    codes "\n" ++ right_text told.scene.number ++ codes "  " ++ cells_text (form_of nodes) told.nodes
+    ++ change_text (form_of nodes) nodes told.scene.other
     ++ bare_text told.scene.event_kind told.scene.own.node ++ meaning_text is_decided told.scene
 
 -- how many rows lie between, if any do
 abbrev pub quiet_text : ℕ → List ℕ
-quiet_text rows = if rows == 1 then codes "\n    ... 1 row" else (if nat_lt 1 rows then codes "\n    ... " ++ decimal rows ++ codes " rows" else [])
+quiet_text rows = if rows == 1 then codes "\n    ... 1 row" else
+    (if nat_lt 1 rows then codes "\n    ... " ++ decimal rows ++ codes " rows" else [])
 
 -- the lines of rows, behind so many that have none: of those that are told, and how many lie between
 abbrev pub told_text : Verdict → ℕ → ℕ → List Told → List ℕ
 told_text verdict nodes quiet [] = quiet_text quiet
 told_text verdict nodes quiet (told ∷ rows) =
-    if is_told verdict told.scene then quiet_text quiet ++ told_line nodes (decides verdict told.scene.number) told ++ told_text verdict nodes 0 rows
+    if is_told verdict told.scene then quiet_text quiet ++ told_line nodes (decides verdict told.scene.number) told
+    ++ told_text verdict nodes 0 rows
     else told_text verdict nodes (quiet + 1) rows
 
 -- ---- the heads of the columns
@@ -150,7 +163,8 @@ shown_line before count = shown_text before count ++ codes "\n"
 -- above the text below: the verdict, which rows are shown, the heads of the columns, and the lines of the rows
 abbrev pub columns_text : Verdict → ℕ → ℕ → ℕ → List Told → List ℕ
 columns_text verdict nodes before count rows =
-    verdict_head verdict ++ shown_line before count ++ (heads_text nodes ++ told_text verdict nodes 0 rows ++ codes "\n")
+    verdict_head verdict ++ shown_line before count
+    ++ (heads_text nodes ++ told_text verdict nodes 0 rows ++ codes "\n")
 
 -- ---- how the nodes stand behind each row, out of what the rows show
 

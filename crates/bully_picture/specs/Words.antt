@@ -31,11 +31,13 @@ move_meaning Status.Reorganization Status.Reorganization = Some (codes "all are 
 move_meaning Status.Reorganization Status.Normal = Some (codes "all have the table: is normal")
 move_meaning _ _ = None
 
--- what an event of this kind does, whose node stood so before it and stands so behind it; none where its row alone says it
+-- what an event of this kind does, whose node stood so before it and stands so behind it; none where its row alone says
+-- it
 abbrev pub meaning : Option EventKind → NodeSnapshot → NodeSnapshot → Option (List ℕ)
 meaning (Some (EventKind.Node NodeEventKind.Move)) before after = move_meaning before.status after.status
 meaning (Some (EventKind.Node NodeEventKind.Drop)) before after = Some (codes "the orphan is given up")
-meaning (Some (EventKind.Node NodeEventKind.Return)) before after = if is_orphan before then Some (codes "an orphan: nothing comes of it") else None
+meaning (Some (EventKind.Node NodeEventKind.Return)) before after =
+    if is_orphan before then Some (codes "an orphan: nothing comes of it") else None
 meaning (Some EventKind.Plan) before after = Some (codes "shares the task out")
 meaning _ before after = None
 

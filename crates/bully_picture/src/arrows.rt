@@ -56,8 +56,9 @@ impl Line {
     }
 }
 
-/// Draws the calls of a node: each stretch in which one was sent as an arrow, and each in which it ran as the way back of its
-/// reply. The arrows go onto a paper of their own. Whether the slot held an orphan behind a row is told by its place behind the first one.
+/// Draws the calls of a node: each stretch in which one was sent as an arrow, and each in which it ran as the way back
+/// of its reply. The arrows go onto a paper of their own. Whether the slot held an orphan behind a row is told by its
+/// place behind the first one.
 pub fn draw_calls(
     canvas: &mut Canvas,
     arrows: &mut Paper,
@@ -95,7 +96,8 @@ fn draw_held(
     end: End,
     is_orphan: bool,
 )
-    ensures { Gains arrows.old arrows.new (λ text. Has text (held_label node holding.now.first holding.now.last (Some held))) }
+    ensures { Gains arrows.old arrows.new (λ text.
+        Has text (held_label node holding.now.first holding.now.last (Some held))) }
 {
     match held.phase {
         Phase::Sent => draw_call(canvas, arrows, node, holding, &held.call, end, is_orphan),
@@ -150,7 +152,8 @@ fn draw_call(
     end: End,
     is_orphan: bool,
 )
-    ensures { Gains arrows.old arrows.new (λ text. Has text (arrow_label node call.now holding.now.first holding.now.last)) }
+    ensures { Gains arrows.old arrows.new (λ text.
+        Has text (arrow_label node call.now holding.now.first holding.now.last)) }
 {
     let gets_there = matches!(end, End::Ran | End::Failed);
     let line = line_of(canvas, node, call.callee, holding, gets_there);
@@ -168,15 +171,16 @@ fn push_arrow(
     call: &Call,
     holding: &Holding,
 )
-    ensures { Gains arrows.old arrows.new (λ text. Has text (arrow_label node call.now holding.now.first holding.now.last)) }
+    ensures { Gains arrows.old arrows.new (λ text.
+        Has text (arrow_label node call.now holding.now.first holding.now.last)) }
 {
     push_line(arrows, line.x1, line.y1, line.x2, line.y2);
     arrows.push(style);
     push_title(arrows, node, call, holding);
 }
 
-// Writes what call it is between two lanes: with all words, with its kind alone, in small letters where it has to be, or by a letter,
-// where no words have room; nowhere where nothing is free.
+// Writes what call it is between two lanes: with all words, with its kind alone, in small letters where it has to be,
+// or by a letter, where no words have room; nowhere where nothing is free.
 fn label_call(canvas: &mut Canvas, line: &Line, call: CallKind, look: Look) {
     let kind = kind_text(call);
     let mut paper = Paper::new(canvas.alloc);
@@ -194,7 +198,8 @@ fn label_call(canvas: &mut Canvas, line: &Line, call: CallKind, look: Look) {
     }
 }
 
-// Writes a letter between two of the last lanes before the line's end, and notes that there is one; nowhere where nothing is free.
+// Writes a letter between two of the last lanes before the line's end, and notes that there is one; nowhere where
+// nothing is free.
 fn put_letter(canvas: &mut Canvas, line: &Line, style: Style, letter: &'static str) {
     let last = canvas.layout.gap_at(line.x2);
     for step in 0..GAPS {
@@ -252,8 +257,8 @@ fn words_style(colour: &'static str) -> Style {
     }
 }
 
-// Writes the words at the first place on the line that is free, and tells whether there is one: between two lanes, beginning with
-// those where the line ends.
+// Writes the words at the first place on the line that is free, and tells whether there is one: between two lanes,
+// beginning with those where the line ends.
 fn put_between(canvas: &mut Canvas, line: &Line, style: Style, words: &str) -> bool {
     let nodes = canvas.layout.nodes;
     for step in 0..nodes {
@@ -321,7 +326,8 @@ fn draw_reply(
     call: &Call,
     end: End,
 )
-    ensures { Gains arrows.old arrows.new (λ text. Has text (arrow_label node call.now holding.now.first holding.now.last)) }
+    ensures { Gains arrows.old arrows.new (λ text.
+        Has text (arrow_label node call.now holding.now.first holding.now.last)) }
 {
     let returns = canvas.returned_in(holding.last.saturating_add(1));
     let line = line_of(canvas, call.callee, node, holding, returns);

@@ -6,7 +6,8 @@ use crate::layout::{ASIDE, Layout};
 use crate::paper::Paper;
 use std::alloc::Global;
 
-/// How words look: where the point lies that they are placed by, their size, their colour, and whether they have a white ground.
+/// How words look: where the point lies that they are placed by, their size, their colour, and whether they have a
+/// white ground.
 #[derive(Clone, Copy)]
 pub struct Style {
     pub anchor: Anchor,
@@ -116,8 +117,8 @@ impl Canvas {
         self.take_area(area);
     }
 
-    /// Writes words beside the lane whose middle x is: at its left, since what changes a node comes from a higher one, at its right; or
-    /// at its right, where the left isn't free.
+    /// Writes words beside the lane whose middle x is: at its left, since what changes a node comes from a higher one,
+    /// at its right; or at its right, where the left isn't free.
     pub fn put_beside(&mut self, x: u32, y: u32, colour: &'static str, words: &str) {
         let line = y.saturating_add(4);
         let style = Style {

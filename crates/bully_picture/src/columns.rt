@@ -1,5 +1,6 @@
 //! The picture for a terminal: a line for each row that changes what a node is.
-ghost use Rattle.std.specs.Prelude.{◌≡◌, ◌≤◌, ◌-◌, [], ◌∷◌, ◌++◌, codes, length, max, replicate, IfOk, OnOk, string_bytes};
+ghost use Rattle.std.specs.Prelude.{◌≡◌, ◌≤◌, ◌-◌, [], ◌∷◌, ◌++◌, codes, length, max, replicate, IfOk, OnOk};
+ghost use Rattle.std.specs.Prelude.{string_bytes};
 ghost use Rattle.std.specs.Fmt.{decimal};
 ghost use Rattle.bully_base.specs.Places.{put_node};
 ghost use Rattle.bully_film.specs.Behind.{world_behind};
@@ -8,7 +9,10 @@ ghost use Rattle.bully_film.specs.Lane.{row_before};
 ghost use Rattle.bully_film.specs.Scene.{snapshot, snapshots_of};
 ghost use Rattle.bully_film.specs.Window.{WindowState};
 ghost use Rattle.bully_picture.specs.Title.{Begins, Ends};
-ghost use Rattle.bully_picture.specs.Told.{back_text, cell_text, cells_text, change_text, change_words, column_letter, column_of, column_word, columns_text, filled, form_of, front_text, heads_text, is_told, name_text, names_text, quiet_text, shown_line, tells_change, told_behind, told_from, told_line, told_text};
+ghost use Rattle.bully_picture.specs.Told.{back_text, cell_text, cells_text, change_text, change_words, column_letter};
+ghost use Rattle.bully_picture.specs.Told.{column_of, column_word, columns_text, filled, form_of, front_text};
+ghost use Rattle.bully_picture.specs.Told.{heads_text, is_told, name_text, names_text, quiet_text, shown_line};
+ghost use Rattle.bully_picture.specs.Told.{tells_change, told_behind, told_from, told_line, told_text};
 ghost use Rattle.bully_picture.specs.Words.{followed_text};
 ghost use Rattle.bully_picture.specs.Written.{Extends, Writes};
 ghost use Rattle.bully_rows.specs.Trace.{Trace};
@@ -22,8 +26,9 @@ use bully_base::{Node, OutOfMemory, Status};
 use bully_film::{Change, FinishedFilm, NodeSnapshot, Scene, lane_of, row_before};
 use std::alloc::{AllocError, Global};
 
-/// How the columns of the nodes look: a word of the status with the coordinator, where there are few; a letter with the coordinator; a
-/// letter alone, with what the row changes behind all of them; or that alone, where they are too many for a line.
+/// How the columns of the nodes look: a word of the status with the coordinator, where there are few; a letter with the
+/// coordinator; a letter alone, with what the row changes behind all of them; or that alone, where they are too many
+/// for a line.
 #[derive(Clone, Copy)]
 pub enum Form {
     Words,
@@ -64,7 +69,8 @@ impl Form {
         matches!(self, Form::Letters | Form::Changes)
     }
 
-    // What stands before the heads of the columns: what the letters mean, where there are any, and the head of the row's number.
+    // What stands before the heads of the columns: what the letters mean, where there are any, and the head of the
+    // row's number.
     fn front(self) -> &'static str
         ensures { result.now ≡ front_text self }
     {
@@ -76,7 +82,8 @@ impl Form {
         }
     }
 
-    // What stands behind the heads of the columns: the head of what the row changes, where that stands behind them, and of its text.
+    // What stands behind the heads of the columns: the head of what the row changes, where that stands behind them, and
+    // of its text.
     fn back(self) -> &'static str
         ensures { result.now ≡ back_text self }
     {
@@ -90,9 +97,9 @@ impl Form {
 // How wide what a row changes is, as `64: reorg 64`.
 const CHANGE: usize = 16;
 
-/// The picture of what a film shows as text: the verdict; which rows are shown; a line for each row that changes a status or a coordinator, and for the one
-/// that decided, with those of each node in a column; and how many rows lie between. Below it stands this text. Refused where an
-/// allocation fails.
+/// The picture of what a film shows as text: the verdict; which rows are shown; a line for each row that changes a
+/// status or a coordinator, and for the one that decided, with those of each node in a column; and how many rows lie
+/// between. Below it stands this text. Refused where an allocation fails.
 pub fn text_picture(
     alloc: Global,
     finished: &FinishedFilm,
@@ -103,7 +110,8 @@ pub fn text_picture(
     // Each node stands in the line of a row as it does in the world behind it.
     ensures whole { (window : WindowState) (trace : Trace) (is : IsFilmOf window finished.now trace)
         → IfOk result (λ text. string_bytes text ≡ columns_text finished.now.verdict finished.now.setup.nodes
-        (row_before finished.now.scenes.items) (length finished.now.scenes.items) (told_from trace.setup is.before is.shown) ++ below.now) }
+        (row_before finished.now.scenes.items) (length finished.now.scenes.items)
+        (told_from trace.setup is.before is.shown) ++ below.now) }
     ensures below { IfOk result (λ text. Ends (string_bytes text) below.now) }
 {
     let mut text = lines_of(alloc, finished)?;
@@ -116,7 +124,8 @@ fn lines_of(alloc: Global, finished: &FinishedFilm) -> Result<String, OutOfMemor
     ensures verdict { IfOk result (λ text. Begins (string_bytes text) (verdict_head finished.now.verdict)) }
     ensures whole { (window : WindowState) (trace : Trace) (is : IsFilmOf window finished.now trace)
         → IfOk result (λ text. string_bytes text ≡ columns_text finished.now.verdict finished.now.setup.nodes
-        (row_before finished.now.scenes.items) (length finished.now.scenes.items) (told_from trace.setup is.before is.shown)) }
+        (row_before finished.now.scenes.items) (length finished.now.scenes.items)
+        (told_from trace.setup is.before is.shown)) }
 {
     let mut lines = Paper::new(alloc);
     lines.push_verdict(finished.verdict);
@@ -127,7 +136,8 @@ fn lines_of(alloc: Global, finished: &FinishedFilm) -> Result<String, OutOfMemor
 
 // Writes which rows are shown.
 fn push_shown_line(lines: &mut Paper, finished: &FinishedFilm)
-    ensures { Writes lines.old lines.new (shown_line (row_before finished.now.scenes.items) (length finished.now.scenes.items)) }
+    ensures { Writes lines.old lines.new
+        (shown_line (row_before finished.now.scenes.items) (length finished.now.scenes.items)) }
 {
     let scenes = finished.scenes.as_slice();
     push_shown(lines, row_before(scenes), scenes.len());
@@ -139,7 +149,8 @@ fn push_lines(alloc: Global, lines: &mut Paper, finished: &FinishedFilm) -> Resu
     ensures extends { OnOk result (Extends lines.old lines.new) }
     ensures whole { (window : WindowState) (trace : Trace) (is : IsFilmOf window finished.now trace)
         → OnOk result (Writes lines.old lines.new
-        (heads_text finished.now.setup.nodes ++ told_text finished.now.verdict finished.now.setup.nodes 0 (told_from trace.setup is.before is.shown) ++ codes "\n")) }
+        (heads_text finished.now.setup.nodes ++ told_text finished.now.verdict finished.now.setup.nodes 0
+        (told_from trace.setup is.before is.shown) ++ codes "\n")) }
 {
     let mut now = Vec::with_capacity(alloc, usize::from(finished.setup.nodes()))?;
     push_starts(alloc, &mut now, finished)?;
@@ -164,7 +175,8 @@ fn push_starts(
     Ok(())
 }
 
-// Appends how the node stands before the first row. Refused where an allocation fails; and where the lane is empty, which none is.
+// Appends how the node stands before the first row. Refused where an allocation fails; and where the lane is empty,
+// which none is.
 fn push_start(
     alloc: Global,
     now: &mut Vec<NodeSnapshot>,
@@ -185,11 +197,12 @@ fn push_start(
     }
 }
 
-// Writes the heads of the columns and the lines of the rows, before which the nodes stand so. Each line begins with the line feed of the
-// one before it.
+// Writes the heads of the columns and the lines of the rows, before which the nodes stand so. Each line begins with the
+// line feed of the one before it.
 fn push_rows(lines: &mut Paper, finished: &FinishedFilm, now: &mut [NodeSnapshot])
     ensures { Writes lines.old lines.new
-        (heads_text finished.now.setup.nodes ++ told_text finished.now.verdict finished.now.setup.nodes 0 (told_behind now.old finished.now.scenes.items) ++ codes "\n") }
+        (heads_text finished.now.setup.nodes ++ told_text finished.now.verdict finished.now.setup.nodes 0
+        (told_behind now.old finished.now.scenes.items) ++ codes "\n") }
 {
     push_heads(lines, finished.setup.nodes());
     push_told(lines, finished, now);
@@ -198,7 +211,8 @@ fn push_rows(lines: &mut Paper, finished: &FinishedFilm, now: &mut [NodeSnapshot
 
 // Writes the lines of the rows.
 fn push_told(lines: &mut Paper, finished: &FinishedFilm, now: &mut [NodeSnapshot])
-    ensures { Writes lines.old lines.new (told_text finished.now.verdict finished.now.setup.nodes 0 (told_behind now.old finished.now.scenes.items)) }
+    ensures { Writes lines.old lines.new
+        (told_text finished.now.verdict finished.now.setup.nodes 0 (told_behind now.old finished.now.scenes.items)) }
 {
     let mut quiet = 0usize;
     for scene in finished.scenes.as_slice() {
@@ -298,7 +312,8 @@ fn push_quiet(lines: &mut Paper, quiet: usize)
 // Writes the line of a row, behind which the nodes stand so.
 fn push_line(lines: &mut Paper, finished: &FinishedFilm, scene: &Scene, now: &[NodeSnapshot])
     ensures { Writes lines.old lines.new
-        (told_line finished.now.setup.nodes (decides finished.now.verdict scene.now.number) (record { scene = scene.now; nodes = now.now })) }
+        (told_line finished.now.setup.nodes (decides finished.now.verdict scene.now.number)
+        (record { scene = scene.now; nodes = now.now })) }
 {
     let nodes = finished.setup.nodes();
     let form = Form::of(nodes);
@@ -347,7 +362,8 @@ fn push_stand(
     fill(lines, start, column);
 }
 
-// Writes what stands behind the columns: how the node stands now whose vector the row may change, where they have no room for it.
+// Writes what stands behind the columns: how the node stands now whose vector the row may change, where they have no
+// room for it.
 fn push_change(lines: &mut Paper, form: Form, nodes: u16, change: &Change)
     ensures { Writes lines.old lines.new (change_text form nodes change.now) }
 {

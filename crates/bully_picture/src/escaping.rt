@@ -6,8 +6,8 @@ ghost use Rattle.bully_picture.specs.Harmless.{IsHarmless};
 
 use bully_base::OutOfMemory;
 
-/// Appends the text as XML takes it within an element or an attribute: `<`, `>`, `&` and both quotes by their names, and a mark in
-/// place of what XML forbids. So nothing of it begins or ends a tag or an attribute.
+/// Appends the text as XML takes it within an element or an attribute: `<`, `>`, `&` and both quotes by their names,
+/// and a mark in place of what XML forbids. So nothing of it begins or ends a tag or an attribute.
 pub fn push_escaped(text: &mut String, raw: &str) -> Result<(), OutOfMemory>
     ensures escaped { OnOk result (string_bytes text.new ≡ string_bytes text.old ++ escaped (chars raw.now)) }
     ensures harmless { IsHarmless (chars (escaped (chars raw.now))) }
@@ -20,7 +20,8 @@ pub fn push_escaped(text: &mut String, raw: &str) -> Result<(), OutOfMemory>
 
 /// The same of the first letters, so many, with three dots behind them where there are more.
 pub fn push_start(text: &mut String, raw: &str, most: usize) -> Result<(), OutOfMemory>
-    ensures escaped { OnOk result (string_bytes text.new ≡ string_bytes text.old ++ escaped (shortened most (chars raw.now))) }
+    ensures escaped { OnOk result (string_bytes text.new ≡ string_bytes text.old
+        ++ escaped (shortened most (chars raw.now))) }
     ensures harmless { IsHarmless (chars (escaped (shortened most (chars raw.now)))) }
 {
     let mut count = 0usize;

@@ -15,8 +15,8 @@ use bully_base::{Node, Setup, Status};
 use bully_film::{Bar, Stand};
 use std::alloc::Global;
 
-/// Draws the bars of a node on a paper of their own, and says beside the first one how the node stood before the rows. What a row changes
-/// was said there. Whether any rows are shown is told.
+/// Draws the bars of a node on a paper of their own, and says beside the first one how the node stood before the rows.
+/// What a row changes was said there. Whether any rows are shown is told.
 pub fn draw_bars(canvas: &mut Canvas, paper: &mut Paper, node: Node, bars: &[Bar], shows_rows: bool)
     ensures { Gains paper.old paper.new (λ text. HasBars text shows_rows node bars.now) }
 {
@@ -81,7 +81,8 @@ fn bar_end(status: Status) -> &'static str {
 // What is shown where the pointer rests on a bar: how the node stands, and behind which rows, where any are shown.
 fn push_title(paper: &mut Paper, node: Node, bar: &Bar, shows_rows: bool)
     ensures { Writes paper.old paper.new
-        ((codes "<title>node " ++ decimal node ++ codes ": ") ++ stand_text bar.now.seen ++ behind_rows shows_rows bar.now.first bar.now.last ++ codes "</title>") }
+        ((codes "<title>node " ++ decimal node ++ codes ": ") ++ stand_text bar.now.seen
+        ++ behind_rows shows_rows bar.now.first bar.now.last ++ codes "</title>") }
 {
     paper.push_node("<title>node ", node, ": ");
     push_stand(paper, bar.seen);
@@ -125,7 +126,8 @@ fn push_label(paper: &mut Paper, stand: Stand, lane: u32) {
 
 /// The numbers of the nodes over their lanes, from node 1 on, each with the node's name if it has one.
 pub fn draw_names(alloc: Global, layout: &Layout, setup: &Setup, names: &[&str]) -> Paper
-    ensures { IsIn result (λ text. HasNodes text setup.now.nodes (λ i. option_map (λ s. s.now) (slice_get names.now i))) }
+    ensures { IsIn result (λ text.
+        HasNodes text setup.now.nodes (λ i. option_map (λ s. s.now) (slice_get names.now i))) }
 {
     let mut paper = Paper::new(alloc);
     for before in 0..setup.nodes() {
@@ -149,7 +151,8 @@ pub fn name_at<'a>(names: &[&'a str], place: u16) -> Option<&'a str>
 
 // Writes the name of a node over its lane.
 fn draw_name(paper: &mut Paper, layout: &Layout, node: Node, name: Option<&str>)
-    ensures { Gains paper.old paper.new (λ text. Has text (node_label (nat_le WORDS_MIN layout.now.lane) node (option_map (λ s. s.now) name.entry))) }
+    ensures { Gains paper.old paper.new (λ text.
+        Has text (node_label (nat_le WORDS_MIN layout.now.lane) node (option_map (λ s. s.now) name.entry))) }
 {
     paper.push_number("<text x=\"", layout.x(node), "\" y=\"80\"");
     paper.push_attribute("font-size", name_size(layout));
@@ -162,8 +165,8 @@ fn draw_name(paper: &mut Paper, layout: &Layout, node: Node, name: Option<&str>)
     }
 }
 
-// Writes the number of a node and as much of its name as the lane has room for, and all of it where the pointer rests. The name turns the
-// direction of nothing but itself.
+// Writes the number of a node and as much of its name as the lane has room for, and all of it where the pointer rests.
+// The name turns the direction of nothing but itself.
 fn push_name(paper: &mut Paper, node: Node, name: &str, lane: u32)
     ensures { Gains paper.old paper.new (λ text. Has text (node_label (nat_le WORDS_MIN lane) node (Some name.now))) }
 {

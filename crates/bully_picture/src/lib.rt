@@ -1,9 +1,11 @@
-//! Pictures of traces: a lane for each node, and what each row of a window does there, as SVG or as text for a terminal.
+//! Pictures of traces: a lane for each node, and what each row of a window does there, as SVG or as text for a
+//! terminal.
 //!
-//! It stands on bully_film, which keeps what the rows of the window show, and on the crates below it. The sentence below a row that
-//! decided is the caller's. The program relies on the verdict in the title being the one of the film, which is the trace's, and on what
-//! was filmed being drawn: the number of each row that is shown, what it says and does, each node's name, how it stands behind each row,
-//! and each call. A picture for a terminal is exactly its lines. Names go in escaped. How a picture looks is looked at.
+//! It stands on bully_film, which keeps what the rows of the window show, and on the crates below it. The sentence
+//! below a row that decided is the caller's. The program relies on the verdict in the title being the one of the film,
+//! which is the trace's, and on what was filmed being drawn: the number of each row that is shown, what it says and
+//! does, each node's name, how it stands behind each row, and each call. A picture for a terminal is exactly its lines.
+//! Names go in escaped. How a picture looks is looked at.
 #![tactic(auto)]
 
 mod around;

@@ -1,6 +1,7 @@
 //! What stands at a row: its number and its text, marks on the lanes, and tables.
 ghost use Rattle.std.specs.Prelude.{◌≡◌, ℕ, codes, if◌then◌else◌};
-ghost use Rattle.bully_picture.specs.Drawn.{AreNumbers, HasSaid, HasText, getting_text, is_plan, number_text, scenes_shown, tail_text};
+ghost use Rattle.bully_picture.specs.Drawn.{AreNumbers, HasSaid, HasText, getting_text, is_plan, number_text};
+ghost use Rattle.bully_picture.specs.Drawn.{scenes_shown, tail_text};
 ghost use Rattle.bully_picture.specs.Written.{Extends, Gains, IsIn, Writes};
 
 use crate::boxes::{Anchor, Area, letters_within, width_of};
@@ -26,9 +27,11 @@ const TEXTS: u32 = 408;
 // The colour of what the row that decided says.
 const DECIDED: &str = "#D55E00";
 
-/// The numbers of the rows that are shown, each at the left of its line. Their boxes are taken, so that no words lie on them.
+/// The numbers of the rows that are shown, each at the left of its line. Their boxes are taken, so that no words lie on
+/// them.
 pub fn draw_numbers(canvas: &mut Canvas, finished: &FinishedFilm, claims: Claims) -> Paper
-    ensures { IsIn result (AreNumbers finished.now.verdict (scenes_shown claims finished.now.verdict finished.now.scenes.items)) }
+    ensures { IsIn result
+        (AreNumbers finished.now.verdict (scenes_shown claims finished.now.verdict finished.now.scenes.items)) }
 {
     let mut numbers = Paper::new(canvas.alloc);
     for scene in finished.scenes.as_slice() {
@@ -72,7 +75,8 @@ fn push_digits(numbers: &mut Paper, y: u32, number: u32, decides: bool)
 
 /// The texts of the rows that are shown, each at the right of its line, whose boxes are taken, too.
 pub fn draw_texts(canvas: &mut Canvas, finished: &FinishedFilm, claims: Claims) -> Paper
-    ensures { IsIn result (λ text. HasSaid text finished.now.verdict (scenes_shown claims finished.now.verdict finished.now.scenes.items)) }
+    ensures { IsIn result (λ text.
+        HasSaid text finished.now.verdict (scenes_shown claims finished.now.verdict finished.now.scenes.items)) }
 {
     let mut texts = Paper::new(canvas.alloc);
     for scene in finished.scenes.as_slice() {
@@ -84,7 +88,8 @@ pub fn draw_texts(canvas: &mut Canvas, finished: &FinishedFilm, claims: Claims) 
     texts
 }
 
-// Writes the text of a row at the right, as much of it as there is room for, and what it does, where that doesn't say it.
+// Writes the text of a row at the right, as much of it as there is room for, and what it does, where that doesn't say
+// it.
 fn draw_text(canvas: &mut Canvas, texts: &mut Paper, scene: &Scene, decides: bool)
     ensures { Gains texts.old texts.new (λ text. HasText text decides scene.now) }
 {
@@ -111,7 +116,8 @@ fn push_text_place(texts: &mut Paper, layout: &Layout, number: u32)
     push_place(texts, layout.texts(), y, plain_style(Anchor::Start, ""));
 }
 
-// Takes the box of the text of a row, and tells how many letters of what it says have room in it before its tail, and a table behind that.
+// Takes the box of the text of a row, and tells how many letters of what it says have room in it before its tail, and a
+// table behind that.
 fn keep_text_free(
     canvas: &mut Canvas,
     scene: &Scene,
@@ -265,7 +271,8 @@ fn owner_size(layout: &Layout) -> u32 {
     if layout.nodes > 999 { 8 } else { 10 }
 }
 
-// Says how a node stands behind the row, where that changes it: before the words of calls, which have more places to stand at.
+// Says how a node stands behind the row, where that changes it: before the words of calls, which have more places to
+// stand at.
 fn draw_change(canvas: &mut Canvas, scene: &Scene) {
     let before = Stand::seen_in(&scene.other.before);
     let after = Stand::seen_in(&scene.other.after);
@@ -343,8 +350,8 @@ fn draw_word(canvas: &mut Canvas, x: u32, y: u32, colour: &'static str, word: &s
     }
 }
 
-// The table that a node gets by the row: its owners in small boxes, or that it gets one. Where that has no room at the lane, it stands
-// behind the text of the row, which ends there.
+// The table that a node gets by the row: its owners in small boxes, or that it gets one. Where that has no room at the
+// lane, it stands behind the text of the row, which ends there.
 fn draw_table(canvas: &mut Canvas, scene: &Scene, y: u32) {
     if !scene.gets_table {
         return;

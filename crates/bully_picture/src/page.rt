@@ -1,11 +1,13 @@
 //! The picture as a whole.
-ghost use Rattle.std.specs.Prelude.{◌≡◌, ℕ, ◌==◌, ◌++◌, [], codes, if◌then◌else◌, length, option_map, slice_get, IfOk, string_bytes};
+ghost use Rattle.std.specs.Prelude.{◌≡◌, ℕ, ◌==◌, ◌++◌, [], codes, if◌then◌else◌, length, option_map, slice_get, IfOk};
+ghost use Rattle.std.specs.Prelude.{string_bytes};
 ghost use Rattle.bully_film.specs.Film.{IsFilmOf};
 ghost use Rattle.bully_film.specs.Lane.{row_before};
 ghost use Rattle.bully_film.specs.Scene.{lane_of as lane_seen};
 ghost use Rattle.bully_film.specs.Window.{WindowState};
 ghost use Rattle.bully_picture.specs.Bars.{HasLaneBars, HasStands, shows_rows};
-ghost use Rattle.bully_picture.specs.Drawn.{AreNumbers, HasBelow, HasCalls, HasLanes, HasNodes, HasRows, HasSaid, below_label, scenes_shown};
+ghost use Rattle.bully_picture.specs.Drawn.{AreNumbers, HasBelow, HasCalls, HasLanes, HasNodes, HasRows, HasSaid};
+ghost use Rattle.bully_picture.specs.Drawn.{below_label, scenes_shown};
 ghost use Rattle.bully_picture.specs.Head.{HasHead, head_text, title_line, title_start};
 ghost use Rattle.bully_picture.specs.Title.{Has, IsDocument, counted_text, shown_text, size_text, title_text};
 ghost use Rattle.bully_picture.specs.Written.{Extends, Gains, IsCopied, IsIn, Writes};
@@ -52,9 +54,10 @@ const LEGEND: &str = "\
 const LETTERS: &str = "\
 <text x=\"430\" y=\"48\" font-size=\"11\">U: AreYouUp, N: AreYouNormal, H: Halt, C: NewCoordinator, R: Ready</text>\n";
 
-/// The picture of what a film shows, with these names over the lanes, from node 1 on, and below it this text, a line each. It is an SVG
-/// document. Each row has its number and what it says, but for claims that are left out; each node its name, or its number where it has
-/// none; and each call that a slot holds behind a row, sent or run, its arrow. In a page it has no title. Refused where an allocation fails.
+/// The picture of what a film shows, with these names over the lanes, from node 1 on, and below it this text, a line
+/// each. It is an SVG document. Each row has its number and what it says, but for claims that are left out; each node
+/// its name, or its number where it has none; and each call that a slot holds behind a row, sent or run, its arrow. In
+/// a page it has no title. Refused where an allocation fails.
 pub fn svg_picture(
     alloc: Global,
     finished: &FinishedFilm,
@@ -65,16 +68,23 @@ pub fn svg_picture(
 ) -> Result<String, OutOfMemory>
     ensures document { IfOk result (λ text. IsDocument (string_bytes text)) }
     ensures head { IfOk result (λ text. HasHead (string_bytes text) around finished.now.verdict
-        (title_text finished.now.verdict finished.now.setup.nodes finished.now.setup.partitions (row_before finished.now.scenes.items) (length finished.now.scenes.items))) }
-    ensures rows { IfOk result (λ text. HasRows (string_bytes text) finished.now.verdict (scenes_shown claims finished.now.verdict finished.now.scenes.items)) }
-    ensures says { IfOk result (λ text. HasSaid (string_bytes text) finished.now.verdict (scenes_shown claims finished.now.verdict finished.now.scenes.items)) }
-    ensures nodes { IfOk result (λ text. HasNodes (string_bytes text) finished.now.setup.nodes (λ i. option_map (λ s. s.now) (slice_get names.now i))) }
+        (title_text finished.now.verdict finished.now.setup.nodes finished.now.setup.partitions
+        (row_before finished.now.scenes.items) (length finished.now.scenes.items))) }
+    ensures rows { IfOk result (λ text. HasRows (string_bytes text) finished.now.verdict
+        (scenes_shown claims finished.now.verdict finished.now.scenes.items)) }
+    ensures says { IfOk result (λ text. HasSaid (string_bytes text) finished.now.verdict
+        (scenes_shown claims finished.now.verdict finished.now.scenes.items)) }
+    ensures nodes { IfOk result (λ text.
+        HasNodes (string_bytes text) finished.now.setup.nodes (λ i. option_map (λ s. s.now) (slice_get names.now i))) }
 
     // Of each node it has a bar of how it stands behind each row, and an arrow for each call in its slot.
     ensures bars { (window : WindowState) (trace : Trace) (is : IsFilmOf window finished.now trace)
-        → IfOk result (λ text. HasStands (string_bytes text) (shows_rows finished.now.scenes.items) finished.now.setup.nodes (row_before finished.now.scenes.items) (λ i. lane_seen trace.setup is.before i is.shown)) }
+        → IfOk result (λ text.
+        HasStands (string_bytes text) (shows_rows finished.now.scenes.items) finished.now.setup.nodes
+        (row_before finished.now.scenes.items) (λ i. lane_seen trace.setup is.before i is.shown)) }
     ensures calls { (window : WindowState) (trace : Trace) (is : IsFilmOf window finished.now trace)
-        → IfOk result (λ text. HasCalls (string_bytes text) finished.now.setup.nodes (row_before finished.now.scenes.items) (λ i. lane_seen trace.setup is.before i is.shown)) }
+        → IfOk result (λ text. HasCalls (string_bytes text) finished.now.setup.nodes
+        (row_before finished.now.scenes.items) (λ i. lane_seen trace.setup is.before i is.shown)) }
     ensures below { IfOk result (λ text. HasBelow (string_bytes text) below.now) }
 {
     let mut canvas = Canvas::new(alloc, Layout::of(alloc, finished, claims)?);
@@ -93,14 +103,20 @@ fn picture_on(
 ) -> Paper
     ensures document { IsIn result IsDocument }
     ensures head { IsIn result (λ text. HasHead text around finished.now.verdict
-        (title_text finished.now.verdict finished.now.setup.nodes finished.now.setup.partitions (row_before finished.now.scenes.items) (length finished.now.scenes.items))) }
-    ensures rows { IsIn result (λ text. HasRows text finished.now.verdict (scenes_shown claims finished.now.verdict finished.now.scenes.items)) }
-    ensures says { IsIn result (λ text. HasSaid text finished.now.verdict (scenes_shown claims finished.now.verdict finished.now.scenes.items)) }
-    ensures nodes { IsIn result (λ text. HasNodes text finished.now.setup.nodes (λ i. option_map (λ s. s.now) (slice_get names.now i))) }
+        (title_text finished.now.verdict finished.now.setup.nodes finished.now.setup.partitions
+        (row_before finished.now.scenes.items) (length finished.now.scenes.items))) }
+    ensures rows { IsIn result (λ text.
+        HasRows text finished.now.verdict (scenes_shown claims finished.now.verdict finished.now.scenes.items)) }
+    ensures says { IsIn result (λ text.
+        HasSaid text finished.now.verdict (scenes_shown claims finished.now.verdict finished.now.scenes.items)) }
+    ensures nodes { IsIn result (λ text.
+        HasNodes text finished.now.setup.nodes (λ i. option_map (λ s. s.now) (slice_get names.now i))) }
     ensures bars { (window : WindowState) (trace : Trace) (is : IsFilmOf window finished.now trace)
-        → IsIn result (λ text. HasStands text (shows_rows finished.now.scenes.items) finished.now.setup.nodes (row_before finished.now.scenes.items) (λ i. lane_seen trace.setup is.before i is.shown)) }
+        → IsIn result (λ text. HasStands text (shows_rows finished.now.scenes.items) finished.now.setup.nodes
+        (row_before finished.now.scenes.items) (λ i. lane_seen trace.setup is.before i is.shown)) }
     ensures calls { (window : WindowState) (trace : Trace) (is : IsFilmOf window finished.now trace)
-        → IsIn result (λ text. HasCalls text finished.now.setup.nodes (row_before finished.now.scenes.items) (λ i. lane_seen trace.setup is.before i is.shown)) }
+        → IsIn result (λ text. HasCalls text finished.now.setup.nodes (row_before finished.now.scenes.items) (λ i.
+        lane_seen trace.setup is.before i is.shown)) }
     ensures below { IsIn result (λ text. HasBelow text below.now) }
 {
     match lanes(canvas.alloc, finished) {
@@ -129,10 +145,14 @@ fn picture_with(
 ) -> Paper
     ensures document { IsIn result IsDocument }
     ensures head { IsIn result (λ text. HasHead text around finished.now.verdict
-        (title_text finished.now.verdict finished.now.setup.nodes finished.now.setup.partitions (row_before finished.now.scenes.items) (length finished.now.scenes.items))) }
-    ensures rows { IsIn result (λ text. HasRows text finished.now.verdict (scenes_shown claims finished.now.verdict finished.now.scenes.items)) }
-    ensures says { IsIn result (λ text. HasSaid text finished.now.verdict (scenes_shown claims finished.now.verdict finished.now.scenes.items)) }
-    ensures nodes { IsIn result (λ text. HasNodes text finished.now.setup.nodes (λ i. option_map (λ s. s.now) (slice_get names.now i))) }
+        (title_text finished.now.verdict finished.now.setup.nodes finished.now.setup.partitions
+        (row_before finished.now.scenes.items) (length finished.now.scenes.items))) }
+    ensures rows { IsIn result (λ text.
+        HasRows text finished.now.verdict (scenes_shown claims finished.now.verdict finished.now.scenes.items)) }
+    ensures says { IsIn result (λ text.
+        HasSaid text finished.now.verdict (scenes_shown claims finished.now.verdict finished.now.scenes.items)) }
+    ensures nodes { IsIn result (λ text.
+        HasNodes text finished.now.setup.nodes (λ i. option_map (λ s. s.now) (slice_get names.now i))) }
     ensures bars { IsIn result (λ text. HasLaneBars text (shows_rows finished.now.scenes.items) lanes.now) }
     ensures lanes { IsIn result (λ text. HasLanes text lanes.now) }
     ensures below { IsIn result (λ text. HasBelow text below.now) }
@@ -174,9 +194,12 @@ fn draw(
     claims: Claims,
     below: &str,
 ) -> Parts
-    ensures rows { IsIn result.numbers (AreNumbers finished.now.verdict (scenes_shown claims finished.now.verdict finished.now.scenes.items)) }
-    ensures says { IsIn result.texts (λ text. HasSaid text finished.now.verdict (scenes_shown claims finished.now.verdict finished.now.scenes.items)) }
-    ensures nodes { IsIn result.names (λ text. HasNodes text finished.now.setup.nodes (λ i. option_map (λ s. s.now) (slice_get names.now i))) }
+    ensures rows { IsIn result.numbers
+        (AreNumbers finished.now.verdict (scenes_shown claims finished.now.verdict finished.now.scenes.items)) }
+    ensures says { IsIn result.texts (λ text.
+        HasSaid text finished.now.verdict (scenes_shown claims finished.now.verdict finished.now.scenes.items)) }
+    ensures nodes { IsIn result.names (λ text.
+        HasNodes text finished.now.setup.nodes (λ i. option_map (λ s. s.now) (slice_get names.now i))) }
     ensures bars { IsIn result.bars (λ text. HasLaneBars text (shows_rows finished.now.scenes.items) lanes.now) }
     ensures lanes { IsIn result.arrows (λ text. HasLanes text lanes.now) }
     ensures below { IsIn result.below (λ text. HasBelow text below.now) }
@@ -302,7 +325,8 @@ fn push_head(picture: &mut Paper, layout: &Layout, below: &str)
 // Writes the title of a picture that stands alone.
 fn push_title_line(picture: &mut Paper, finished: &FinishedFilm, around: Around)
     ensures { Writes picture.old picture.new (title_line around finished.now.verdict
-        (title_text finished.now.verdict finished.now.setup.nodes finished.now.setup.partitions (row_before finished.now.scenes.items) (length finished.now.scenes.items))) }
+        (title_text finished.now.verdict finished.now.setup.nodes finished.now.setup.partitions
+        (row_before finished.now.scenes.items) (length finished.now.scenes.items))) }
 {
     match around {
         Around::Nothing => push_whole_title(picture, finished),
@@ -313,7 +337,8 @@ fn push_title_line(picture: &mut Paper, finished: &FinishedFilm, around: Around)
 // Writes the element of the title.
 fn push_whole_title(picture: &mut Paper, finished: &FinishedFilm)
     ensures { Writes picture.old picture.new (title_line Around.Nothing finished.now.verdict
-        (title_text finished.now.verdict finished.now.setup.nodes finished.now.setup.partitions (row_before finished.now.scenes.items) (length finished.now.scenes.items))) }
+        (title_text finished.now.verdict finished.now.setup.nodes finished.now.setup.partitions
+        (row_before finished.now.scenes.items) (length finished.now.scenes.items))) }
 {
     picture.push(title_start(finished.verdict));
     push_title(picture, finished);
@@ -337,7 +362,8 @@ fn title_start(verdict: Verdict) -> &'static str
 /// Writes the words of the title: the verdict, how large the group is, and which rows are shown.
 pub fn push_title(picture: &mut Paper, finished: &FinishedFilm)
     ensures { Writes picture.old picture.new
-        (title_text finished.now.verdict finished.now.setup.nodes finished.now.setup.partitions (row_before finished.now.scenes.items) (length finished.now.scenes.items)) }
+        (title_text finished.now.verdict finished.now.setup.nodes finished.now.setup.partitions
+        (row_before finished.now.scenes.items) (length finished.now.scenes.items)) }
 {
     picture.push_verdict(finished.verdict);
     push_size(picture, &finished.setup);

@@ -17,7 +17,8 @@ use std::marker::Model;
 
 /// A text that is written. Where memory is wanting, that is noted, and told at the end: so what writes never fails.
 ///
-/// What the program itself says goes in as it is, and so is `&'static str`, and what stands on another paper; all else goes in escaped.
+/// What the program itself says goes in as it is, and so is `&'static str`, and what stands on another paper; all else
+/// goes in escaped.
 #[derive(Drop)]
 pub struct Paper {
     text: String,
@@ -134,8 +135,8 @@ impl Paper {
         self.note(written);
     }
 
-    /// Writes so many letters of what stands on another paper, and, where it is longer, all of it for where the pointer rests. Where memory
-    /// was wanting there, it is wanting here.
+    /// Writes so many letters of what stands on another paper, and, where it is longer, all of it for where the pointer
+    /// rests. Where memory was wanting there, it is wanting here.
     pub fn push_cut_paper(&mut self, paper: &Paper, letters: usize)
         ensures cut { Writes self.old self.new (cut_text letters paper.now.text) }
         ensures whole { self.new.has_failed ≡ false → paper.now.has_failed ≡ false }
@@ -218,8 +219,8 @@ impl Paper {
         text.push_str(self.text.as_str())
     }
 
-    // Appends so many letters of what was written to a text, and, where it is longer, all of it for where the pointer rests. Refused where
-    // memory was wanting, or is now.
+    // Appends so many letters of what was written to a text, and, where it is longer, all of it for where the pointer
+    // rests. Refused where memory was wanting, or is now.
     fn cut_to(&self, text: &mut String, letters: usize) -> Result<(), OutOfMemory>
         ensures whole { OnOk result (self.now.has_failed ≡ false) }
         ensures cut { OnOk result (string_bytes text.new ≡ string_bytes text.old ++ cut_text letters self.now.text) }
@@ -233,7 +234,8 @@ impl Paper {
     // Notes how a write went: behind what stood before it, this part.
     fn note(&mut self, written: Result<(), OutOfMemory>)
         ensures went { self.new.has_failed ≡ false → is_err written ≡ false }
-        ensures writes { (before : Written) (part : List ℕ) → before.has_failed ≡ self.old.has_failed → OnOk written (self.old.text ≡ before.text ++ part) → Writes before self.new part }
+        ensures writes { (before : Written) (part : List ℕ) → before.has_failed ≡ self.old.has_failed
+            → OnOk written (self.old.text ≡ before.text ++ part) → Writes before self.new part }
     {
         self.has_failed |= written.is_err();
     }

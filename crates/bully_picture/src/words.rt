@@ -3,7 +3,8 @@ ghost use Rattle.std.specs.Prelude.{◌≡◌, codes, if◌then◌else◌, None,
 ghost use Rattle.bully_film.specs.Lane.{is_orphan};
 ghost use Rattle.bully_picture.specs.Bars.{stand_text};
 ghost use Rattle.bully_picture.specs.Drawn.{bare_text, kind_text, row_word, said_text};
-ghost use Rattle.bully_picture.specs.Words.{behind_colon, behind_words, followed_text, is_same_stand, meaning, meaning_text, move_meaning};
+ghost use Rattle.bully_picture.specs.Words.{behind_colon, behind_words, followed_text, is_same_stand, meaning};
+ghost use Rattle.bully_picture.specs.Words.{meaning_text, move_meaning};
 ghost use Rattle.bully_picture.specs.Written.{Writes};
 
 use crate::paper::Paper;
@@ -37,7 +38,8 @@ pub fn push_stand(paper: &mut Paper, stand: Stand)
     );
 }
 
-/// Writes a word of how a node stands, and behind these words whom the node follows; the word alone, where that is nobody.
+/// Writes a word of how a node stands, and behind these words whom the node follows; the word alone, where that is
+/// nobody.
 pub fn push_followed(
     paper: &mut Paper,
     word: &'static str,
@@ -105,7 +107,8 @@ pub fn push_said(paper: &mut Paper, scene: &Scene)
     }
 }
 
-/// Writes what the row does behind its text, where that alone doesn't say it; nothing of the row that decided, which did nothing.
+/// Writes what the row does behind its text, where that alone doesn't say it; nothing of the row that decided, which
+/// did nothing.
 pub fn push_meaning(paper: &mut Paper, scene: &Scene, decides: bool)
     ensures { Writes paper.old paper.new (meaning_text decides scene.now) }
 {
@@ -128,7 +131,8 @@ fn push_words(paper: &mut Paper, words: Option<&'static str>)
     }
 }
 
-// What an event of this kind does, whose node stood so before it and stands so behind it; none where its row alone says it.
+// What an event of this kind does, whose node stood so before it and stands so behind it; none where its row alone says
+// it.
 fn meaning(
     event_kind: Option<EventKind>,
     before: &NodeSnapshot,
@@ -160,7 +164,8 @@ fn move_meaning(before: Status, after: Status) -> Option<&'static str>
 
 // What is said of a return to a node that stood so.
 fn return_meaning(before: &NodeSnapshot) -> Option<&'static str>
-    ensures { option_map (λ s. s.now) result ≡ (if is_orphan before.now then Some (codes "an orphan: nothing comes of it") else None) }
+    ensures { option_map (λ s. s.now) result ≡ (if is_orphan before.now
+        then Some (codes "an orphan: nothing comes of it") else None) }
 {
     if is_orphan(before) {
         Some("an orphan: nothing comes of it")

@@ -52,7 +52,8 @@ pub record IsPlay (c : Configuration) (events : List Event) : Type 0 where
 
 -- the trace of each lawful list of events is one that a text can tell
 abbrev pub LawfulTold : Type 0
-LawfulTold = (setup : Setup) (events : List Event) (answers : List Answer) (w : World) → IsSetup setup → IsLawful setup events answers w → IsTold (trace_with setup events)
+LawfulTold = (setup : Setup) (events : List Event) (answers : List Answer) (w : World) → IsSetup setup
+    → IsLawful setup events answers w → IsTold (trace_with setup events)
 
 -- the fault of a trace that isn't written
 abbrev pub fault_of : TraceCause → PlayFault

@@ -35,14 +35,16 @@ pub record AddsRow (e : Event) (before after : RecordingState) : Type 0 where
   pub setup : after.world.setup ≡ before.world.setup
   pub counted : after.world.events ≡ before.world.events + 1
   pub bounded : after.world.events ≤ after.world.setup.events_max
-  pub generations : (i : ℕ) → (state_at after.world i).generation ≡ (state_at before.world i).generation + (if raises (world_of before.world) e i then 1 else 0)
+  pub generations : (i : ℕ) → (state_at after.world i).generation
+      ≡ (state_at before.world i).generation + (if raises (world_of before.world) e i then 1 else 0)
   pub rows : after.rows ≡ before.rows ++ Row.Event e ∷ []
 
 -- the event is applied and recorded where nothing refuses it, else it is passed over
 abbrev pub Applies : Event → RecordingState → RecordingState → Type 0
 Applies e before after = MatchOption (cause_in before.world e) (AddsRow e before after) (λ why. after ≡ before)
 
--- the procedure takes a step, which is recorded, and goes on by it; where the bound on events is reached, nothing changes
+-- the procedure takes a step, which is recorded, and goes on by it; where the bound on events is reached, nothing
+-- changes
 abbrev pub Steps : StepKind → RecordingState → ProcedureState → RecordingState → ProcedureState → Type 0
 Steps kind before h after h' =
     ((r : AddsRow (step_event kind h) before after) × (h' ≡ procedure_after kind r.answer h))

@@ -33,31 +33,38 @@ GoesBy Next.Resync before h after h' = (after ≡ before) × (h' ≡ procedure_i
 GoesBy Next.Rest before h after h' = (after ≡ before) × (h' ≡ h)
 GoesBy (Next.Take kind) before h after h' = Steps kind before h after h'
 
--- What a turn is, over any state S of what it is taken on. There `applies` is what an event does, `serves` whether a node
--- serves a call and what that does, and `proceeds` what a procedure does by the turn rule. `prepares` says which procedure
--- another one is prepared to, and `takes` what comes then in one piece: the node serves, or else does what it chose
+-- What a turn is, over any state S of what it is taken on. There `applies` is what an event does, `serves` whether a
+-- node serves a call and what that does, and `proceeds` what a procedure does by the turn rule. `prepares` says which
+-- procedure another one is prepared to, and `takes` what comes then in one piece: the node serves, or else does what it
+-- chose
 
 -- the node does what it chose
-abbrev pub GoesOn : {S : Type 0} → (Event → S → S → Type 0) → (S → ProcedureState → S → ProcedureState → Type 0) → Choice → S → ProcedureState → S → ProcedureState → Type 0
+abbrev pub GoesOn : {S : Type 0} → (Event → S → S → Type 0) → (S → ProcedureState → S → ProcedureState → Type 0)
+    → Choice → S → ProcedureState → S → ProcedureState → Type 0
 GoesOn applies proceeds Choice.Check before h after h' = applies (Event.Check h.node) before after × (h' ≡ h)
 GoesOn applies proceeds Choice.Timeout before h after h' = applies (Event.Timeout h.node) before after × (h' ≡ h)
 GoesOn applies proceeds Choice.Proceed before h after h' = proceeds before h after h'
 
 -- a node that served does nothing else in its turn
-abbrev pub Follows : {S : Type 0} → (Event → S → S → Type 0) → (S → ProcedureState → S → ProcedureState → Type 0) → Bool → Choice → S → ProcedureState → S → ProcedureState → Type 0
+abbrev pub Follows : {S : Type 0} → (Event → S → S → Type 0) → (S → ProcedureState → S → ProcedureState → Type 0) → Bool
+    → Choice → S → ProcedureState → S → ProcedureState → Type 0
 Follows applies proceeds true choice before h after h' = (after ≡ before) × (h' ≡ h)
 Follows applies proceeds false choice before h after h' = GoesOn applies proceeds choice before h after h'
 
 -- the node serves, or else does what it chose
-abbrev pub ServesOrGoesOn : {S : Type 0} → (Event → S → S → Type 0) → (S → ℕ → Bool → S → Type 0) → (S → ProcedureState → S → ProcedureState → Type 0) → Choice → S → ProcedureState → S → ProcedureState → Type 0
+abbrev pub ServesOrGoesOn : {S : Type 0} → (Event → S → S → Type 0) → (S → ℕ → Bool → S → Type 0)
+    → (S → ProcedureState → S → ProcedureState → Type 0) → Choice → S → ProcedureState → S → ProcedureState → Type 0
 ServesOrGoesOn {S} applies serves proceeds choice before h after h' =
-    (served : Bool) × (mid : S) × serves before h.node served mid × Follows applies proceeds served choice mid h after h'
+    (served : Bool) × (mid : S) × serves before h.node served mid
+    × Follows applies proceeds served choice mid h after h'
 
--- a node's turn of this number, with the procedure that it holds: it is prepared, and then the node serves, or else goes on
--- as it chooses, where a node checks once in a period
-abbrev pub IsTurnOn : {S : Type 0} → (S → ProcedureState → ProcedureState → Type 0) → (Choice → S → ProcedureState → S → ProcedureState → Type 0) → ℕ → ℕ → S → ProcedureState → S → ProcedureState → Type 0
+-- a node's turn of this number, with the procedure that it holds: it is prepared, and then the node serves, or else
+-- goes on as it chooses, where a node checks once in a period
+abbrev pub IsTurnOn : {S : Type 0} → (S → ProcedureState → ProcedureState → Type 0) → (Choice → S → ProcedureState → S
+    → ProcedureState → Type 0) → ℕ → ℕ → S → ProcedureState → S → ProcedureState → Type 0
 IsTurnOn prepares takes period number before h after h' =
-    (ready : ProcedureState) × prepares before h ready × takes (chosen_every period number ready.point) before ready after h'
+    (ready : ProcedureState) × prepares before h ready
+    × takes (chosen_every period number ready.point) before ready after h'
 
 -- the operator's turn: the faults of that turn, one after the other
 abbrev pub OperatesOn : {S : Type 0} → (Event → S → S → Type 0) → ℕ → List Fault → S → S → Type 0
@@ -95,15 +102,18 @@ TakeTurns period number before (h ∷ hs) after (h' ∷ hs') =
     (mid : RecordingState) × IsTurn period number before h mid h' × TakeTurns period number mid hs after hs'
 
 -- a round: the operator's turn of this number, and then each node's
-abbrev pub IsRound : List Fault → ℕ → ℕ → RecordingState → List ProcedureState → RecordingState → List ProcedureState → Type 0
+abbrev pub IsRound : List Fault → ℕ → ℕ → RecordingState → List ProcedureState → RecordingState → List ProcedureState
+    → Type 0
 IsRound faults period number before hs after hs' =
     (mid : RecordingState) × Operates number faults before mid × TakeTurns period number mid hs after hs'
 
 -- so many rounds, the first of which has this number
-abbrev pub Rounds : List Fault → ℕ → ℕ → ℕ → RecordingState → List ProcedureState → RecordingState → List ProcedureState → Type 0
+abbrev pub Rounds : List Fault → ℕ → ℕ → ℕ → RecordingState → List ProcedureState → RecordingState → List ProcedureState
+    → Type 0
 Rounds faults period zero number before hs after hs' = (after ≡ before) × (hs' ≡ hs)
 Rounds faults period (suc more) number before hs after hs' =
-    (mid : RecordingState) × (between : List ProcedureState) × IsRound faults period number before hs mid between × Rounds faults period more (number + 1) mid between after hs'
+    (mid : RecordingState) × (between : List ProcedureState) × IsRound faults period number before hs mid between
+    × Rounds faults period more (number + 1) mid between after hs'
 
 abbrev pub idle_at : Setup → ℕ → ProcedureState
 idle_at setup i = procedure_state setup i 0 Idle [] None false
@@ -120,5 +130,6 @@ first_recording setup = record { world = first_state setup; rows = [] }
 pub record IsScheduled (c : Configuration) (events : List Event) : Type 0 where
   pub last : RecordingState
   pub procedures : List ProcedureState
-  pub rounds : Rounds c.faults c.period c.turns 1 (first_recording c.setup) (idle_first c.setup c.setup.nodes) last procedures
+  pub rounds : Rounds c.faults c.period c.turns 1 (first_recording c.setup)
+      (idle_first c.setup c.setup.nodes) last procedures
   pub rows : last.rows ≡ map Row.Event events

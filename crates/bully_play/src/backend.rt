@@ -38,8 +38,8 @@ pub trait Backend {
         ensures same_node { HasSameNode (state_of procedure.old) (state_of procedure.new) }
         ensures same { self.new ≡ self.old };
 
-    /// Runs the call that waits for the procedure's node. Where none does, the node does what it chose: a check, a timeout, or
-    /// what the turn rule says of the procedure, which goes on by that.
+    /// Runs the call that waits for the procedure's node. Where none does, the node does what it chose: a check, a
+    /// timeout, or what the turn rule says of the procedure, which goes on by that.
     fn carry_out(&mut self, choice: Choice, procedure: &mut Procedure) -> Result<(), OutOfMemory>
         requires { (state_of procedure.old).setup ≡ setup self.old }
         ensures takes { OnOk result (takes choice self.old (state_of procedure.old) self.new (state_of procedure.new)) }

@@ -1,5 +1,6 @@
-//! A group that is played on one thread: `play` takes the turns of the operator and of each node, one after the other, and
-//! writes the trace. What a turn is stands here once, over any [`Backend`]: here that is a world whose events are recorded.
+//! A group that is played on one thread: `play` takes the turns of the operator and of each node, one after the other,
+//! and writes the trace. What a turn is stands here once, over any [`Backend`]: here that is a world whose events are
+//! recorded.
 //!
 //! It stands on bully_steps, bully_world, bully_rows and bully_config, and needs no lock and no group. The program and
 //! bully_nodes rely on what is played being the text of a lawful trace, whose crashes and recoveries are faults of the

@@ -53,12 +53,14 @@ impl From<TraceFault> for PlayFault {
 
 /// Plays the configuration on one thread, and writes the trace of what happened, in version 1 where that can tell the
 /// setup, and else in version 2. In each of the configuration's turns the operator comes first, and then the nodes in
-/// rising order. Where nothing stood before, what is written means that very trace.
-/// Refused as `OutOfMemory` where an allocation fails, and then nothing was written; as `Write` where the writer fails, and
-/// then a prefix of the trace may have been written. The rule: docs/ALGORITHM.md.
+/// rising order. Where nothing stood before, what is written means that very trace. Refused as `OutOfMemory` where an
+/// allocation fails, and then nothing was written; as `Write` where the writer fails, and then a prefix of the trace
+/// may have been written. The rule: docs/ALGORITHM.md.
 pub fn play<W: Write>(alloc: Global, config: &Config, writer: &mut W) -> Result<(), PlayFault>
-    ensures played { OnOk result ((events : List Event) × IsPlay config.now events × IsScheduled config.now events × Appends (W.contents writer.old) (W.contents writer.new) (trace_text (trace_with config.now.setup events))) }
-    ensures read_back { OnOk result (W.contents writer.old ≡ Some [] → (events : List Event) × IsPlay config.now events × IsTraceOf (W.contents writer.new) (trace_with config.now.setup events)) }
+    ensures played { OnOk result ((events : List Event) × IsPlay config.now events × IsScheduled config.now events
+        × Appends (W.contents writer.old) (W.contents writer.new) (trace_text (trace_with config.now.setup events))) }
+    ensures read_back { OnOk result (W.contents writer.old ≡ Some [] → (events : List Event) × IsPlay config.now events
+        × IsTraceOf (W.contents writer.new) (trace_with config.now.setup events)) }
     ensures memory { result ≡ Err PlayFault.OutOfMemory → writer.new ≡ writer.old }
 {
     let trace = trace_of(alloc, config)?;
@@ -68,7 +70,8 @@ pub fn play<W: Write>(alloc: Global, config: &Config, writer: &mut W) -> Result<
 // The trace of a play.
 fn trace_of(alloc: Global, config: &Config) -> Result<Trace, OutOfMemory>
     ensures told { IfOk result IsTold }
-    ensures played { IfOk result (λ trace. (events : List Event) × IsPlay config.now events × IsScheduled config.now events × (trace ≡ trace_with config.now.setup events)) }
+    ensures played { IfOk result (λ trace. (events : List Event) × IsPlay config.now events
+        × IsScheduled config.now events × (trace ≡ trace_with config.now.setup events)) }
 {
     let setup = config.setup();
     let mut schedule = Schedule::new(alloc, config.faults())?;
@@ -110,7 +113,8 @@ fn take_round(
     requires left { AreLeft config.now.faults turn schedule.old }
     requires recorded { IsRecorded config.now recording.old }
     requires setups { All (λ p. (state_of p).setup ≡ config.now.setup) procedures.old }
-    ensures round { OnOk result (IsRound config.now.faults config.now.period turn recording.old (map state_of procedures.old) recording.new (map state_of procedures.new)) }
+    ensures round { OnOk result (IsRound config.now.faults config.now.period turn recording.old
+        (map state_of procedures.old) recording.new (map state_of procedures.new)) }
     ensures left { OnOk result (AreLeft config.now.faults (turn + 1) schedule.new) }
     ensures recorded { OnOk result (IsRecorded config.now recording.new) }
     ensures setups { OnOk result (All (λ p. (state_of p).setup ≡ config.now.setup) procedures.new) }
@@ -132,7 +136,8 @@ fn record_node_turn(
 ) -> Result<(), OutOfMemory>
     requires setup { (state_of procedure.old).setup ≡ recording.old.world.setup }
     requires period { 0 < period }
-    ensures turn { OnOk result (IsTurn period turn recording.old (state_of procedure.old) recording.new (state_of procedure.new)) }
+    ensures turn { OnOk result
+        (IsTurn period turn recording.old (state_of procedure.old) recording.new (state_of procedure.new)) }
     ensures recorded { OnOk result (Continues recording.old recording.new) }
     ensures same_node { OnOk result (HasSameNode (state_of procedure.old) (state_of procedure.new)) }
 {

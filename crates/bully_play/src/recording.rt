@@ -48,7 +48,8 @@ impl Recording {
     // The procedure's node does what it chose. A check or a timeout leaves the procedure as it is.
     fn go_on(&mut self, choice: Choice, procedure: &mut Procedure) -> Result<(), OutOfMemory>
         requires setup { (state_of procedure.old).setup ≡ self.old.world.setup }
-        ensures goes_on { OnOk result (GoesOn Applies ProceedsIn choice self.old (state_of procedure.old) self.new (state_of procedure.new)) }
+        ensures goes_on { OnOk result
+            (GoesOn Applies ProceedsIn choice self.old (state_of procedure.old) self.new (state_of procedure.new)) }
         ensures same_node { HasSameNode (state_of procedure.old) (state_of procedure.new) }
         ensures setup { OnOk result (self.new.world.setup ≡ self.old.world.setup) }
     {
@@ -62,7 +63,8 @@ impl Recording {
     // The procedure goes on by the turn rule.
     fn proceed(&mut self, procedure: &mut Procedure) -> Result<(), OutOfMemory>
         requires setup { (state_of procedure.old).setup ≡ self.old.world.setup }
-        ensures proceeds { OnOk result (ProceedsIn self.old (state_of procedure.old) self.new (state_of procedure.new)) }
+        ensures proceeds { OnOk result
+            (ProceedsIn self.old (state_of procedure.old) self.new (state_of procedure.new)) }
         ensures same_node { HasSameNode (state_of procedure.old) (state_of procedure.new) }
         ensures setup { OnOk result (self.new.world.setup ≡ self.old.world.setup) }
     {

@@ -6,8 +6,8 @@ use bully_config::Fault;
 use std::alloc::Global;
 use std::marker::Model;
 
-/// The faults of a configuration that are still to come, in the order of their turns, and those of one turn in the order of
-/// the document. Contracts see it as their list.
+/// The faults of a configuration that are still to come, in the order of their turns, and those of one turn in the
+/// order of the document. Contracts see it as their list.
 #[derive(Drop)]
 pub struct Schedule {
     faults: Vec<Fault>,

@@ -19,8 +19,10 @@ pub fn take_operator_turn<S: Backend>(
     schedule: &mut Schedule,
     turn: u32,
 ) -> Result<(), OutOfMemory>
-    ensures operates { OnOk result ((faults : List AnyFault) → AreLeft faults turn schedule.old → OperatesOn S.applies turn faults backend.old backend.new) }
-    ensures left { OnOk result ((faults : List AnyFault) → AreLeft faults turn schedule.old → AreLeft faults (turn + 1) schedule.new) }
+    ensures operates { OnOk result ((faults : List AnyFault) → AreLeft faults turn schedule.old
+        → OperatesOn S.applies turn faults backend.old backend.new) }
+    ensures left { OnOk result ((faults : List AnyFault) → AreLeft faults turn schedule.old
+        → AreLeft faults (turn + 1) schedule.new) }
     ensures setup { OnOk result (S.setup backend.new ≡ S.setup backend.old) }
 {
     while let Some(fault) = schedule.take_until(turn) {
@@ -41,9 +43,9 @@ fn fault_event(fault: Fault) -> Event
     }
 }
 
-/// The turn of this number of the node that holds the procedure, which goes on. If the procedure is
-/// Planning, it is prepared first. Then, in one piece, the node serves the call that waits for it, if any; else it goes on
-/// as it chooses, with a check once in a period of at least 1.
+/// The turn of this number of the node that holds the procedure, which goes on. If the procedure is Planning, it is
+/// prepared first. Then, in one piece, the node serves the call that waits for it, if any; else it goes on as it
+/// chooses, with a check once in a period of at least 1.
 pub fn take_node_turn<S: Backend>(
     backend: &mut S,
     period: u32,
@@ -52,7 +54,8 @@ pub fn take_node_turn<S: Backend>(
 ) -> Result<(), OutOfMemory>
     requires setup { (state_of procedure.old).setup ≡ S.setup backend.old }
     requires period { 0 < period }
-    ensures turn { OnOk result (IsTurnOn S.prepares S.takes period turn backend.old (state_of procedure.old) backend.new (state_of procedure.new)) }
+    ensures turn { OnOk result (IsTurnOn S.prepares S.takes period turn backend.old (state_of procedure.old) backend.new
+        (state_of procedure.new)) }
     ensures same_node { HasSameNode (state_of procedure.old) (state_of procedure.new) }
     ensures setup { OnOk result (S.setup backend.new ≡ S.setup backend.old) }
 {

@@ -1,5 +1,6 @@
 -- What a node owns, by what a replica has learned.
-use Rattle.std.specs.Prelude.{◌≡◌, ◌↔◌, ◌<◌, ◌≤◌, ◌&&◌, ◌==◌, if◌then◌else◌, ℕ, suc, List, [], ◌∷◌, Option, Some, None, Contains, nat_lt}
+use Rattle.std.specs.Prelude.{◌≡◌, ◌↔◌, ◌<◌, ◌≤◌, ◌&&◌, ◌==◌, if◌then◌else◌, ℕ, suc, List, [], ◌∷◌, Option, Some, None}
+use Rattle.std.specs.Prelude.{Contains, nat_lt}
 use Rattle.bully_agree.specs.Fencing.{Planned}
 use Rattle.bully_base.specs.Setup.{Setup}
 use Rattle.bully_calls.specs.declared.event.Event.{Event}
@@ -14,7 +15,8 @@ use Rattle.bully_world.specs.World.{vector}
 -- the partitions of node i in a table whose first partition is k, in rising order
 abbrev pub partitions_from : ℕ → List ℕ → ℕ → List ℕ
 partitions_from k [] i = []
-partitions_from k (owner ∷ table) i = if owner == i then k ∷ partitions_from (suc k) table i else partitions_from (suc k) table i
+partitions_from k (owner ∷ table) i = if owner == i then k ∷ partitions_from (suc k) table i else
+    partitions_from (suc k) table i
 
 abbrev pub partitions_of : List ℕ → ℕ → List ℕ
 partitions_of table i = partitions_from 0 table i
@@ -32,7 +34,8 @@ owned_in (Some p) i = owned_with p.token (partitions_of p.table i)
 -- by which token node i's process may work, and on which partitions, if on any: the node is Normal, and the last plan
 -- is at or after this offset
 abbrev pub owned_by : ReplicaState → ℕ → ℕ → Option Owned
-owned_by r i offset = if is_normal (vector (world_of r.world) i).status && nat_lt offset (token_of r.last) then owned_in r.last i else None
+owned_by r i offset = if is_normal (vector (world_of r.world) i).status && nat_lt offset (token_of r.last)
+    then owned_in r.last i else None
 
 abbrev pub token_in : Owned → ℕ
 token_in owned = owned.token
@@ -53,12 +56,14 @@ OwnsBehind r i offset token = (events : List Event) → IsLogOf r events → Own
 -- whatever log leads to the replica, no plan at or after the offset by which node i is an owner gives it any partition
 abbrev pub OwnsNothingBehind : ReplicaState → ℕ → ℕ → Type 0
 OwnsNothingBehind r i offset =
-    (events : List Event) (p : Planned) (k : ℕ) → IsLogOf r events → IsOwner r.world.setup events i p → offset < p.token → GivesTo p.table k i → ⊥
+    (events : List Event) (p : Planned) (k : ℕ) → IsLogOf r events → IsOwner r.world.setup events i p → offset < p.token
+    → GivesTo p.table k i → ⊥
 
 -- whatever log leads to the replica, a plan by which node i is an owner gives it these partitions, and no others
 abbrev pub OwnsExactly : ReplicaState → ℕ → List ℕ → Type 0
 OwnsExactly r i partitions =
-    (events : List Event) (p : Planned) → IsLogOf r events → IsOwner r.world.setup events i p → (k : ℕ) → Contains partitions k ↔ GivesTo p.table k i
+    (events : List Event) (p : Planned) → IsLogOf r events → IsOwner r.world.setup events i p → (k : ℕ)
+    → Contains partitions k ↔ GivesTo p.table k i
 
 -- each is greater than the one before it, and the first is at least `least`
 abbrev pub IsRisingFrom : ℕ → List ℕ → Type 0

@@ -1,5 +1,6 @@
 -- The events that make a group stable.
-use Rattle.std.specs.Prelude.{◌≢◌, ◌<◌, ◌≤◌, ◌++◌, ◌-◌, ◌*◌, ◌==◌, ◌&&◌, ◌||◌, not, if◌then◌else◌, ℕ, zero, suc, Bool, true, false, List, [], ◌∷◌, Option, Some, None, length}
+use Rattle.std.specs.Prelude.{◌≢◌, ◌<◌, ◌≤◌, ◌++◌, ◌-◌, ◌*◌, ◌==◌, ◌&&◌, ◌||◌, not, if◌then◌else◌, ℕ, zero, suc, Bool}
+use Rattle.std.specs.Prelude.{true, false, List, [], ◌∷◌, Option, Some, None, length}
 use Rattle.bully_agree.specs.Fencing.{IsLastPlan, Planned}
 use Rattle.bully_base.specs.Setup.{Setup}
 use Rattle.bully_calls.specs.declared.call.Answer.{Answer}
@@ -39,12 +40,14 @@ crashing w (suc n) = crashing w n ++ event_if (not (is_down_at w (suc n))) (Even
 -- first, if it is up
 abbrev pub prepared_by : Bool → Bool → Bool → ℕ → List Event
 prepared_by is_live stands is_down i =
-    event_if (not is_down && (not is_live || stands)) (Event.Crash i) ++ event_if (is_live && (is_down || stands)) (Event.Recover i)
+    event_if (not is_down && (not is_live || stands)) (Event.Crash i)
+    ++ event_if (is_live && (is_down || stands)) (Event.Recover i)
 
 -- the same of all nodes from 1 to n
 abbrev pub preparing : World → List ℕ → ℕ → ℕ → List Event
 preparing w live h zero = []
-preparing w live h (suc n) = preparing w live h n ++ prepared_by (is_member live (suc n)) (suc n == h) (is_down_at w (suc n)) (suc n)
+preparing w live h (suc n) =
+    preparing w live h n ++ prepared_by (is_member live (suc n)) (suc n == h) (is_down_at w (suc n)) (suc n)
 
 -- node h halts the nodes from k down to 1, and the live ones answer
 abbrev pub halting : List ℕ → ℕ → ℕ → List Event
@@ -59,7 +62,8 @@ calling h n are_answered = repeated n (whole_call h are_answered) ++ Event.Move 
 -- halts all below, announces itself, plans from the old table, and hands the table out
 abbrev pub rebalancing_by : Setup → World → Option (List ℕ) → List ℕ → ℕ → ℕ → List Event
 rebalancing_by setup w old live h others =
-    ((((preparing w live h setup.nodes ++ calling h (setup.nodes - h) false) ++ (halting live h (h - 1) ++ Event.Move h ∷ [])) ++ calling h others true)
+    ((((preparing w live h setup.nodes ++ calling h (setup.nodes - h) false)
+    ++ (halting live h (h - 1) ++ Event.Move h ∷ [])) ++ calling h others true)
     ++ Event.Plan h (planned setup old live) ∷ []) ++ calling h others true
 
 -- the events that make the group of world w stable among these nodes, which are in falling order: with no live node all
@@ -79,7 +83,8 @@ rebalancing_of r old live = rebalancing r.world.setup (world_of r.world) (table_
 
 -- after this log a plan of these events is the last; its owners are live, and no balanced table has fewer moves from
 -- the old one
-pub record PlansAnew (setup : Setup) (log : List Event) (old : Option (List ℕ)) (live : List ℕ) (more : List Event) : Type 0 where
+pub record PlansAnew (setup : Setup) (log : List Event) (old : Option (List ℕ)) (live : List ℕ)
+    (more : List Event) : Type 0 where
   pub plan : Planned
   pub last : IsLastPlan (log ++ more) plan
   pub behind : length log < plan.token
@@ -88,7 +93,8 @@ pub record PlansAnew (setup : Setup) (log : List Event) (old : Option (List ℕ)
 
 -- after this log these events are lawful and few, and lead to a world that is stable among these nodes, by a new plan
 -- if any node is live
-pub record Rebalances (setup : Setup) (log : List Event) (old : Option (List ℕ)) (live : List ℕ) (more : List Event) : Type 0 where
+pub record Rebalances (setup : Setup) (log : List Event) (old : Option (List ℕ)) (live : List ℕ)
+    (more : List Event) : Type 0 where
   pub few : length more ≤ 11 * setup.nodes
   pub answers : List Answer
   pub world : World

@@ -5,7 +5,8 @@
 //! an owner wherever its process may work, and a rebalance makes the group stable.
 #![tactic(auto)]
 
-ghost use Rattle.std.specs.Prelude.{◌≡◌, ◌≢◌, ◌<◌, ◌≤◌, ◌+◌, ◌*◌, ◌++◌, [], ℕ, All, Contains, IfSome, List, Option, length};
+ghost use Rattle.std.specs.Prelude.{◌≡◌, ◌≢◌, ◌<◌, ◌≤◌, ◌+◌, ◌*◌, ◌++◌, [], ℕ, All, Contains, IfSome, List, Option};
+ghost use Rattle.std.specs.Prelude.{length};
 ghost use Rattle.bully_base.specs.NodeSet.{IsFallingBelow};
 ghost use Rattle.bully_base.specs.Setup.{IsNode, IsSetup, Setup};
 ghost use Rattle.bully_calls.specs.declared.call.Answer.{Answer};
@@ -35,7 +36,8 @@ pub use working::{may_work, owned};
 /// live node may work on exactly what the last plan gives the node.
 pub fn stable_works()
     ensures served { (r : ReplicaState) (events : List Event) (live : List ℕ) (offset k : ℕ)
-        → IsLogOf r events → All (IsNode r.world.setup) live → live ≢ [] → IsStable r live offset → k < r.world.setup.partitions
+        → IsLogOf r events → All (IsNode r.world.setup) live → live ≢ [] → IsStable r live offset
+        → k < r.world.setup.partitions
         → (i : ℕ) × Contains live i × WorksOn (world_of r.world) i k }
     ensures owned { (r : ReplicaState) (live : List ℕ) (offset i : ℕ)
         → IsStable r live offset → IsNode r.world.setup i → Contains live i → owned_by r i offset ≡ owned_in r.last i }
@@ -47,14 +49,16 @@ pub fn stable_works()
 /// nodes alone. There are at most 11 events for each node of the setup. So a replica of the log and of these events is
 /// stable, by a plan after the log. A member may append the events to the log of a store of bully_work.
 pub fn becomes_stable()
-    ensures rebalances { (setup : Setup) (log : List Event) (answers : List Answer) (w : World) (old : Option (List ℕ)) (live : List ℕ)
+    ensures rebalances { (setup : Setup) (log : List Event) (answers : List Answer) (w : World) (old : Option (List ℕ))
+        (live : List ℕ)
         → IsSetup setup → IsLawful setup log answers w → IfSome old (λ t. length t ≡ setup.partitions)
         → IsFallingBelow (setup.nodes + 1) live → length log + length (rebalancing setup w old live) ≤ setup.events_max
         → Rebalances setup log old live (rebalancing setup w old live) }
     ensures few { (setup : Setup) (w : World) (old : Option (List ℕ)) (live : List ℕ)
         → IsFallingBelow (setup.nodes + 1) live → length (rebalancing setup w old live) ≤ 11 * setup.nodes }
     ensures stable { (r : ReplicaState) (log more : List Event) (old : Option (List ℕ)) (live : List ℕ) (offset : ℕ)
-        → Rebalances r.world.setup log old live more → IsLogOf r (log ++ more) → offset ≤ length log → IsStable r live offset }
+        → Rebalances r.world.setup log old live more → IsLogOf r (log ++ more) → offset ≤ length log
+        → IsStable r live offset }
     ensures append { (setup : Setup) (s : Store) (old : Option (List ℕ)) (live : List ℕ) (more : List Event)
         → Rebalances setup s.log old live more → MayAppend setup s more }
 {}

@@ -1,11 +1,14 @@
-ghost use Rattle.std.specs.Prelude.{◌≡◌, ◌≢◌, ◌↔◌, ◌<◌, ◌≤◌, ◌+◌, ◌++◌, ◌*◌, ◌-◌, ◌∷◌, [], not, ℕ, All, IfErr, IfOk, IfSome, IsTrue, List, OnOk, Option, Some, false, true, if◌then◌else◌, length};
+ghost use Rattle.std.specs.Prelude.{◌≡◌, ◌≢◌, ◌↔◌, ◌<◌, ◌≤◌, ◌+◌, ◌++◌, ◌*◌, ◌-◌, ◌∷◌, [], not, ℕ, All, IfErr, IfOk};
+ghost use Rattle.std.specs.Prelude.{IfSome, IsTrue, List, OnOk, Option, Some, false, true, if◌then◌else◌, length};
 ghost use Rattle.std.specs.Option.{option_copied};
 ghost use Rattle.bully_base.specs.NodeSet.{IsFallingBelow, highest_of};
 ghost use Rattle.bully_base.specs.Setup.{IsSetup};
 ghost use Rattle.bully_base.specs.declared.TheConstants.{NODES_MAX};
 ghost use Rattle.bully_calls.specs.declared.event.Event.{Event as EventState};
 ghost use Rattle.bully_replica.specs.Replica.{IsLogOf};
-ghost use Rattle.bully_rebalance.specs.Rebalancing.{Rebalances, calling, crashing, event_if, halting, prepared_by, preparing, rebalancing, rebalancing_by, rebalancing_of, table_before, whole_call};
+ghost use Rattle.bully_rebalance.specs.Rebalancing.{Rebalances, calling, crashing, event_if, halting, prepared_by};
+ghost use Rattle.bully_rebalance.specs.Rebalancing.{preparing, rebalancing, rebalancing_by, rebalancing_of};
+ghost use Rattle.bully_rebalance.specs.Rebalancing.{table_before, whole_call};
 ghost use Rattle.bully_rebalance.specs.declared.rebalancing.RebalanceFault.{RebalanceFault};
 ghost use Rattle.bully_table.specs.Planning.{planned};
 ghost use Rattle.bully_world.specs.Cause.{is_down_at};
@@ -36,13 +39,14 @@ impl From<AllocError> for RebalanceFault {
     }
 }
 
-/// The events that make the group stable among the nodes that are live: with no live node each node that is up crashes; else the
-/// highest stands for election and plans. The new table has the fewest moves from that of the log's last plan; if the log has none,
-/// from the old one, which is the last table of the epoch before, if there was one. They are at most 11 for each node of the setup,
-/// and they come behind the replica's log, with nothing between. The replica stays as it is. The rule: docs/REBALANCING.md.
+/// The events that make the group stable among the live nodes. With no live node each node that is up crashes; else the
+/// highest live node stands for election and plans. The new table has the fewest moves from that of the log's last
+/// plan; if the log has no plan, from the old table, which is the last one of the epoch before, if there was one. There
+/// are at most 11 events for each node of the setup. They come right after the replica's log, with nothing between. The
+/// replica stays as it is. The rule: docs/REBALANCING.md.
 ///
-/// Refused, in this order, as `Full`, `OutOfMemory`. The nodes that are live are at most the setup's last; an old table has the
-/// setup's partitions.
+/// Refused, in this order, as `Full`, `OutOfMemory`. The live nodes are at most the setup's last, and an old table has
+/// the setup's partitions.
 pub fn rebalance(
     alloc: Global,
     replica: &Replica,
@@ -51,12 +55,16 @@ pub fn rebalance(
 ) -> Result<Vec<Event>, RebalanceFault>
     requires nodes { All (λ m. m ≤ replica.now.world.setup.nodes) live.now }
     requires old { IfSome (option_copied old) (λ t. length t ≡ replica.now.world.setup.partitions) }
-    ensures events { IfOk result (λ events. events.items ≡ rebalancing_of replica.now (option_copied old.entry) live.now) }
+    ensures events { IfOk result (λ events.
+        events.items ≡ rebalancing_of replica.now (option_copied old.entry) live.now) }
     ensures rebalances { IfOk result (λ events. (log : List EventState) → IsLogOf replica.now log
-        → Rebalances replica.now.world.setup log (table_before replica.now.last (option_copied old.entry)) live.now events.items) }
-    ensures room { IfOk result (λ events. replica.now.world.events + length events.items ≤ replica.now.world.setup.events_max) }
+        → Rebalances replica.now.world.setup log
+        (table_before replica.now.last (option_copied old.entry)) live.now events.items) }
+    ensures room { IfOk result (λ events. replica.now.world.events + length events.items
+        ≤ replica.now.world.setup.events_max) }
     ensures full { IfErr result (λ fault. (fault ≡ RebalanceFault.Full)
-        ↔ (replica.now.world.setup.events_max < replica.now.world.events + length (rebalancing_of replica.now (option_copied old.entry) live.now))) }
+        ↔ (replica.now.world.setup.events_max
+        < replica.now.world.events + length (rebalancing_of replica.now (option_copied old.entry) live.now))) }
 {
     let count = count_rebalance(replica.world(), live);
     if !has_room(replica, count) {
@@ -79,7 +87,8 @@ fn has_room(replica: &Replica, count: u32) -> bool
 // How many events rebalance the group, from whatever old table.
 fn count_rebalance(world: &World, live: &NodeSet) -> u32
     requires nodes { All (λ m. m ≤ world.now.setup.nodes) live.now }
-    ensures count { (old : Option (List ℕ)) → length (rebalancing world.now.setup (world_of world.now) old live.now) ≡ result }
+    ensures count { (old : Option (List ℕ))
+        → length (rebalancing world.now.setup (world_of world.now) old live.now) ≡ result }
     ensures few { result ≤ 11 * NODES_MAX }
     ensures falling { IsFallingBelow (NODES_MAX + 1) live.now }
 {
@@ -193,7 +202,8 @@ fn push_rebalance(
     requires old { IfSome (option_copied old) (λ t. length t ≡ replica.now.world.setup.partitions) }
     requires highest { highest_of live.now ≡ Some highest }
     ensures { OnOk result (events.new.items
-        ≡ events.old.items ++ rebalancing_by replica.now.world.setup (world_of replica.now.world) (table_before replica.now.last (option_copied old.entry)) live.now highest (length live.now - 1)) }
+        ≡ events.old.items ++ rebalancing_by replica.now.world.setup (world_of replica.now.world)
+        (table_before replica.now.last (option_copied old.entry)) live.now highest (length live.now - 1)) }
 {
     let table = planned_table(alloc, replica, live, old)?;
     push_election(replica.world(), live, highest, events)?;
@@ -219,7 +229,8 @@ fn planned_table(
     requires nodes { All (λ m. m ≤ replica.now.world.setup.nodes) live.now }
     requires old { IfSome (option_copied old) (λ t. length t ≡ replica.now.world.setup.partitions) }
     requires some { live.now ≢ [] }
-    ensures { IfOk result (λ table. table ≡ planned replica.now.world.setup (table_before replica.now.last (option_copied old.entry)) live.now) }
+    ensures { IfOk result (λ table.
+        table ≡ planned replica.now.world.setup (table_before replica.now.last (option_copied old.entry)) live.now) }
 {
     match plan_in(
         alloc,
@@ -254,8 +265,10 @@ fn push_election(
     requires some { live.now ≢ [] }
     requires within { highest ≤ world.now.setup.nodes }
     ensures { OnOk result (events.new.items
-        ≡ events.old.items ++ (((preparing (world_of world.now) live.now highest world.now.setup.nodes ++ calling highest (world.now.setup.nodes - highest) false)
-        ++ (halting live.now highest (highest - 1) ++ EventState.Move highest ∷ [])) ++ calling highest (length live.now - 1) true)) }
+        ≡ events.old.items ++ (((preparing (world_of world.now) live.now highest world.now.setup.nodes
+        ++ calling highest (world.now.setup.nodes - highest) false)
+        ++ (halting live.now highest (highest - 1) ++ EventState.Move highest ∷ []))
+        ++ calling highest (length live.now - 1) true)) }
 {
     push_preparing(world, live, highest, events)?;
     push_calling(
@@ -275,7 +288,8 @@ fn push_preparing(
     highest: Node,
     events: &mut Vec<Event>,
 ) -> Result<(), OutOfMemory>
-    ensures { OnOk result (events.new.items ≡ events.old.items ++ preparing (world_of world.now) live.now highest world.now.setup.nodes) }
+    ensures { OnOk result (events.new.items ≡ events.old.items
+        ++ preparing (world_of world.now) live.now highest world.now.setup.nodes) }
 {
     for before in 0..world.setup().nodes() {
         let node = Node::new(before + 1).unwrap();
@@ -317,7 +331,8 @@ fn push_prepared(
 
 // Pushes the node's halts, and then its move.
 fn push_halting(live: &NodeSet, node: Node, events: &mut Vec<Event>) -> Result<(), OutOfMemory>
-    ensures { OnOk result (events.new.items ≡ events.old.items ++ (halting live.now node (node - 1) ++ EventState.Move node ∷ [])) }
+    ensures { OnOk result (events.new.items ≡ events.old.items
+        ++ (halting live.now node (node - 1) ++ EventState.Move node ∷ [])) }
 {
     let below = node.number() - 1;
     for done in 0..below {

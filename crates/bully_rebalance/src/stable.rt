@@ -8,9 +8,9 @@ use bully_replica::Replica;
 use bully_table::Table;
 use bully_world::World;
 
-/// Whether the group is stable among the nodes that are live, behind so many events: these nodes are Normal under the highest of
-/// them, all others are Down, and, if any is live, the log's last plan stands at or behind that offset and gives partitions to them
-/// alone. The rule: docs/REBALANCING.md.
+/// Whether the group is stable among the live nodes, for this offset: these nodes are Normal under the highest of them,
+/// all others are Down, and, if any node is live, the log's last plan is at or after the offset and gives partitions to
+/// live nodes alone. The rule: docs/REBALANCING.md.
 pub fn is_stable(replica: &Replica, live: &NodeSet, offset: u32) -> bool
     ensures { IsTrue result ↔ IsStable replica.now live.now offset }
 {

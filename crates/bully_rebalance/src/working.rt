@@ -1,9 +1,11 @@
-ghost use Rattle.std.specs.Prelude.{◌≡◌, ◌≢◌, ◌↔◌, ◌≤◌, ◌<◌, ◌&&◌, [], if◌then◌else◌, IfOk, IfSome, IfNone, IsTrue, None, OnOk, length, nat_lt, ◌++◌, ◌∷◌};
+ghost use Rattle.std.specs.Prelude.{◌≡◌, ◌≢◌, ◌↔◌, ◌≤◌, ◌<◌, ◌&&◌, [], if◌then◌else◌, IfOk, IfSome, IfNone, IsTrue};
+ghost use Rattle.std.specs.Prelude.{None, OnOk, length, nat_lt, ◌++◌, ◌∷◌};
 ghost use Rattle.std.specs.Option.{option_copied, option_map};
 ghost use Rattle.bully_handlers.specs.Vector.{is_normal};
 ghost use Rattle.bully_replica.specs.LastPlan.{table_in};
 ghost use Rattle.bully_replica.specs.Replica.{token_of};
-ghost use Rattle.bully_rebalance.specs.Owning.{IsRisingFrom, OwnsBehind, OwnsExactly, OwnsNothingBehind, owned_by, owned_with, partitions_of, token_in};
+ghost use Rattle.bully_rebalance.specs.Owning.{IsRisingFrom, OwnsBehind, OwnsExactly, OwnsNothingBehind, owned_by};
+ghost use Rattle.bully_rebalance.specs.Owning.{owned_with, partitions_of, token_in};
 ghost use Rattle.bully_world.specs.State.{world_of};
 ghost use Rattle.bully_world.specs.World.{vector};
 
@@ -13,9 +15,9 @@ use bully_replica::Replica;
 use bully_table::Table;
 use std::alloc::Global;
 
-/// The token by which the node's process may work behind so many events, if it may: the node is Normal, the log's last plan stands
-/// at or behind that offset, and gives the node a partition. The token is how many events there are up to that plan and with it. It
-/// takes no memory. The node is at most the setup's last. The rule: docs/REBALANCING.md.
+/// The token by which the node's process may work, if it may: the node is Normal, and the log's last plan is at or
+/// after this offset and gives the node a partition. The token is the number of events up to and including that plan.
+/// It takes no memory. The node is at most the setup's last. The rule: docs/REBALANCING.md.
 pub fn may_work(replica: &Replica, node: Node, offset: u32) -> Option<u32>
     requires { node ≤ replica.now.world.setup.nodes }
     ensures token { result ≡ option_map token_in (owned_by replica.now node offset) }
@@ -59,7 +61,8 @@ pub fn owned(
 fn table_behind(replica: &Replica, node: Node, offset: u32) -> Option<&Table>
     requires { node ≤ replica.now.world.setup.nodes }
     ensures table { option_copied result
-        ≡ (if is_normal (vector (world_of replica.now.world) node).status && nat_lt offset (token_of replica.now.last) then option_map table_in replica.now.last else None) }
+        ≡ (if is_normal (vector (world_of replica.now.world) node).status && nat_lt offset (token_of replica.now.last)
+        then option_map table_in replica.now.last else None) }
     ensures partitions { IfSome (option_copied result) (λ t. length t ≡ replica.now.world.setup.partitions) }
 {
     if replica.world().vector(node).status() == Status::Normal && offset < replica.token() {

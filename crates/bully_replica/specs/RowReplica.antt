@@ -25,17 +25,21 @@ LearnsFields fields before after = (row : Row) × (row_in before fields ≡ Some
 
 -- and counted; there was room for it
 abbrev pub Follows : Record → RowReplicaState → RowReplicaState → Type 0
-Follows fields before after = LearnsFields fields before.replica after.replica × (before.rows < ROWS_MAX) × (after.rows ≡ before.rows + 1)
+Follows fields before after = LearnsFields fields before.replica after.replica × (before.rows < ROWS_MAX)
+    × (after.rows ≡ before.rows + 1)
 
 -- why these fields aren't learned: they mean no row, or something is wrong with the row; or there is no memory
 abbrev pub FailsOn : Record → ReplicaState → LearnFault → Type 0
-FailsOn fields r (LearnFault.Form cause) = (cause ≡ TraceCause.OutOfMemory) ⊎ ((cause ≡ TraceCause.BadRow) × (row_in r fields ≡ None))
-FailsOn fields r (LearnFault.Violation violation) = (row : Row) × (row_in r fields ≡ Some row) × (violation_of r.world row ≡ Some violation)
+FailsOn fields r (LearnFault.Form cause) =
+    (cause ≡ TraceCause.OutOfMemory) ⊎ ((cause ≡ TraceCause.BadRow) × (row_in r fields ≡ None))
+FailsOn fields r (LearnFault.Violation violation) = (row : Row) × (row_in r fields ≡ Some row)
+    × (violation_of r.world row ≡ Some violation)
 
 -- why these fields aren't learned after the rows so far: a trace has no more rows, or FailsOn
 abbrev pub FailsBehind : Record → RowReplicaState → LearnFault → Type 0
 FailsBehind fields f fault =
-    ((f.rows ≡ ROWS_MAX) × (fault ≡ LearnFault.Form TraceCause.TooManyRows)) ⊎ ((f.rows < ROWS_MAX) × FailsOn fields f.replica fault)
+    ((f.rows ≡ ROWS_MAX) × (fault ≡ LearnFault.Form TraceCause.TooManyRows))
+    ⊎ ((f.rows < ROWS_MAX) × FailsOn fields f.replica fault)
 
 -- why no row can be read: the reader fails, or there is no memory; or it has given as many rows as a trace may have
 -- with its header
@@ -46,7 +50,8 @@ FailsOutside reader fault =
 
 -- why the next row isn't learned
 abbrev pub FailsAt : ReadSoFar → ReadSoFar → RowReplicaState → LearnFault → Type 0
-FailsAt before after f fault = FailsOutside before fault ⊎ (Takes before.records after.records true after.fields × FailsBehind after.fields f fault)
+FailsAt before after f fault = FailsOutside before fault
+    ⊎ (Takes before.records after.records true after.fields × FailsBehind after.fields f fault)
 
 -- the first of these records were learned, as the rows that they mean, after those before; and the others are left
 pub record FollowsUpTo (records : List Record) (before after : RowReplicaState) (left : List Record) : Type 0 where
@@ -68,4 +73,5 @@ StopsAt left f fault =
 -- or a reader that was here when the replica was at `before` has given as many rows as a trace may have with its header
 abbrev pub Stops : ReadSoFar → RowReplicaState → List Record → RowReplicaState → LearnFault → Type 0
 Stops reader before left f fault =
-    StopsAt left f fault ⊎ ((fault ≡ LearnFault.Form TraceCause.TooManyRows) × (reader.number + f.rows ≡ before.rows + (ROWS_MAX + 1)))
+    StopsAt left f fault
+    ⊎ ((fault ≡ LearnFault.Form TraceCause.TooManyRows) × (reader.number + f.rows ≡ before.rows + (ROWS_MAX + 1)))

@@ -88,9 +88,11 @@ impl RowReplica {
         alloc: Global,
         reader: &mut RowReader<R>,
     ) -> Result<(), LearnFault>
-        ensures all { OnOk result ((records : List Record) → reader.old.records ≡ Some records → FollowsUpTo records self.old self.new []) }
+        ensures all { OnOk result ((records : List Record) → reader.old.records ≡ Some records
+            → FollowsUpTo records self.old self.new []) }
         ensures part { IfErr result (λ fault. (records : List Record) → reader.old.records ≡ Some records
-            → (left : List Record) × FollowsUpTo records self.old self.new left × Stops reader.old self.old left self.new fault) }
+            → (left : List Record) × FollowsUpTo records self.old self.new left
+            × Stops reader.old self.old left self.new fault) }
         ensures counted { self.old.rows ≤ self.new.rows }
         ensures setup { self.new.replica.world.setup ≡ self.old.replica.world.setup }
         ensures within { self.new.rows ≤ ROWS_MAX }
@@ -149,7 +151,8 @@ fn learn_longer<R: Read + Drop>(
     replica: &mut Replica,
     reader: &RowReader<R>,
 ) -> Result<(), LearnFault>
-    requires { length reader.now.fields ≡ 2 → row_of replica.old.version replica.old.world.setup reader.now.fields ≡ None }
+    requires { length reader.now.fields ≡ 2
+        → row_of replica.old.version replica.old.world.setup reader.now.fields ≡ None }
     ensures learned { OnOk result (LearnsFields reader.now.fields replica.old replica.new) }
     ensures fault { IfErr result (FailsOn reader.now.fields replica.old) }
     ensures unchanged { IfErr result (λ _. replica.new ≡ replica.old) }

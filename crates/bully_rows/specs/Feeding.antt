@@ -1,5 +1,6 @@
 -- Rows that are taken one by one, as they are read: any rows, and those of a trace behind its header.
-use Rattle.std.specs.Prelude.{◌≡◌, ◌⊎◌, ◌≤◌, ◌+◌, ◌++◌, ◌∷◌, ℕ, zero, suc, true, false, [], List, length, Option, None, Some, MatchOption}
+use Rattle.std.specs.Prelude.{◌≡◌, ◌⊎◌, ◌≤◌, ◌+◌, ◌++◌, ◌∷◌, ℕ, zero, suc, true, false, [], List, length, Option, None}
+use Rattle.std.specs.Prelude.{Some, MatchOption}
 use Rattle.bully_rows.specs.declared.TheConstants.{ROWS_MAX}
 use Rattle.bully_rows.specs.declared.header.Header.{Header}
 use Rattle.bully_rows.specs.declared.trace.Row.{Row}
@@ -27,28 +28,34 @@ IsLast reader now = Takes reader.records now.records false now.fields
 pub record IsUnreadable (reader : ReadSoFar) (fault : TraceFault) : Type 0 where
   pub why : IsOutside fault ⊎ ((fault.cause ≡ TraceCause.TooManyRows) × (reader.number ≡ ROWS_MAX + 1))
   pub first : (known : Option (List ℕ)) → IsUnread known reader → EndsReading known fault
-  pub later : (known : Option (List ℕ)) (rows : List Row) (header : Header) → HasRead known rows (rows_left header reader) → EndsReading known fault
+  pub later : (known : Option (List ℕ)) (rows : List Row) (header : Header)
+      → HasRead known rows (rows_left header reader) → EndsReading known fault
 
 -- so many rows were read, one after the other, and each was taken as this says
 abbrev pub AreTakenBy : {S : Type 0} → (ReadSoFar → S → S → Type 0) → ℕ → ReadSoFar → S → ReadSoFar → S → Type 0
 AreTakenBy takes zero reader s now after = (now ≡ reader) × (after ≡ s)
 AreTakenBy {S = S} takes (suc n) reader s now after =
-    (mid : ReadSoFar) × (between : S) × AreTakenBy takes n reader s mid between × IsNext mid now × takes now between after
+    (mid : ReadSoFar) × (between : S) × AreTakenBy takes n reader s mid between × IsNext mid now
+    × takes now between after
 
 -- the next row isn't taken: it can't be read, which another fault tells, and then nothing changes; or it is refused
-abbrev pub StopsNext : {S F : Type 0} → (ReadSoFar → S → S → F → Type 0) → (TraceFault → F → Type 0) → ReadSoFar → S → ReadSoFar → S → F → Type 0
+abbrev pub StopsNext : {S F : Type 0} → (ReadSoFar → S → S → F → Type 0) → (TraceFault → F → Type 0) → ReadSoFar → S
+    → ReadSoFar → S → F → Type 0
 StopsNext refuses tells reader s now after told =
-    ((fault : TraceFault) × IsUnreadable reader fault × tells fault told × (after ≡ s)) ⊎ (IsNext reader now × refuses now s after told)
+    ((fault : TraceFault) × IsUnreadable reader fault × tells fault told × (after ≡ s))
+    ⊎ (IsNext reader now × refuses now s after told)
 
 -- all rows were taken, up to the end
 abbrev pub AllTaken : {S : Type 0} → (ReadSoFar → S → S → Type 0) → ReadSoFar → S → ReadSoFar → S → Type 0
 AllTaken takes reader s now after = (n : ℕ) × (mid : ReadSoFar) × AreTakenBy takes n reader s mid after × IsLast mid now
 
 -- rows were taken, and the next one isn't
-abbrev pub StopsBehind : {S F : Type 0} → (ReadSoFar → S → S → Type 0) → (ReadSoFar → S → S → F → Type 0) → (TraceFault → F → Type 0)
+abbrev pub StopsBehind : {S F : Type 0} → (ReadSoFar → S → S → Type 0) → (ReadSoFar → S → S → F → Type 0)
+    → (TraceFault → F → Type 0)
     → ReadSoFar → S → ReadSoFar → S → F → Type 0
 StopsBehind {S = S} takes refuses tells reader s now after told =
-    (n : ℕ) × (mid : ReadSoFar) × (between : S) × AreTakenBy takes n reader s mid between × StopsNext refuses tells mid between now after told
+    (n : ℕ) × (mid : ReadSoFar) × (between : S) × AreTakenBy takes n reader s mid between
+    × StopsNext refuses tells mid between now after told
 
 -- ---- those of a trace: P says that these rows of a trace with this header were taken
 
@@ -67,12 +74,15 @@ IsNoStart fields fault = ((header_of fields ≡ None) × (fault ≡ fault_at 1 T
 -- the row read last, which is this one, goes on behind those that were taken
 abbrev pub GoesOn : {S : Type 0} → (Header → List Row → S → Type 0) → ReadSoFar → Row → S → S → Type 0
 GoesOn P reader row s after =
-    (header : Header) (rows : List Row) → row_in header reader.fields ≡ Some row → length rows + 2 ≡ reader.number → P header rows s → P header (rows ++ row ∷ []) after
+    (header : Header) (rows : List Row) → row_in header reader.fields ≡ Some row → length rows + 2 ≡ reader.number
+    → P header rows s → P header (rows ++ row ∷ []) after
 
 -- it is a row of this trace, and is taken
-abbrev pub TakesRow : {S : Type 0} → (Header → List Row → S → Type 0) → ReadSoFar → BehindHeader S → BehindHeader S → Type 0
+abbrev pub TakesRow : {S : Type 0} → (Header → List Row → S → Type 0) → ReadSoFar → BehindHeader S → BehindHeader S
+    → Type 0
 TakesRow P reader b after =
-    (after.header ≡ b.header) × (row : Row) × (row_in b.header reader.fields ≡ Some row) × GoesOn P reader row b.sink after.sink
+    (after.header ≡ b.header) × (row : Row) × (row_in b.header reader.fields ≡ Some row)
+    × GoesOn P reader row b.sink after.sink
 
 -- why it isn't: it has no form, or there is no memory
 abbrev pub IsNoRow : Header → ReadSoFar → TraceFault → Type 0
@@ -80,7 +90,8 @@ IsNoRow header reader fault =
     ((row_in header reader.fields ≡ None) × (fault ≡ fault_at reader.number TraceCause.BadRow)) ⊎ (fault ≡ no_memory)
 
 -- the header begins what takes the rows, and each row behind it is taken
-abbrev pub TakesNext : {S : Type 0} → (Header → List Row → S → Type 0) → ReadSoFar → Option (BehindHeader S) → Option (BehindHeader S) → Type 0
+abbrev pub TakesNext : {S : Type 0} → (Header → List Row → S → Type 0) → ReadSoFar → Option (BehindHeader S)
+    → Option (BehindHeader S) → Type 0
 TakesNext P reader None after = MatchOption after ⊥ (Begins P reader.fields)
 TakesNext P reader (Some b) after = MatchOption after ⊥ (TakesRow P reader b)
 
@@ -90,13 +101,16 @@ RefusesNext reader None fault = IsNoStart reader.fields fault
 RefusesNext reader (Some b) fault = IsNoRow b.header reader fault
 
 -- what was read of a text was taken: nothing of it yet, or the rows behind its header
-abbrev pub IsTakenSoFar : {S : Type 0} → (Header → List Row → S → Type 0) → Option (List ℕ) → ReadSoFar → Option (BehindHeader S) → Type 0
+abbrev pub IsTakenSoFar : {S : Type 0} → (Header → List Row → S → Type 0) → Option (List ℕ) → ReadSoFar
+    → Option (BehindHeader S) → Type 0
 IsTakenSoFar P known reader None = IsUnread known reader
-IsTakenSoFar P known reader (Some b) = (rows : List Row) × HasRead known rows (rows_left b.header reader) × P b.header rows b.sink
+IsTakenSoFar P known reader (Some b) = (rows : List Row) × HasRead known rows (rows_left b.header reader)
+    × P b.header rows b.sink
 
 -- all rows of a text were taken
 abbrev pub IsWhollyTaken : {S : Type 0} → (Header → List Row → S → Type 0) → Option (List ℕ) → S → Type 0
-IsWhollyTaken P known s = (header : Header) × (rows : List Row) × IsTraceOf known (headed header rows) × (length rows ≤ ROWS_MAX) × P header rows s
+IsWhollyTaken P known s = (header : Header) × (rows : List Row) × IsTraceOf known (headed header rows)
+    × (length rows ≤ ROWS_MAX) × P header rows s
 
 -- a text was read to its end: it has no header, or all its rows were taken
 abbrev pub IsTakenToEnd : {S : Type 0} → (Header → List Row → S → Type 0) → Option (List ℕ) → Option S → Type 0

@@ -1,5 +1,6 @@
 -- The header of a trace: what its first record means.
-use Rattle.std.specs.Prelude.{◌≡◌, ℕ, length, Bool, true, false, List, [], ◌∷◌, Option, Some, None, ◌&&◌, ◌==◌, nat_lt, nat_le, codes, option_map, option_and_then, if◌then◌else◌}
+use Rattle.std.specs.Prelude.{◌≡◌, ℕ, length, Bool, true, false, List, [], ◌∷◌, Option, Some, None, ◌&&◌, ◌==◌, nat_lt}
+use Rattle.std.specs.Prelude.{nat_le, codes, option_map, option_and_then, if◌then◌else◌}
 use Rattle.std.specs.Str.{bytes_eq}
 use Rattle.bully_base.specs.declared.TheConstants.{NODES_MAX, PARTITIONS_MAX, EVENTS_MAX, WEIGHT_MAX}
 use Rattle.bully_base.specs.Setup.{Setup, even_setup, is_even}
@@ -32,7 +33,8 @@ says_more Version.One = false
 says_more Version.Two = false
 says_more Version.Three = true
 
--- version 1 can tell the setup: all nodes weigh 1, no task is kept, and there are no more nodes and partitions than it has
+-- version 1 can tell the setup: all nodes weigh 1, no task is kept, and there are no more nodes and partitions than it
+-- has
 abbrev pub fits_first : Setup → Bool
 fits_first setup = is_even setup && (nat_le setup.nodes FIRST_NODES_MAX && nat_le setup.partitions FIRST_PARTITIONS_MAX)
 
@@ -61,7 +63,8 @@ weight_in text = option_and_then (within WEIGHT_MAX) (number_of text)
 -- the weights that these pieces are, where each is one
 abbrev pub weights_from : List (List ℕ) → Option (List ℕ)
 weights_from [] = Some []
-weights_from (piece ∷ pieces) = option_and_then (λ weight. option_map (λ more. weight ∷ more) (weights_from pieces)) (weight_in piece)
+weights_from (piece ∷ pieces) =
+    option_and_then (λ weight. option_map (λ more. weight ∷ more) (weights_from pieces)) (weight_in piece)
 
 -- so many weights, parted by single spaces
 abbrev pub weights_in : ℕ → List ℕ → Option (List ℕ)
@@ -70,7 +73,8 @@ weights_in nodes text = if length (pieces_of text) == nodes then weights_from (p
 -- the setup of these numbers, in which all nodes weigh 1 and no task is kept
 abbrev pub setup_in : List ℕ → List ℕ → Option Setup
 setup_in nodes partitions =
-    option_and_then (λ n. option_map (λ p. even_setup n p EVENTS_MAX) (partitions_in Version.One partitions)) (node_in Version.One nodes)
+    option_and_then (λ n. option_map (λ p. even_setup n p EVENTS_MAX) (partitions_in Version.One partitions))
+    (node_in Version.One nodes)
 
 -- the setup of these numbers and these weights, which keeps tasks or doesn't
 abbrev pub weighted_in : List ℕ → List ℕ → List ℕ → List ℕ → Option Setup
@@ -91,7 +95,8 @@ later_version text =
 
 abbrev pub later_header : List ℕ → List ℕ → List ℕ → List ℕ → List ℕ → Option Header
 later_header version nodes partitions weights keeps =
-    option_and_then (λ v. option_map (header_with v) (weighted_in nodes partitions weights keeps)) (later_version version)
+    option_and_then (λ v. option_map (header_with v) (weighted_in nodes partitions weights keeps))
+    (later_version version)
 
 -- what the first record means
 abbrev pub header_of : Record → Option Header
@@ -100,7 +105,8 @@ header_of (a ∷ []) = None
 header_of (a ∷ b ∷ []) = None
 header_of (a ∷ b ∷ c ∷ []) = None
 header_of (word ∷ version ∷ nodes ∷ partitions ∷ []) =
-    if bytes_eq word (codes "bully") && bytes_eq version (codes "1") then option_map (header_with Version.One) (setup_in nodes partitions) else None
+    if bytes_eq word (codes "bully") && bytes_eq version (codes "1")
+    then option_map (header_with Version.One) (setup_in nodes partitions) else None
 header_of (a ∷ b ∷ c ∷ d ∷ e ∷ []) = None
 header_of (word ∷ version ∷ nodes ∷ partitions ∷ weights ∷ keeps ∷ []) =
     if bytes_eq word (codes "bully") then later_header version nodes partitions weights keeps else None

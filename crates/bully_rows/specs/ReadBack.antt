@@ -66,8 +66,8 @@ IsRowTold version setup (Row.Detailed e) = IsNamed version e.node × IsDetailTol
 IsRowTold version setup (Row.Claim claim) = IsClaimTold version claim
 IsRowTold version setup (Row.Whole whole) = IsWholeTold version setup whole
 
--- the trace is one that a text can tell: it is within the limits of its version and of its setup, and bounds the events as a
--- header does, which tells no bound of its own
+-- the trace is one that a text can tell: it is within the limits of its version and of its setup, and bounds the events
+-- as a header does, which tells no bound of its own
 pub record IsTold (trace : Trace) : Type 0 where
   pub setup : IsSetup trace.setup
   pub events : trace.setup.events_max ≡ EVENTS_MAX
@@ -82,4 +82,5 @@ ReadsBack = (trace : Trace) → IsTold trace → trace_of (records_of (trace_tex
 
 -- each trace that is read is such a one, and so is the upgraded one
 abbrev pub ReadsTold : Type 0
-ReadsTold = (records : List Record) (trace : Trace) → trace_of records ≡ Ok trace → IsTold trace × IsTold (upgraded trace)
+ReadsTold = (records : List Record) (trace : Trace) → trace_of records ≡ Ok trace
+    → IsTold trace × IsTold (upgraded trace)

@@ -1,6 +1,8 @@
 -- The records that a reader still gives.
-use Rattle.std.specs.Prelude.{◌≡◌, ◌≢◌, ℕ, ◌+◌, ◌≤◌, Bool, true, false, List, [], ◌∷◌, ◌++◌, length, Option, Some, None, Ok, IfSome, ⊤, option_map}
-use Rattle.csv.specs.Reading.{Ready, default_config, has_failed, is_flexible, reader_config, reader_state, reader_trim, records_from, source_of}
+use Rattle.std.specs.Prelude.{◌≡◌, ◌≢◌, ℕ, ◌+◌, ◌≤◌, Bool, true, false, List, [], ◌∷◌, ◌++◌, length, Option, Some, None}
+use Rattle.std.specs.Prelude.{Ok, IfSome, ⊤, option_map}
+use Rattle.csv.specs.Reading.{Ready, default_config, has_failed, is_flexible, reader_config, reader_state, reader_trim}
+use Rattle.csv.specs.Reading.{records_from, source_of}
 use Rattle.csv.specs.declared.reader.Reader.{Reader}
 use Rattle.csv.specs.declared.reader.Trim.TheVariants as trim
 use Rattle.bully_rows.specs.declared.TheConstants.{ROWS_MAX}
@@ -13,7 +15,8 @@ use Rattle.bully_rows.specs.Rows.{IsFirstFault, IsReadAtItsRow, is_of_form, reco
 
 -- the reader takes the records of a text as they stand, one a read
 abbrev pub IsPlain : {R : Type 0} → Reader R → Type 0
-IsPlain reader = (reader_config reader ≡ default_config) × (reader_trim reader ≡ trim.None) × Ready reader × (is_flexible reader ≡ true)
+IsPlain reader = (reader_config reader ≡ default_config) × (reader_trim reader ≡ trim.None) × Ready reader
+    × (is_flexible reader ≡ true)
 
 -- it does so where no read of it has failed
 abbrev pub ReadsPlain : {R : Type 0} → Reader R → Type 0
@@ -22,7 +25,8 @@ ReadsPlain reader = has_failed reader ≡ false → IsPlain reader
 -- the records that the reader still gives, where its bytes are known and no read of it has failed
 abbrev pub records_left : {R : Type 0} → (R → Option (List ℕ)) → Reader R → Option (List Record)
 records_left remaining reader =
-    option_map (λ bytes. records_from default_config (length bytes + 1) (reader_state reader) bytes) (source_of remaining reader)
+    option_map (λ bytes. records_from default_config (length bytes + 1) (reader_state reader) bytes)
+    (source_of remaining reader)
 
 -- a read takes the first of the records, or finds none
 abbrev pub Takes : Option (List Record) → Option (List Record) → Bool → Record → Type 0
@@ -42,8 +46,8 @@ pub record IsUnread (known : Option (List ℕ)) (reader : ReadSoFar) : Type 0 wh
   pub number : reader.number ≡ 0
   pub records : reader.records ≡ option_map records_of known
 
--- what is still to be read behind the header of a trace: what it tells, the number of the row that was read last, and the
--- records, where the reader's bytes are known
+-- what is still to be read behind the header of a trace: what it tells, the number of the row that was read last, and
+-- the records, where the reader's bytes are known
 pub record RowsLeft : Type 0 where
   pub header : Header
   pub number : ℕ
@@ -79,4 +83,5 @@ pub record EndsReading (known : Option (List ℕ)) (fault : TraceFault) : Type 0
 
 -- a fault of reading or of memory
 abbrev pub IsOutside : TraceFault → Type 0
-IsOutside fault = (is_of_form fault.cause ≡ false) × (fault.cause ≢ TraceCause.Write) × (fault.cause ≡ TraceCause.OutOfMemory → fault.row ≡ 0)
+IsOutside fault = (is_of_form fault.cause ≡ false) × (fault.cause ≢ TraceCause.Write)
+    × (fault.cause ≡ TraceCause.OutOfMemory → fault.row ≡ 0)

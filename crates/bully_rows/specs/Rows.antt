@@ -1,5 +1,7 @@
 -- The rows of a trace: what the records of its text mean, or the first faulty row.
-use Rattle.std.specs.Prelude.{◌≡◌, ◌⊎◌, ℕ, ◌+◌, ◌++◌, length, ⊤, IfSome, IsOk, IsTrue, Bool, true, false, List, [], ◌∷◌, Option, Some, None, Result, Ok, Err, nat_lt, codes, option_map, option_and_then, if◌then◌else◌}
+use Rattle.std.specs.Prelude.{◌≡◌, ◌⊎◌, ℕ, ◌+◌, ◌++◌, length, ⊤, IfSome, IsOk, IsTrue, Bool, true, false, List, [], ◌∷◌}
+use Rattle.std.specs.Prelude.{Option, Some, None, Result, Ok, Err, nat_lt, codes, option_map, option_and_then}
+use Rattle.std.specs.Prelude.{if◌then◌else◌}
 use Rattle.std.specs.Result.{result_ok}
 use Rattle.std.specs.Str.{bytes_eq}
 use Rattle.csv.specs.Reading.{records, default_config, strip_bom}
@@ -36,17 +38,20 @@ coordinator_in version text = if bytes_eq text (codes "-") then Some None else o
 
 abbrev pub plan_in : Version → Setup → List ℕ → List ℕ → Option Row
 plan_in version setup node owners =
-    option_and_then (λ i. option_map (λ table. Row.Event (Event.Plan i table)) (result_ok (table_of_text setup owners))) (node_in version node)
+    option_and_then (λ i. option_map (λ table. Row.Event (Event.Plan i table)) (result_ok (table_of_text setup owners)))
+    (node_in version node)
 
 -- the claim that these fields make
 abbrev pub claim_in : Version → List ℕ → List ℕ → List ℕ → Option Claim
 claim_in version node status coordinator =
-    option_and_then (λ i. option_and_then (λ s. option_map (λ c. record { node = i; status = s; coordinator = c }) (coordinator_in version coordinator)) (status_named status))
+    option_and_then (λ i. option_and_then (λ s. option_map (λ c. record { node = i; status = s; coordinator = c })
+    (coordinator_in version coordinator)) (status_named status))
     (node_in version node)
 
 -- the call of this kind to this node
 abbrev pub call_in : Version → List ℕ → List ℕ → Option Call
-call_in version kind callee = option_and_then (λ k. option_map (λ j. record { callee = j; kind = k }) (node_in version callee)) (call_named kind)
+call_in version kind callee =
+    option_and_then (λ k. option_map (λ j. record { callee = j; kind = k }) (node_in version callee)) (call_named kind)
 
 -- a call is said, and no answer
 abbrev pub is_unanswered : Saying → Bool
@@ -66,28 +71,34 @@ answer_in Saying.Brought word = outcome_named word
 
 -- what is said beside an event of this word, where no answer is told
 abbrev pub unanswered_in : List ℕ → Call → Option Detail
-unanswered_in word call = option_and_then (λ kind. if is_unanswered (node_saying kind) then Some (unanswered kind call) else None) (kind_named word)
+unanswered_in word call = option_and_then (λ kind. if is_unanswered (node_saying kind) then Some (unanswered kind call)
+    else None) (kind_named word)
 
 -- the same, where one is told
 abbrev pub answered_in : List ℕ → List ℕ → Call → Option Detail
-answered_in word answer call = option_and_then (λ kind. option_map (answered kind call) (answer_in (node_saying kind) answer)) (kind_named word)
+answered_in word answer call =
+    option_and_then (λ kind. option_map (answered kind call) (answer_in (node_saying kind) answer)) (kind_named word)
 
 -- the row that says this of an event of the node, in a version that says it
 abbrev pub detailed : Version → List ℕ → Option Detail → Option Row
 detailed version node detail =
-    if says_more version then option_and_then (λ i. option_map (λ d. Row.Detailed (record { node = i; detail = d })) detail) (node_in version node) else None
+    if says_more version then option_and_then (λ i.
+    option_map (λ d. Row.Detailed (record { node = i; detail = d })) detail) (node_in version node) else None
 
 abbrev pub unanswered_row : Version → List ℕ → List ℕ → List ℕ → List ℕ → Option Row
-unanswered_row version word node kind callee = detailed version node (option_and_then (unanswered_in word) (call_in version kind callee))
+unanswered_row version word node kind callee =
+    detailed version node (option_and_then (unanswered_in word) (call_in version kind callee))
 
 abbrev pub answered_row : Version → List ℕ → List ℕ → List ℕ → List ℕ → List ℕ → Option Row
-answered_row version word node kind callee answer = detailed version node (option_and_then (answered_in word answer) (call_in version kind callee))
+answered_row version word node kind callee answer =
+    detailed version node (option_and_then (answered_in word answer) (call_in version kind callee))
 
 -- the nodes that these pieces are, each above those before it, put into the set
 abbrev pub set_from : Version → List ℕ → List (List ℕ) → Option (List ℕ)
 set_from version set [] = Some set
 set_from version set (piece ∷ pieces) =
-    option_and_then (λ i. if is_above i set then set_from version (with_node i set) pieces else None) (node_in version piece)
+    option_and_then (λ i. if is_above i set then set_from version (with_node i set) pieces else
+    None) (node_in version piece)
 
 -- a set of nodes in rising order, parted by single spaces, or none at all
 abbrev pub set_in : Version → List ℕ → Option (List ℕ)
@@ -95,7 +106,8 @@ set_in version text = if bytes_eq text (codes "-") then Some [] else set_from ve
 
 -- a table, or none
 abbrev pub task_in : Setup → List ℕ → Option (Option (List ℕ))
-task_in setup text = if bytes_eq text (codes "-") then Some None else option_map Some (result_ok (table_of_text setup text))
+task_in setup text = if bytes_eq text (codes "-") then Some None else
+    option_map Some (result_ok (table_of_text setup text))
 
 -- a claim that tells all of a vector, in a version that has such
 abbrev pub whole_of : Version → Setup → Option Claim → List ℕ → List ℕ → List ℕ → Option Row
@@ -106,16 +118,20 @@ whole_of version setup claim halter up owners =
 
 abbrev pub whole_row : Version → Setup → List ℕ → List ℕ → List ℕ → List ℕ → List ℕ → List ℕ → Option Row
 whole_row version setup node status coordinator halter up owners =
-    if says_more version then whole_of version setup (claim_in version node status coordinator) halter up owners else None
+    if says_more version then whole_of version setup (claim_in version node status coordinator) halter up owners else
+    None
 
 -- what a later record means in a trace of this version and this setup
 abbrev pub row_of : Version → Setup → Record → Option Row
 row_of version setup [] = None
 row_of version setup (a ∷ []) = None
-row_of version setup (word ∷ node ∷ []) = option_and_then (λ i. option_map Row.Event (event_named word i)) (node_in version node)
-row_of version setup (word ∷ node ∷ owners ∷ []) = if bytes_eq word plan_word then plan_in version setup node owners else None
+row_of version setup (word ∷ node ∷ []) =
+    option_and_then (λ i. option_map Row.Event (event_named word i)) (node_in version node)
+row_of version setup (word ∷ node ∷ owners ∷ []) = if bytes_eq word plan_word then plan_in version setup node owners
+    else None
 row_of version setup (word ∷ node ∷ third ∷ fourth ∷ []) =
-    if bytes_eq word (codes "saw") then option_map Row.Claim (claim_in version node third fourth) else unanswered_row version word node third fourth
+    if bytes_eq word (codes "saw") then option_map Row.Claim (claim_in version node third fourth) else
+    unanswered_row version word node third fourth
 row_of version setup (word ∷ node ∷ call ∷ callee ∷ answer ∷ []) = answered_row version word node call callee answer
 row_of version setup (a ∷ b ∷ c ∷ d ∷ e ∷ f ∷ []) = None
 row_of version setup (word ∷ node ∷ status ∷ coordinator ∷ halter ∷ up ∷ owners ∷ []) =
@@ -178,7 +194,8 @@ AreFaultless (first ∷ rest) = IsOk (trace_of (first ∷ rest))
 -- the row is one more than those before it, which the first records mean without a fault
 abbrev pub IsBehind : ℕ → List Record → Type 0
 IsBehind row records =
-    (before : List Record) × (rest : List Record) × (records ≡ before ++ rest) × (row ≡ length before + 1) × AreFaultless before
+    (before : List Record) × (rest : List Record) × (records ≡ before ++ rest) × (row ≡ length before + 1)
+    × AreFaultless before
 
 -- what is said of a text holds where the bytes of a reader are known
 
@@ -196,8 +213,10 @@ HasNoFault known = IfSome known (λ bytes. IsOk (trace_of (records_of bytes)))
 
 -- a fault of form is the text's first one
 abbrev pub IsFirstFault : Option (List ℕ) → TraceFault → Type 0
-IsFirstFault known fault = IsTrue (is_of_form fault.cause) → IfSome known (λ bytes. trace_of (records_of bytes) ≡ Err fault)
+IsFirstFault known fault = IsTrue (is_of_form fault.cause)
+    → IfSome known (λ bytes. trace_of (records_of bytes) ≡ Err fault)
 
 -- a failed read is told at the row behind those that were read
 abbrev pub IsReadAtItsRow : Option (List ℕ) → TraceFault → Type 0
-IsReadAtItsRow known fault = fault.cause ≡ TraceCause.Read → IfSome known (λ bytes. IsBehind fault.row (records_of bytes))
+IsReadAtItsRow known fault = fault.cause ≡ TraceCause.Read
+    → IfSome known (λ bytes. IsBehind fault.row (records_of bytes))

@@ -53,7 +53,8 @@ answer_fields None = []
 answer_fields (Some a) = answer_word a ∷ []
 
 abbrev pub detailed_fields : DetailedEvent → List (List ℕ)
-detailed_fields e = node_word e.detail.kind ∷ decimal e.node ∷ (call_fields e.detail.call ++ answer_fields e.detail.answer)
+detailed_fields e =
+    node_word e.detail.kind ∷ decimal e.node ∷ (call_fields e.detail.call ++ answer_fields e.detail.answer)
 
 abbrev pub claim_fields : Claim → List (List ℕ)
 claim_fields claim = codes "saw" ∷ decimal claim.node ∷ status_word claim.status ∷ node_text claim.coordinator ∷ []
@@ -76,7 +77,8 @@ abbrev pub row_fields : Row → List (List ℕ)
 row_fields (Row.Event e) = event_fields e
 row_fields (Row.Detailed e) = detailed_fields e
 row_fields (Row.Claim claim) = claim_fields claim
-row_fields (Row.Whole whole) = claim_fields whole.claim ++ node_text whole.halter ∷ set_text whole.up ∷ task_text 32 whole.task ∷ []
+row_fields (Row.Whole whole) =
+    claim_fields whole.claim ++ node_text whole.halter ∷ set_text whole.up ∷ task_text 32 whole.task ∷ []
 
 abbrev pub rows_text : List Row → List ℕ
 rows_text [] = []
@@ -85,7 +87,8 @@ rows_text (row ∷ rows) = line_of (row_fields row) ++ rows_text rows
 -- the weights of a header behind version 1 are parted by spaces
 abbrev pub later_fields : List ℕ → Setup → List (List ℕ)
 later_fields version setup =
-    codes "bully" ∷ version ∷ decimal setup.nodes ∷ decimal setup.partitions ∷ owners_text 32 setup.weights ∷ keeps_word setup.keeps ∷ []
+    codes "bully" ∷ version ∷ decimal setup.nodes ∷ decimal setup.partitions ∷ owners_text 32 setup.weights
+    ∷ keeps_word setup.keeps ∷ []
 
 abbrev pub header_fields : Version → Setup → List (List ℕ)
 header_fields Version.One setup = codes "bully" ∷ codes "1" ∷ decimal setup.nodes ∷ decimal setup.partitions ∷ []

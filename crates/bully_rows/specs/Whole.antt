@@ -12,4 +12,9 @@ pub record Whole : Type 0 where
 
 -- all of this vector of node i
 abbrev pub whole_of : ℕ → Vector → Whole
-whole_of i v = record { claim = record { node = i; status = v.status; coordinator = v.coordinator }; halter = v.halter; up = v.up; task = v.task }
+whole_of i v = record {
+  claim = record { node = i; status = v.status; coordinator = v.coordinator };
+  halter = v.halter;
+  up = v.up;
+  task = v.task;
+}

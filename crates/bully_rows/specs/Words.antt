@@ -1,4 +1,5 @@
--- The words of a trace and of a verdict, each once: for reading and for writing. Those of events and refusals stand in bully_calls.
+-- The words of a trace and of a verdict, each once: for reading and for writing. Those of events and refusals stand in
+-- bully_calls.
 use Rattle.std.specs.Prelude.{ℕ, Bool, true, false, List, [], ◌∷◌, Option, Some, None, codes, if◌then◌else◌}
 use Rattle.std.specs.Str.{bytes_eq}
 use Rattle.bully_base.specs.declared.node.Status.{Status}

@@ -26,8 +26,8 @@ pub trait RowSink<R: Read + Drop> {
         ensures refuses { IfErr result (refuses rows.now self.old self.new) };
 }
 
-/// Has the next row taken, and tells whether there is one. Refused if it can't be read, as [`RowReader::advance`] refuses it, or
-/// if it isn't taken.
+/// Has the next row taken, and tells whether there is one. Refused if it can't be read, as [`RowReader::advance`]
+/// refuses it, or if it isn't taken.
 // (inlined, so that the reading and what each sink does are built into one loop)
 #[inline(always)]
 pub fn feed_next<R: Read + Drop, T: RowSink<R>>(
@@ -35,7 +35,8 @@ pub fn feed_next<R: Read + Drop, T: RowSink<R>>(
     rows: &mut RowReader<R>,
     sink: &mut T,
 ) -> Result<bool, T::Fault>
-    ensures taken { IfOk result (λ found. found ≡ true → IsNext rows.old rows.new × T.takes rows.new sink.old sink.new) }
+    ensures taken { IfOk result (λ found. found ≡ true
+        → IsNext rows.old rows.new × T.takes rows.new sink.old sink.new) }
     ensures ended { IfOk result (λ found. found ≡ false → IsLast rows.old rows.new × (sink.new ≡ sink.old)) }
     ensures refused { IfErr result (StopsNext T.refuses T.Fault.from_gives rows.old sink.old rows.new sink.new) }
 {
@@ -48,7 +49,8 @@ pub fn feed_next<R: Read + Drop, T: RowSink<R>>(
     }
 }
 
-/// Has the rows taken that are still to be read, in their order, up to the end or to the first that [`feed_next`] refuses.
+/// Has the rows taken that are still to be read, in their order, up to the end or to the first that [`feed_next`]
+/// refuses.
 pub fn feed_each<R: Read + Drop, T: RowSink<R>>(
     alloc: Global,
     rows: &mut RowReader<R>,

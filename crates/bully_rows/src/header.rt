@@ -3,7 +3,8 @@ ghost use Rattle.std.specs.Prelude.{◌≡◌, ◌⊎◌, ◌∷◌, ◌+◌, �
 ghost use Rattle.std.specs.Option.{option_map};
 ghost use Rattle.csv.specs.Records.{fields_of};
 ghost use Rattle.bully_base.specs.declared.TheConstants.{NODES_MAX, PARTITIONS_MAX};
-ghost use Rattle.bully_rows.specs.Headers.{header_of, later_version, nodes_max, partitions_max, says_more, setup_in, version_for, weighted_in, weights_from, weights_in};
+ghost use Rattle.bully_rows.specs.Headers.{header_of, later_version, nodes_max, partitions_max, says_more, setup_in};
+ghost use Rattle.bully_rows.specs.Headers.{version_for, weighted_in, weights_from, weights_in};
 
 use crate::row::{field, number_within};
 use crate::words::keeps_named;
@@ -13,15 +14,15 @@ use bully_calls::is_word;
 use bully_table::Pieces;
 use csv::ByteRecord;
 
-/// The version of a trace: what its header tells, how large a group may be, and whether rows may say more than an event, or
-/// than a status and a coordinator.
+/// The version of a trace: what its header tells, how large a group may be, and whether rows may say more than an
+/// event, or than a status and a coordinator.
 #[derive(Clone, Copy, PartialEq, Eq, Debug)]
 pub enum Version {
-    /// How many nodes and partitions there are, at most [`FIRST_NODES_MAX`] and [`FIRST_PARTITIONS_MAX`]. All nodes weigh 1,
-    /// and no task is kept over a crash.
+    /// How many nodes and partitions there are, at most [`FIRST_NODES_MAX`] and [`FIRST_PARTITIONS_MAX`]. All nodes
+    /// weigh 1, and no task is kept over a crash.
     One,
-    /// How many nodes and partitions there are, as many as a group may have; beside that what each node weighs, and whether
-    /// tasks are kept over a crash.
+    /// How many nodes and partitions there are, as many as a group may have; beside that what each node weighs, and
+    /// whether tasks are kept over a crash.
     Two,
     /// What version 2 has; and its rows may say more ([`crate::Detail`] and [`crate::WholeClaim`]).
     Three,
@@ -193,7 +194,8 @@ pub fn read_weights(text: &[u8], weights: &mut [u16]) -> bool
 fn next_weight(pieces: &mut Pieces<'_>) -> Option<u16>
     ensures { MatchOption result
         ((pieces.old ≡ []) ⊎ (weights_from pieces.old ≡ None))
-        (λ weight. (length pieces.old ≡ length pieces.new + 1) × (weights_from pieces.old ≡ option_map (λ more. weight ∷ more) (weights_from pieces.new))) }
+        (λ weight. (length pieces.old ≡ length pieces.new + 1)
+        × (weights_from pieces.old ≡ option_map (λ more. weight ∷ more) (weights_from pieces.new))) }
 {
     let piece = pieces.next()?;
     number_within(piece, WEIGHT_MAX)

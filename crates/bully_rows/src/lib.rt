@@ -1,8 +1,8 @@
 //! The rows of traces: what they may say, how they are read, row by row or all of a trace, and how they are written.
 //!
-//! It stands on bully_calls, which the rows tell, on the crates below it, and on csv. bully_trace, which judges rows, and
-//! the crates above rely on what is read being what the records of csv mean, on the first fault of form being told, on what is
-//! written being the text of the rows, and on that text being read back.
+//! It stands on bully_calls, which the rows tell, on the crates below it, and on csv. bully_trace, which judges rows,
+//! and the crates above rely on what is read being what the records of csv mean, on the first fault of form being told,
+//! on what is written being the text of the rows, and on that text being read back.
 #![tactic(auto)]
 
 ghost use Rattle.std.specs.Prelude.{◌≡◌};
@@ -57,8 +57,8 @@ pub fn limits()
     ensures first_partitions { FIRST_PARTITIONS_MAX ≡ 256 }
 {}
 
-/// The law of what is written and read. What [`write_trace`] writes of a trace that a text can tell means that very trace to
-/// [`read_trace`]. Each trace that is read is one that a text can tell, and so is the upgraded one.
+/// The law of what is written and read. What [`write_trace`] writes of a trace that a text can tell means that very
+/// trace to [`read_trace`]. Each trace that is read is one that a text can tell, and so is the upgraded one.
 pub fn read_back()
     ensures written { ReadsBack }
     ensures read { ReadsTold }

@@ -21,8 +21,8 @@ pub fn read_trace<R: Read + Drop>(alloc: Global, reader: R) -> Result<Trace, Tra
     ensures other { IfErr result (λ f. f.cause ≢ TraceCause.Write) }
     ensures memory { IfErr result (λ f. f.cause ≡ TraceCause.OutOfMemory → f.row ≡ 0) }
 {
-    // (by a reference, so that a program that also checks has a reader of rows of its own type for each: with one for both, it
-    // would be built into neither loop)
+    // (by a reference, so that a program that also checks has a reader of rows of its own type for each: with one for
+    // both, it would be built into neither loop)
     let mut reader = reader;
     let mut rows = RowReader::open(alloc, &mut reader);
     read_all(alloc, &mut rows)
@@ -55,7 +55,8 @@ impl<R: Read + Drop> TraceSink<R, ()> for TraceRows {
     ghost use Rattle.bully_rows.specs.Headers.{IsVersionFor};
     ghost use Rattle.bully_rows.specs.Trace.{AreRowsFor};
 
-    ghost has_taken = { λ _ header rows t. (t.header ≡ header) × (t.rows.items ≡ rows) × IsVersionFor header.version header.setup × AreRowsFor header.version rows };
+    ghost has_taken = { λ _ header rows t. (t.header ≡ header) × (t.rows.items ≡ rows)
+        × IsVersionFor header.version header.setup × AreRowsFor header.version rows };
 
     fn begin(alloc: Global, _start: (), header: Header) -> Result<TraceRows, OutOfMemory> {
         let rows = Vec::new(alloc);

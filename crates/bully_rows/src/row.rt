@@ -19,8 +19,8 @@ use bully_table::{Table, TableFault, read_number};
 use csv::ByteRecord;
 use std::alloc::{AllocError, Global};
 
-/// The row that its record of other than two fields tells in a trace of this version and this setup; none where it has two, or
-/// no form that the profile lists. Refused where an allocation fails.
+/// The row that its record of other than two fields tells in a trace of this version and this setup; none where it has
+/// two, or no form that the profile lists. Refused where an allocation fails.
 pub fn read_other_row(
     alloc: Global,
     version: Version,
@@ -28,7 +28,8 @@ pub fn read_other_row(
     fields: &ByteRecord,
 ) -> Result<Option<Row>, OutOfMemory>
     ensures two { length (fields_of fields.now) ≡ 2 → IfOk result (λ row. row ≡ None) }
-    ensures other { length (fields_of fields.now) ≢ 2 → IfOk result (λ row. row ≡ row_of version setup.now (fields_of fields.now)) }
+    ensures other { length (fields_of fields.now) ≢ 2
+        → IfOk result (λ row. row ≡ row_of version setup.now (fields_of fields.now)) }
 {
     match fields.len() {
         3 => {
@@ -65,13 +66,15 @@ pub fn read_other_row(
     }
 }
 
-/// The event that its record of two fields tells in a trace of this version; none where it has others, or no form that the
-/// profile lists.
+/// The event that its record of two fields tells in a trace of this version; none where it has others, or no form that
+/// the profile lists.
 // (inlined, so that each reader of rows has a copy of its own, which is built into the loop that calls it)
 #[inline(always)]
 pub fn read_node_event(version: Version, fields: &ByteRecord) -> Option<NodeEvent>
-    ensures event { (setup : SetupState) → IfSome result (λ e. row_of version setup (fields_of fields.now) ≡ Some (Row.Event (event_at e.kind e.node))) }
-    ensures none { (setup : SetupState) → result ≡ None → length (fields_of fields.now) ≡ 2 → row_of version setup (fields_of fields.now) ≡ None }
+    ensures event { (setup : SetupState)
+        → IfSome result (λ e. row_of version setup (fields_of fields.now) ≡ Some (Row.Event (event_at e.kind e.node))) }
+    ensures none { (setup : SetupState) → result ≡ None → length (fields_of fields.now) ≡ 2
+        → row_of version setup (fields_of fields.now) ≡ None }
 {
     if fields.len() != 2 {
         return None;
@@ -90,7 +93,8 @@ pub fn field(row: &ByteRecord, place: usize) -> &[u8]
 // The event that two fields mean.
 #[inline(always)]
 fn node_event(version: Version, word: &[u8], node: &[u8]) -> Option<NodeEvent>
-    ensures { (setup : SetupState) → option_map (λ e. Row.Event (event_at e.kind e.node)) result ≡ row_of version setup (word.now ∷ node.now ∷ []) }
+    ensures { (setup : SetupState) → option_map (λ e. Row.Event (event_at e.kind e.node)) result
+        ≡ row_of version setup (word.now ∷ node.now ∷ []) }
 {
     let node = read_node(version, node)?;
     let kind = NodeEventKind::named(word)?;

@@ -1,4 +1,5 @@
-ghost use Rattle.std.specs.Prelude.{◌≡◌, ◌≢◌, ◌⊎◌, ◌+◌, ◌≤◌, ℕ, List, Option, None, Some, true, length, IfErr, IfOk, IfSome};
+ghost use Rattle.std.specs.Prelude.{◌≡◌, ◌≢◌, ◌⊎◌, ◌+◌, ◌≤◌, ℕ, List, Option, None, Some, true, length, IfErr, IfOk};
+ghost use Rattle.std.specs.Prelude.{IfSome};
 ghost use Rattle.csv.specs.Records.{fields_of};
 ghost use Rattle.bully_base.specs.Setup.{Setup as SetupState};
 ghost use Rattle.bully_rows.specs.Headers.{header_of};
@@ -7,7 +8,8 @@ ghost use Rattle.bully_rows.specs.Rows.{fault_at, row_of};
 ghost use Rattle.bully_rows.specs.declared.TheConstants.{ROWS_MAX};
 ghost use Rattle.bully_rows.specs.declared.header.Header.{Header as HeaderState};
 ghost use Rattle.bully_rows.specs.declared.trace.Row.{Row as RowState};
-ghost use Rattle.bully_rows.specs.RecordsLeft.{EndsReading, HasRead, IsOutside, IsUnread, ReadsPlain, Takes, records_left, rows_left};
+ghost use Rattle.bully_rows.specs.RecordsLeft.{EndsReading, HasRead, IsOutside, IsUnread, ReadsPlain, Takes};
+ghost use Rattle.bully_rows.specs.RecordsLeft.{records_left, rows_left};
 
 use crate::ROWS_MAX;
 use crate::header::{Header, Version, read_header};
@@ -38,7 +40,8 @@ impl<R: Read> Model for RowReader<R> {
 
     ghost Value = { ReadSoFar };
 
-    ghost view = { λ r. record { number = r.number; fields = fields_of r.fields; records = records_left R.remaining r.records } };
+    ghost view = { λ r.
+        record { number = r.number; fields = fields_of r.fields; records = records_left R.remaining r.records } };
 
     ghost invariant = { λ r. ReadsPlain r.records × (r.number ≤ ROWS_MAX + 1) };
 }
@@ -77,8 +80,8 @@ impl<R: Read + Drop> RowReader<R> {
         self.records.get_ref()
     }
 
-    /// Where the row that was read last ends, behind its line end: how many bytes come before, and the line from 1, which
-    /// `csv` counts by line feeds.
+    /// Where the row that was read last ends, behind its line end: how many bytes come before, and the line from 1,
+    /// which `csv` counts by line feeds.
     pub fn end(&self) -> Position {
         self.records.position()
     }
@@ -87,10 +90,13 @@ impl<R: Read + Drop> RowReader<R> {
     /// what its fields mean.
     pub fn advance(&mut self) -> Result<bool, TraceFault>
         ensures takes { IfOk result (λ found. Takes self.old.records self.new.records found self.new.fields) }
-        ensures counted { IfOk result (λ found. found ≡ true → (self.old.number ≤ ROWS_MAX) × (self.new.number ≡ self.old.number + 1)) }
-        ensures why { IfErr result (λ fault. IsOutside fault ⊎ ((fault.cause ≡ TraceCause.TooManyRows) × (self.old.number ≡ ROWS_MAX + 1))) }
+        ensures counted { IfOk result (λ found. found ≡ true
+            → (self.old.number ≤ ROWS_MAX) × (self.new.number ≡ self.old.number + 1)) }
+        ensures why { IfErr result (λ fault. IsOutside fault
+            ⊎ ((fault.cause ≡ TraceCause.TooManyRows) × (self.old.number ≡ ROWS_MAX + 1))) }
         ensures first { (known : Option (List ℕ)) → IsUnread known self.old → IfErr result (EndsReading known) }
-        ensures fault { (known : Option (List ℕ)) (rows : List RowState) (header : HeaderState) → HasRead known rows (rows_left header self.old) → IfErr result (EndsReading known) }
+        ensures fault { (known : Option (List ℕ)) (rows : List RowState) (header : HeaderState)
+            → HasRead known rows (rows_left header self.old) → IfErr result (EndsReading known) }
     {
         let number = self.number + 1;
         if !next_record(&mut self.records, &mut self.fields, number)? {
@@ -106,22 +112,25 @@ impl<R: Read + Drop> RowReader<R> {
     /// What the row read last tells as a header. Refused as `BadHeader` where it is none.
     pub fn header(&self) -> Result<Header, TraceFault>
         ensures ok { IfOk result (λ header. header_of self.now.fields ≡ Some header) }
-        ensures fault { IfErr result (λ fault. (header_of self.now.fields ≡ None) × (fault ≡ fault_at 1 TraceCause.BadHeader)) }
+        ensures fault { IfErr result (λ fault. (header_of self.now.fields ≡ None)
+            × (fault ≡ fault_at 1 TraceCause.BadHeader)) }
     {
         read_header(&self.fields).ok_or(no_header())
     }
 
-    /// The event that the row read last tells in a trace of this version, where it has two fields; none where it has others, or
-    /// no form that the profile lists.
+    /// The event that the row read last tells in a trace of this version, where it has two fields; none where it has
+    /// others, or no form that the profile lists.
     pub fn node_event(&self, version: Version) -> Option<NodeEvent>
-        ensures event { (setup : SetupState) → IfSome result (λ e. row_of version setup self.now.fields ≡ Some (RowState.Event (event_at e.kind e.node))) }
-        ensures none { (setup : SetupState) → result ≡ None → length self.now.fields ≡ 2 → row_of version setup self.now.fields ≡ None }
+        ensures event { (setup : SetupState) → IfSome result (λ e.
+            row_of version setup self.now.fields ≡ Some (RowState.Event (event_at e.kind e.node))) }
+        ensures none { (setup : SetupState) → result ≡ None → length self.now.fields ≡ 2
+            → row_of version setup self.now.fields ≡ None }
     {
         read_node_event(version, &self.fields)
     }
 
-    /// What the row read last means in a trace of this version and this setup where it has other than two fields; none where it
-    /// has two, or no form that the profile lists. Refused where an allocation fails.
+    /// What the row read last means in a trace of this version and this setup where it has other than two fields; none
+    /// where it has two, or no form that the profile lists. Refused where an allocation fails.
     pub fn other_row(
         &self,
         alloc: Global,
@@ -129,7 +138,8 @@ impl<R: Read + Drop> RowReader<R> {
         setup: &Setup,
     ) -> Result<Option<Row>, OutOfMemory>
         ensures two { length self.now.fields ≡ 2 → IfOk result (λ row. row ≡ None) }
-        ensures other { length self.now.fields ≢ 2 → IfOk result (λ row. row ≡ row_of version setup.now self.now.fields) }
+        ensures other { length self.now.fields ≢ 2
+            → IfOk result (λ row. row ≡ row_of version setup.now self.now.fields) }
     {
         read_other_row(alloc, version, setup, &self.fields)
     }
@@ -157,7 +167,8 @@ fn next_record<R: Read + Drop>(
 ) -> Result<bool, TraceFault>
     requires { ReadsPlain records.old }
     ensures plain { ReadsPlain records.new }
-    ensures takes { IfOk result (λ found. Takes (records_left R.remaining records.old) (records_left R.remaining records.new) found (fields_of fields.new)) }
+    ensures takes { IfOk result (λ found. Takes (records_left R.remaining records.old)
+        (records_left R.remaining records.new) found (fields_of fields.new)) }
     ensures fault { IfErr result IsOutside }
     ensures read { IfErr result (λ f. f.cause ≡ TraceCause.Read → f.row ≡ number) }
 {

@@ -1,6 +1,7 @@
 //! The rows of version 3 that say more than an event, or than a status and a coordinator.
 ghost use Rattle.std.specs.Prelude.{◌≡◌, IfOk};
-ghost use Rattle.bully_rows.specs.Rows.{answer_in, answered_in, answered_row, call_in, detailed, is_above, set_in, task_in, unanswered_in, unanswered_row, whole_of};
+ghost use Rattle.bully_rows.specs.Rows.{answer_in, answered_in, answered_row, call_in, detailed, is_above, set_in};
+ghost use Rattle.bully_rows.specs.Rows.{task_in, unanswered_in, unanswered_row, whole_of};
 
 use crate::detail::{Detail, DetailedEvent};
 use crate::header::Version;

@@ -6,7 +6,9 @@ ghost use Rattle.bully_base.specs.NodeSet.{IsFallingBelow, below_node, highest_o
 ghost use Rattle.bully_base.specs.declared.TheConstants.{NODES_MAX};
 ghost use Rattle.bully_table.specs.TableText.{owners_text};
 ghost use Rattle.bully_calls.specs.declared.event.Event.{Event};
-ghost use Rattle.bully_rows.specs.TraceText.{call_fields, claim_fields, event_fields, gap_behind, header_fields, later_fields, line_of, node_text, rest_text, row_fields, set_text, task_text};
+ghost use Rattle.bully_rows.specs.TraceText.{call_fields, claim_fields, event_fields, gap_behind, header_fields};
+ghost use Rattle.bully_rows.specs.TraceText.{later_fields, line_of, node_text, rest_text, row_fields, set_text};
+ghost use Rattle.bully_rows.specs.TraceText.{task_text};
 ghost use Rattle.bully_rows.specs.Whole.{whole_of};
 ghost use Rattle.bully_rows.specs.Words.{answer_word};
 
@@ -37,7 +39,8 @@ pub fn push_task(
     separator: char,
 ) -> Result<(), OutOfMemory>
     requires { separator < 128 }
-    ensures { OnOk result (string_bytes text.new ≡ string_bytes text.old ++ task_text separator (option_copied task.entry)) }
+    ensures { OnOk result (string_bytes text.new ≡ string_bytes text.old
+        ++ task_text separator (option_copied task.entry)) }
 {
     match task {
         None => text.push('-'),
@@ -58,7 +61,8 @@ pub fn push_header(text: &mut String, version: Version, setup: &Setup) -> Result
 
 // Appends the header of version 1.
 fn push_first_header(text: &mut String, setup: &Setup) -> Result<(), OutOfMemory>
-    ensures { OnOk result (string_bytes text.new ≡ string_bytes text.old ++ line_of (header_fields Version.One setup.now)) }
+    ensures { OnOk result (string_bytes text.new ≡ string_bytes text.old
+        ++ line_of (header_fields Version.One setup.now)) }
 {
     let nodes = setup.nodes();
     let partitions = setup.partitions();
@@ -67,7 +71,8 @@ fn push_first_header(text: &mut String, setup: &Setup) -> Result<(), OutOfMemory
 
 // Appends the header of a version behind 1.
 fn push_later_header(text: &mut String, version: &str, setup: &Setup) -> Result<(), OutOfMemory>
-    ensures { OnOk result (string_bytes text.new ≡ string_bytes text.old ++ line_of (later_fields version.now setup.now)) }
+    ensures { OnOk result (string_bytes text.new ≡ string_bytes text.old
+        ++ line_of (later_fields version.now setup.now)) }
 {
     let nodes = setup.nodes();
     let partitions = setup.partitions();
@@ -150,7 +155,8 @@ fn push_digit(text: &mut String, digit: u16) -> Result<(), OutOfMemory>
 
 // Appends the line of a Plan.
 fn push_plan(text: &mut String, node: Node, table: &Table) -> Result<(), OutOfMemory>
-    ensures { OnOk result (string_bytes text.new ≡ string_bytes text.old ++ line_of (event_fields (Event.Plan node table.now))) }
+    ensures { OnOk result (string_bytes text.new ≡ string_bytes text.old
+        ++ line_of (event_fields (Event.Plan node table.now))) }
 {
     let word = EventKind::Plan.word();
     let number = node.number();
@@ -161,7 +167,8 @@ fn push_plan(text: &mut String, node: Node, table: &Table) -> Result<(), OutOfMe
 
 /// Appends the line of an event of a call, and of what is said beside it.
 pub fn push_detailed(text: &mut String, event: &DetailedEvent) -> Result<(), OutOfMemory>
-    ensures { OnOk result (string_bytes text.new ≡ string_bytes text.old ++ line_of (row_fields (Row.Detailed event.now))) }
+    ensures { OnOk result (string_bytes text.new ≡ string_bytes text.old
+        ++ line_of (row_fields (Row.Detailed event.now))) }
 {
     let node = event.node;
     let detail = event.detail;
@@ -174,7 +181,8 @@ pub fn push_detailed(text: &mut String, event: &DetailedEvent) -> Result<(), Out
 
 // Appends the line of an event of this word and of its call.
 fn push_unanswered(text: &mut String, word: &str, node: Node, call: Call) -> Result<(), OutOfMemory>
-    ensures { OnOk result (string_bytes text.new ≡ string_bytes text.old ++ line_of (word.now ∷ decimal node ∷ call_fields call)) }
+    ensures { OnOk result (string_bytes text.new ≡ string_bytes text.old
+        ++ line_of (word.now ∷ decimal node ∷ call_fields call)) }
 {
     let number = node.number();
     let kind = call_word(call.kind);
@@ -190,7 +198,8 @@ fn push_answered(
     call: Call,
     answer: Answer,
 ) -> Result<(), OutOfMemory>
-    ensures { OnOk result (string_bytes text.new ≡ string_bytes text.old ++ line_of (word.now ∷ decimal node ∷ (call_fields call ++ answer_word answer ∷ []))) }
+    ensures { OnOk result (string_bytes text.new ≡ string_bytes text.old
+        ++ line_of (word.now ∷ decimal node ∷ (call_fields call ++ answer_word answer ∷ []))) }
 {
     let number = node.number();
     let kind = call_word(call.kind);
@@ -211,7 +220,8 @@ fn push_claim(text: &mut String, claim: Claim) -> Result<(), OutOfMemory>
 
 // Appends the line of a claim that tells all of a vector.
 fn push_whole(text: &mut String, whole: &WholeClaim) -> Result<(), OutOfMemory>
-    ensures { OnOk result (string_bytes text.new ≡ string_bytes text.old ++ line_of (row_fields (Row.Whole whole.now))) }
+    ensures { OnOk result (string_bytes text.new ≡ string_bytes text.old
+        ++ line_of (row_fields (Row.Whole whole.now))) }
 {
     push_claim(text, whole.claim())?;
     push_rest(text, whole.halter(), whole.up(), whole.task())?;
@@ -220,7 +230,8 @@ fn push_whole(text: &mut String, whole: &WholeClaim) -> Result<(), OutOfMemory>
 
 /// Appends the line of a claim that tells all of this node's vector.
 pub fn push_vector(text: &mut String, node: Node, vector: &Vector) -> Result<(), OutOfMemory>
-    ensures { OnOk result (string_bytes text.new ≡ string_bytes text.old ++ line_of (row_fields (Row.Whole (whole_of node vector.now.vector)))) }
+    ensures { OnOk result (string_bytes text.new ≡ string_bytes text.old
+        ++ line_of (row_fields (Row.Whole (whole_of node vector.now.vector)))) }
 {
     let claim = Claim {
         node,
@@ -239,7 +250,8 @@ fn push_rest(
     up: &NodeSet,
     task: Option<&Table>,
 ) -> Result<(), OutOfMemory>
-    ensures { OnOk result (string_bytes text.new ≡ string_bytes text.old ++ rest_text halter up.now (option_copied task.entry)) }
+    ensures { OnOk result (string_bytes text.new ≡ string_bytes text.old
+        ++ rest_text halter up.now (option_copied task.entry)) }
 {
     text.push(',')?;
     push_node(text, halter)?;

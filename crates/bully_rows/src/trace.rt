@@ -39,7 +39,12 @@ impl Model for WholeClaim {
 
     ghost Value = { Whole };
 
-    ghost view = { λ w. record { claim = w.told.value.claim; halter = w.told.value.halter; up = w.told.value.up; task = w.told.value.task } };
+    ghost view = { λ w. record {
+      claim = w.told.value.claim;
+      halter = w.told.value.halter;
+      up = w.told.value.up;
+      task = w.told.value.task;
+    } };
 }
 
 impl WholeClaim {
@@ -182,8 +187,8 @@ fn are_short(rows: &[Row]) -> bool
     rows.iter().all(|row| row.is_short())
 }
 
-/// A trace: its version, the setup that its header tells, and its rows. Version 1 goes only with a setup in which all nodes
-/// weigh 1 and no task is kept over a crash, and rows that say more only with version 3.
+/// A trace: its version, the setup that its header tells, and its rows. Version 1 goes only with a setup in which all
+/// nodes weigh 1 and no task is kept over a crash, and rows that say more only with version 3.
 #[derive(Drop, Debug)]
 pub struct Trace {
     pub version: Version,

@@ -28,15 +28,16 @@ pub trait TraceSink<R: Read + Drop, S>: Drop {
         requires { IsVersionFor header.version header.setup }
         ensures { IfOk result (has_taken start header []) };
 
-    /// Takes the row that was read last, which tells this event. Refused where an allocation fails. It is for who has a shorter way
-    /// than by a `Row`.
+    /// Takes the row that was read last, which tells this event. Refused where an allocation fails. It is for who has a
+    /// shorter way than by a `Row`.
     fn feed_read_event(
         &mut self,
         alloc: Global,
         rows: &RowReader<R>,
         event: NodeEvent,
     ) -> Result<(), OutOfMemory>
-        ensures { (start : S) → OnOk result (GoesOn (has_taken start) rows.now (RowState.Event (event_at event.kind event.node)) self.old self.new) }
+        ensures { (start : S) → OnOk result
+            (GoesOn (has_taken start) rows.now (RowState.Event (event_at event.kind event.node)) self.old self.new) }
     {
         self.feed_read_row(alloc, rows, Row::Event(event.event()))
     }
@@ -71,7 +72,8 @@ impl<R: Read + Drop, S: Copy, T: TraceSink<R, S>> RowSink<R> for TraceFeed<S, T>
 
     type Fault = TraceFault;
 
-    ghost takes = { λ reader before after. (after.start ≡ before.start) × TakesNext (T.has_taken before.start) reader before.begun after.begun };
+    ghost takes = { λ reader before after. (after.start ≡ before.start)
+        × TakesNext (T.has_taken before.start) reader before.begun after.begun };
 
     ghost refuses = { λ reader before after fault. RefusesNext reader before.begun fault };
 
@@ -141,15 +143,16 @@ fn begin<R: Read + Drop, S: Copy, T: TraceSink<R, S>>(
     Ok(())
 }
 
-/// Has all rows of a text taken, of which none was read, by what its header begins. Refused as [`crate::read_trace`] refuses it; what
-/// was begun has then taken the rows before the one at fault.
+/// Has all rows of a text taken, of which none was read, by what its header begins. Refused as [`crate::read_trace`]
+/// refuses it; what was begun has then taken the rows before the one at fault.
 pub fn feed_text<R: Read + Drop, S: Copy, T: TraceSink<R, S>>(
     alloc: Global,
     rows: &mut RowReader<R>,
     feed: &mut TraceFeed<S, T>,
 ) -> Result<(), TraceFault>
     requires { feed.old.begun ≡ None }
-    ensures taken { (known : Option (List ℕ)) → IsUnread known rows.old → OnOk result (IsTakenToEnd (T.has_taken feed.old.start) known (option_map (λ b. b.sink) feed.new.begun)) }
+    ensures taken { (known : Option (List ℕ)) → IsUnread known rows.old
+        → OnOk result (IsTakenToEnd (T.has_taken feed.old.start) known (option_map (λ b. b.sink) feed.new.begun)) }
     ensures fault { (known : Option (List ℕ)) → IsUnread known rows.old → IfErr result (EndsReading known) }
 {
     feed_each(alloc, rows, feed)
@@ -161,7 +164,8 @@ pub fn feed_trace<R: Read + Drop, S: Copy, T: TraceSink<R, S>>(
     rows: &mut RowReader<R>,
     start: S,
 ) -> Result<T, TraceFault>
-    ensures taken { (known : Option (List ℕ)) → IsUnread known rows.old → IfOk result (IsWhollyTaken (T.has_taken start) known) }
+    ensures taken { (known : Option (List ℕ)) → IsUnread known rows.old
+        → IfOk result (IsWhollyTaken (T.has_taken start) known) }
     ensures fault { (known : Option (List ℕ)) → IsUnread known rows.old → IfErr result (EndsReading known) }
 {
     let mut feed = TraceFeed { start, begun: None };

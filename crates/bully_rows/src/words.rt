@@ -1,6 +1,8 @@
-//! The words of a trace and of a verdict, each once: for reading and for writing. Those of events and refusals stand in bully_calls.
+//! The words of a trace and of a verdict, each once: for reading and for writing. Those of events and refusals stand in
+//! bully_calls.
 ghost use Rattle.std.specs.Prelude.{◌≡◌};
-ghost use Rattle.bully_rows.specs.Words.{answer_word, call_named, call_word, keeps_named, keeps_word, outcome_named, reply_named, status_named, status_word};
+ghost use Rattle.bully_rows.specs.Words.{answer_word, call_named, call_word, keeps_named, keeps_word, outcome_named};
+ghost use Rattle.bully_rows.specs.Words.{reply_named, status_named, status_word};
 
 use bully_base::Status;
 use bully_calls::{Answer, CallKind, is_word};

@@ -12,10 +12,10 @@ use std::alloc::Global;
 use std::io;
 use std::io::Write;
 
-/// Writes the trace's text: the header of its version and its rows, a line each. The text is made before it is written. Where
-/// nothing stood before, what is written means this very trace, if it is one that a text can tell.
-/// Refused as `Write` where the writer fails, and then a prefix of the text may have been written; as
-/// `OutOfMemory` where an allocation fails, and then nothing was written. Each is at row 0.
+/// Writes the trace's text: the header of its version and its rows, a line each. The text is made before it is written.
+/// Where nothing stood before, what is written means this very trace, if it is one that a text can tell. Refused as
+/// `Write` where the writer fails, and then a prefix of the text may have been written; as `OutOfMemory` where an
+/// allocation fails, and then nothing was written. Each is at row 0.
 pub fn write_trace<W: Write>(alloc: Global, writer: &mut W, trace: &Trace) -> Result<(), TraceFault>
     ensures ok { OnOk result
         (Appends (W.contents writer.old) (W.contents writer.new) (trace_text trace.now)) }

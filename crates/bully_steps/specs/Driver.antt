@@ -8,7 +8,8 @@ use Rattle.bully_steps.specs.declared.point.Point.TheVariants.{Idle}
 -- an idle node checks where the period divides its turn, and has a timeout where the rest is half the period, rounded
 -- down
 abbrev pub chosen_every : ℕ → ℕ → Point → Choice
-chosen_every period turn Idle = if turn % period == 0 then Check else (if turn % period == period / 2 then Timeout else Proceed)
+chosen_every period turn Idle =
+    if turn % period == 0 then Check else (if turn % period == period / 2 then Timeout else Proceed)
 chosen_every period turn _ = Proceed
 
 -- the same with the profile's period

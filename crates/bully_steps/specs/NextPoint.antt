@@ -1,5 +1,6 @@
 -- Where each outcome leads from each point, and where a procedure begins.
-use Rattle.std.specs.Prelude.{ℕ, zero, suc, ◌+◌, ◌-◌, List, [], ◌∷◌, Option, Some, None, ◌&&◌, ◌==◌, nat_lt, nat_le, if◌then◌else◌}
+use Rattle.std.specs.Prelude.{ℕ, zero, suc, ◌+◌, ◌-◌, List, [], ◌∷◌, Option, Some, None, ◌&&◌, ◌==◌, nat_lt, nat_le}
+use Rattle.std.specs.Prelude.{if◌then◌else◌}
 use Rattle.bully_base.specs.declared.node.Status.{Status}
 use Rattle.bully_base.specs.declared.node.Status.TheVariants.{Down, Election, Reorganization, Normal}
 use Rattle.bully_base.specs.NodeSet.{with_node}
@@ -8,7 +9,8 @@ use Rattle.bully_calls.specs.declared.call.Outcome.{Outcome}
 use Rattle.bully_calls.specs.declared.call.Outcome.TheVariants.{Started, Moved, Planned, Yes, No, Failed}
 use Rattle.bully_handlers.specs.Vector.{Vector, names, is_normal}
 use Rattle.bully_steps.specs.declared.point.Point.{Point}
-use Rattle.bully_steps.specs.declared.point.Point.TheVariants.{Idle, Asking, Halting, Announcing, Planning, Readying, Checking, Inquiring}
+use Rattle.bully_steps.specs.declared.point.Point.TheVariants.{Idle, Asking, Halting, Announcing, Planning, Readying}
+use Rattle.bully_steps.specs.declared.point.Point.TheVariants.{Checking, Inquiring}
 
 -- an election of node i begins here
 abbrev pub election : ℕ → Point

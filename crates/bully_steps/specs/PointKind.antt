@@ -4,7 +4,8 @@ use Rattle.bully_calls.specs.declared.call.Outcome.{Outcome}
 use Rattle.bully_calls.specs.declared.call.Outcome.TheVariants.{Moved, Yes}
 use Rattle.bully_steps.specs.declared.point.Point.{Point}
 use Rattle.bully_steps.specs.declared.point_kind.PointKind.{PointKind}
-use Rattle.bully_steps.specs.declared.point_kind.PointKind.TheVariants.{Idle, Asking, Halting, Announcing, Planning, Readying, Checking, Inquiring}
+use Rattle.bully_steps.specs.declared.point_kind.PointKind.TheVariants.{Idle, Asking, Halting, Announcing, Planning}
+use Rattle.bully_steps.specs.declared.point_kind.PointKind.TheVariants.{Readying, Checking, Inquiring}
 
 abbrev pub kind_of : Point → PointKind
 kind_of Point.Idle = Idle

@@ -1,5 +1,6 @@
 -- What a procedure holds, when it may hold it, and where it goes on.
-use Rattle.std.specs.Prelude.{◌≡◌, ◌≢◌, ℕ, Bool, true, false, [], length, List, Option, Some, None, IfSome, unwrap_or, if◌then◌else◌}
+use Rattle.std.specs.Prelude.{◌≡◌, ◌≢◌, ℕ, Bool, true, false, [], length, List, Option, Some, None, IfSome, unwrap_or}
+use Rattle.std.specs.Prelude.{if◌then◌else◌}
 use Rattle.bully_base.specs.NodeSet.{with_node, IsFallingBelow}
 use Rattle.bully_base.specs.Setup.{Setup, IsSetup, IsNode}
 use Rattle.bully_calls.specs.declared.call.Outcome.{Outcome}

@@ -32,7 +32,8 @@ abbrev pub identity_of : ProcedureState → Identity
 identity_of h = record { setup = h.setup; node = h.node; generation = h.generation }
 
 abbrev pub state_at : Identity → Point → List ℕ → Option ℕ → Bool → ProcedureState
-state_at whose point up coordinator awaits = procedure_state whose.setup whose.node whose.generation point up coordinator awaits
+state_at whose point up coordinator awaits =
+    procedure_state whose.setup whose.node whose.generation point up coordinator awaits
 
 abbrev pub idle : IdleState → ProcedureState
 idle s = state_at s.identity Point.Idle [] None false

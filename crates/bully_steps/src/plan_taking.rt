@@ -14,10 +14,12 @@ use std::mem;
 
 impl Procedure {
     /// Gives the procedure its table, where it is Planning: planned as [`Planning::prepare`](crate::Planning::prepare)
-    /// does, from the old one, which has the setup's partitions. Refused where an allocation fails; then it is as it was.
+    /// does, from the old one, which has the setup's partitions. Refused where an allocation fails; then it is as it
+    /// was.
     pub fn prepare(&mut self, alloc: Global, old: Option<&Table>) -> Result<(), OutOfMemory>
         requires { IfSome (option_copied old) (λ t. length t ≡ (state_of self.old).setup.partitions) }
-        ensures prepared { OnOk result (state_of self.new ≡ prepared_from (option_copied old.entry) (state_of self.old)) }
+        ensures prepared { OnOk result (state_of self.new
+            ≡ prepared_from (option_copied old.entry) (state_of self.old)) }
         ensures unchanged { IfErr result (λ _. self.new ≡ self.old) }
     {
         if !matches!(self, Procedure::Planning(_)) {
@@ -30,7 +32,8 @@ impl Procedure {
     #[inline(never)]
     fn prepare_planning(&mut self, alloc: Global, old: Option<&Table>) -> Result<(), OutOfMemory>
         requires { IfSome (option_copied old) (λ t. length t ≡ (state_of self.old).setup.partitions) }
-        ensures prepared { OnOk result (state_of self.new ≡ prepared_from (option_copied old.entry) (state_of self.old)) }
+        ensures prepared { OnOk result (state_of self.new
+            ≡ prepared_from (option_copied old.entry) (state_of self.old)) }
         ensures unchanged { IfErr result (λ _. self.new ≡ self.old) }
     {
         let Procedure::Planning(planning) = self else {
@@ -48,8 +51,8 @@ impl Procedure {
         Ok(())
     }
 
-    /// The planned table, for its node to take as its task; the procedure goes on by that. It takes no memory. The table
-    /// is prepared.
+    /// The planned table, for its node to take as its task; the procedure goes on by that. It takes no memory. The
+    /// table is prepared.
     #[inline(never)]
     pub fn take_plan(&mut self) -> Table
         requires { IsSome (state_of self.old).table }

@@ -9,8 +9,9 @@ use bully_base::{Node, NodeSet, Setup};
 use bully_table::{PlanFault, Table, TablePlan, plan_in};
 use std::alloc::Global;
 
-/// The planned table over the node and its up set, with the fewest moves from the old one, which has the setup's partitions.
-/// Refused as `OutOfMemory`; `NoMember` never comes, since the node is a member. The rule: docs/ALGORITHM.md.
+/// The planned table over the node and its up set, with the fewest moves from the old one, which has the setup's
+/// partitions. Refused as `OutOfMemory`; `NoMember` never comes, since the node is a member. The rule:
+/// docs/ALGORITHM.md.
 pub fn planned_table(
     alloc: Global,
     setup: &Setup,
@@ -21,7 +22,8 @@ pub fn planned_table(
     requires node { node ≤ setup.now.nodes }
     requires up { IsFallingBelow node up.now }
     requires old { IfSome (option_copied old) (λ t. length t ≡ setup.now.partitions) }
-    ensures planned { IfOk result (λ table. table ≡ planned setup.now (option_copied old.entry) (with_node node up.now)) }
+    ensures planned { IfOk result (λ table.
+        table ≡ planned setup.now (option_copied old.entry) (with_node node up.now)) }
     ensures balanced { IfOk result (IsPlannedOver setup.now node up.now) }
     ensures fault { IfErr result (λ fault. fault ≡ PlanFault.OutOfMemory) }
 {

@@ -1,4 +1,5 @@
-ghost use Rattle.std.specs.Prelude.{◌≡◌, ◌<◌, ◌≤◌, ◌+◌, ℕ, List, Some, None, nat_le, unwrap_or, option_map, if◌then◌else◌};
+ghost use Rattle.std.specs.Prelude.{◌≡◌, ◌<◌, ◌≤◌, ◌+◌, ℕ, List, Some, None, nat_le, unwrap_or, option_map};
+ghost use Rattle.std.specs.Prelude.{if◌then◌else◌};
 ghost use Rattle.std.specs.Option.{option_copied};
 ghost use Rattle.bully_base.specs.NodeSet.{highest_of};
 ghost use Rattle.bully_base.specs.Setup.{Setup as SetupState};
@@ -82,7 +83,8 @@ impl PointKind {
     }
 
     /// The kind of the point that follows one of this kind with these nodes left, nobody without a set, by the outcome.
-    /// `Started` keeps a point that offers a call. None for each outcome that docs/ALGORITHM.md doesn't list at the point.
+    /// `Started` keeps a point that offers a call. None for each outcome that docs/ALGORITHM.md doesn't list at the
+    /// point.
     // (inlined, as `offers` is)
     #[inline(always)]
     pub fn next(
@@ -92,7 +94,8 @@ impl PointKind {
         node: Node,
         outcome: Outcome,
     ) -> Option<PointKind>
-        ensures { (up : List ℕ) → result ≡ option_map kind_of (next_point setup.now node up (point_at self.now (nodes_in (option_copied left.entry))) outcome) }
+        ensures { (up : List ℕ) → result ≡ option_map kind_of
+            (next_point setup.now node up (point_at self.now (nodes_in (option_copied left.entry))) outcome) }
     {
         match self {
             PointKind::Idle => None,
@@ -246,7 +249,8 @@ fn checking_at(setup: &Setup, node: Node, number: u16) -> PointKind
 }
 
 fn after_asking(setup: &Setup, node: Node, number: u16, outcome: Outcome) -> Option<PointKind>
-    ensures { (up : List ℕ) → result ≡ option_map kind_of (next_point setup.now node up (AnyPoint.Asking number) outcome) }
+    ensures { (up : List ℕ)
+        → result ≡ option_map kind_of (next_point setup.now node up (AnyPoint.Asking number) outcome) }
 {
     let calls = number <= setup.nodes();
     match outcome {
@@ -259,7 +263,8 @@ fn after_asking(setup: &Setup, node: Node, number: u16, outcome: Outcome) -> Opt
 }
 
 fn after_halting(number: u16, outcome: Outcome) -> Option<PointKind>
-    ensures { (setup : SetupState) (node : ℕ) (up : List ℕ) → result ≡ option_map kind_of (next_point setup node up (AnyPoint.Halting number) outcome) }
+    ensures { (setup : SetupState) (node : ℕ) (up : List ℕ)
+        → result ≡ option_map kind_of (next_point setup node up (AnyPoint.Halting number) outcome) }
 {
     let calls = number > 0;
     match outcome {
@@ -271,7 +276,8 @@ fn after_halting(number: u16, outcome: Outcome) -> Option<PointKind>
 }
 
 fn after_announcing(node: Node, left: Option<&NodeSet>, outcome: Outcome) -> Option<PointKind>
-    ensures { (setup : SetupState) (up : List ℕ) → result ≡ option_map kind_of (next_point setup node up (AnyPoint.Announcing (nodes_in (option_copied left.entry))) outcome) }
+    ensures { (setup : SetupState) (up : List ℕ) → result ≡ option_map kind_of
+        (next_point setup node up (AnyPoint.Announcing (nodes_in (option_copied left.entry))) outcome) }
 {
     let calls = highest_in(left).is_some();
     match outcome {
@@ -283,7 +289,8 @@ fn after_announcing(node: Node, left: Option<&NodeSet>, outcome: Outcome) -> Opt
 }
 
 fn after_readying(node: Node, left: Option<&NodeSet>, outcome: Outcome) -> Option<PointKind>
-    ensures { (setup : SetupState) (up : List ℕ) → result ≡ option_map kind_of (next_point setup node up (AnyPoint.Readying (nodes_in (option_copied left.entry))) outcome) }
+    ensures { (setup : SetupState) (up : List ℕ) → result ≡ option_map kind_of
+        (next_point setup node up (AnyPoint.Readying (nodes_in (option_copied left.entry))) outcome) }
 {
     let calls = highest_in(left).is_some();
     match outcome {
@@ -295,7 +302,8 @@ fn after_readying(node: Node, left: Option<&NodeSet>, outcome: Outcome) -> Optio
 }
 
 fn after_checking(setup: &Setup, node: Node, callee: Node, outcome: Outcome) -> Option<PointKind>
-    ensures { (up : List ℕ) → result ≡ option_map kind_of (next_point setup.now node up (AnyPoint.Checking callee) outcome) }
+    ensures { (up : List ℕ)
+        → result ≡ option_map kind_of (next_point setup.now node up (AnyPoint.Checking callee) outcome) }
 {
     match outcome {
         Outcome::Started => Some(PointKind::Checking(callee)),

@@ -1,7 +1,9 @@
 ghost use Rattle.std.specs.Prelude.{◌≡◌, ◌≤◌, [], None, Some, true, false, option_map};
 ghost use Rattle.std.specs.Option.{option_copied};
 ghost use Rattle.bully_base.specs.NodeSet.{IsFallingBelow};
-ghost use Rattle.bully_steps.specs.ProcedureState.{IsProcedureState, IsCall, SuitsInquiry, CanResume, procedure_state, want_of, next_of, resumed, resumed_point, resumed_up, is_started as started};
+ghost use Rattle.bully_steps.specs.ProcedureState.{IsProcedureState, IsCall, SuitsInquiry, CanResume, procedure_state};
+ghost use Rattle.bully_steps.specs.ProcedureState.{want_of, next_of, resumed, resumed_point, resumed_up};
+ghost use Rattle.bully_steps.specs.ProcedureState.{is_started as started};
 ghost use Rattle.bully_steps.specs.Point.{offered, IsPointOf};
 ghost use Rattle.bully_steps.specs.PointKind.{kind_of, left_at, point_at, nodes_in};
 ghost use Rattle.bully_steps.specs.Procedure.{state_of};
@@ -32,8 +34,9 @@ pub enum Procedure {
 }
 
 impl Procedure {
-    /// No procedure runs at the node, which is at most the setup's last, in this of its generations. It is for a caller's
-    /// own loop, as [`Procedure::at`] and [`Procedure::resume`] are: the program's own turns go on where a procedure lies.
+    /// No procedure runs at the node, which is at most the setup's last, in this of its generations. It is for a
+    /// caller's own loop, as [`Procedure::at`] and [`Procedure::resume`] are: the program's own turns go on where a
+    /// procedure lies.
     pub fn idle(setup: Setup, node: Node, generation: u32) -> Procedure
         requires { node ≤ setup.nodes }
         ensures { state_of result ≡ procedure_state setup node generation Point.Idle [] None false }
@@ -152,7 +155,8 @@ impl Procedure {
     /// The nodes that are left, at Announcing and Readying; none elsewhere.
     pub fn left(&self) -> Option<&NodeSet>
         ensures left { option_copied result ≡ left_at (state_of self.now).point }
-        ensures point { (state_of self.now).point ≡ point_at (kind_of (state_of self.now).point) (nodes_in (option_copied result)) }
+        ensures point { (state_of self.now).point
+            ≡ point_at (kind_of (state_of self.now).point) (nodes_in (option_copied result)) }
     {
         match self {
             Procedure::Announcing(announcing) => Some(&announcing.held.rest),
@@ -244,8 +248,8 @@ impl Procedure {
         }
     }
 
-    // Goes on by the outcome, where that leads to a point of the same state, and tells whether it does. Whose procedure it
-    // is stays where it lies, and no set is copied.
+    // Goes on by the outcome, where that leads to a point of the same state, and tells whether it does. Whose procedure
+    // it is stays where it lies, and no set is copied.
     fn stay(&mut self, outcome: Outcome) -> bool
         requires { CanResume (state_of self.old) outcome }
         ensures stays { result ≡ true → state_of self.new ≡ resumed (state_of self.old) outcome }
@@ -334,9 +338,11 @@ impl Procedure {
     )
         requires up { IsFallingBelow (state_of self.old).node up.now }
         requires point { IsPointOf (state_of self.old).setup (state_of self.old).node stored_point.now }
-        requires inquiry { SuitsInquiry (state_of self.old).setup (state_of self.old).node coordinator stored_point.now }
+        requires inquiry { SuitsInquiry (state_of self.old).setup
+            (state_of self.old).node coordinator stored_point.now }
         requires call { awaits ≡ true → IsCall (offered (state_of self.old).setup coordinator stored_point.now) }
-        ensures { state_of self.new ≡ procedure_state (state_of self.old).setup (state_of self.old).node generation stored_point.now up.now coordinator awaits }
+        ensures { state_of self.new ≡ procedure_state (state_of self.old).setup
+            (state_of self.old).node generation stored_point.now up.now coordinator awaits }
     {
         self.set_generation(generation);
         self.go_to(
@@ -365,8 +371,8 @@ impl Procedure {
         }
     }
 
-    // Goes to the point of this kind with these nodes left, with this up set and this coordinator. Whose procedure it is
-    // stays.
+    // Goes to the point of this kind with these nodes left, with this up set and this coordinator. Whose procedure it
+    // is stays.
     fn go_to(
         &mut self,
         kind: PointKind,
@@ -377,9 +383,12 @@ impl Procedure {
     )
         requires up { IsFallingBelow (state_of self.old).node up.now }
         requires point { IsPointOf (state_of self.old).setup (state_of self.old).node (point_at kind left.now) }
-        requires inquiry { SuitsInquiry (state_of self.old).setup (state_of self.old).node coordinator (point_at kind left.now) }
-        requires call { awaits ≡ true → IsCall (offered (state_of self.old).setup coordinator (point_at kind left.now)) }
-        ensures { state_of self.new ≡ procedure_state (state_of self.old).setup (state_of self.old).node (state_of self.old).generation (point_at kind left.now) up.now coordinator awaits }
+        requires inquiry { SuitsInquiry (state_of self.old).setup (state_of self.old).node coordinator
+            (point_at kind left.now) }
+        requires call { awaits ≡ true
+            → IsCall (offered (state_of self.old).setup coordinator (point_at kind left.now)) }
+        ensures { state_of self.new ≡ procedure_state (state_of self.old).setup (state_of self.old).node
+            (state_of self.old).generation (point_at kind left.now) up.now coordinator awaits }
     {
         match kind {
             PointKind::Idle => Idle::begin(self),

@@ -69,8 +69,8 @@ impl StoredPoint {
         self.kind.offers(Some(&self.left), setup, node, coordinator)
     }
 
-    /// Goes on by the outcome at the node, whose up set is `up`: to the point that [`Point::next`] tells; it stays where
-    /// that tells none.
+    /// Goes on by the outcome at the node, whose up set is `up`: to the point that [`Point::next`] tells; it stays
+    /// where that tells none.
     // (inlined, as `offers` is)
     #[inline(always)]
     pub fn advance(&mut self, setup: &Setup, node: Node, up: &NodeSet, outcome: Outcome)

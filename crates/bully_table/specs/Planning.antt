@@ -1,5 +1,7 @@
 -- How a task's partitions are spread anew over a set of members, so that few of them move.
-use Rattle.std.specs.Prelude.{◌≡◌, ℕ, zero, suc, ◌+◌, ◌-◌, ◌≤◌, Bool, true, false, not, List, [], ◌∷◌, Option, Some, None, map, length, take, ◌&&◌, nat_lt, nat_le, ◌==◌, slice_index_or, count_by, if◌then◌else◌}
+use Rattle.std.specs.Prelude.{◌≡◌, ℕ, zero, suc, ◌+◌, ◌-◌, ◌≤◌, Bool, true, false, not, List, [], ◌∷◌, Option, Some}
+use Rattle.std.specs.Prelude.{None, map, length, take, ◌&&◌, nat_lt, nat_le, ◌==◌, slice_index_or, count_by}
+use Rattle.std.specs.Prelude.{if◌then◌else◌}
 use Rattle.std.specs.List.{list_any, range_with_len, sum_by}
 use Rattle.bully_base.specs.NodeSet.{below_node}
 use Rattle.bully_base.specs.Setup.{Setup}
@@ -27,7 +29,8 @@ moves_from setup (Some old) new = moves old new
 pub record IsFewest (setup : Setup) (old : Option (List ℕ)) (table members : List ℕ) : Type 0 where
   pub covers : length table ≡ setup.partitions
   pub balanced : IsBalanced setup table members
-  pub least : (other : List ℕ) → length other ≡ setup.partitions → IsBalanced setup other members → moves_from setup old table ≤ moves_from setup old other
+  pub least : (other : List ℕ) → length other ≡ setup.partitions → IsBalanced setup other members
+      → moves_from setup old table ≤ moves_from setup old other
 
 -- how many partitions stay: the places at which the owners are the same; none where there is no old table
 abbrev pub kept_from : Option (List ℕ) → List ℕ → ℕ
@@ -36,8 +39,10 @@ kept_from (Some old) new = places_where (λ p. owner_at old p == owner_at new p)
 
 -- some balanced table keeps as many partitions, and none keeps more
 pub record IsMostKept (setup : Setup) (old : Option (List ℕ)) (members : List ℕ) (bound : ℕ) : Type 0 where
-  pub some : (table : List ℕ) × (length table ≡ setup.partitions) × IsBalanced setup table members × (kept_from old table ≡ bound)
-  pub none_more : (other : List ℕ) → length other ≡ setup.partitions → IsBalanced setup other members → kept_from old other ≤ bound
+  pub some : (table : List ℕ) × (length table ≡ setup.partitions) × IsBalanced setup table members
+      × (kept_from old table ≡ bound)
+  pub none_more : (other : List ℕ) → length other ≡ setup.partitions → IsBalanced setup other members
+      → kept_from old other ≤ bound
 
 -- The planned table, by its rule.
 
@@ -56,8 +61,8 @@ comes_first more k m =
     if more k then (if more m then nat_lt k m else true)
     else (if more m then false else nat_lt k m)
 
--- how many partitions the node is to own: where it is a member its base, and one more where fewer than `rest` members come
--- before it
+-- how many partitions the node is to own: where it is a member its base, and one more where fewer than `rest` members
+-- come before it
 unfoldable pub quota_by : (ℕ → ℕ) → ℕ → List ℕ → List ℕ → ℕ → ℕ
 quota_by base rest before members m =
     if list_any (λ k. k == m) members then
@@ -97,7 +102,8 @@ member_where test (m ∷ ms) = if test m then m else member_where test ms
 -- who gets the j-th partition that doesn't stay: the lower members have so much room, and with this one more than that
 unfoldable pub taker : (ℕ → ℕ) → List ℕ → List ℕ → ℕ → ℕ
 taker quotas before members j =
-    member_where (λ m. nat_le (rooms_below quotas before members m) j && nat_lt j (rooms_below quotas before members m + room quotas before members m)) members
+    member_where (λ m. nat_le (rooms_below quotas before members m) j
+    && nat_lt j (rooms_below quotas before members m + room quotas before members m)) members
 
 -- the owner of a partition in the planned table
 unfoldable pub planned_owner : (ℕ → ℕ) → List ℕ → List ℕ → ℕ → ℕ
@@ -111,4 +117,5 @@ planned_by quotas partitions before members = map (planned_owner quotas before m
 
 -- the planned table is that of the quotas by weight
 abbrev pub planned : Setup → Option (List ℕ) → List ℕ → List ℕ
-planned setup old members = planned_by (quota setup (owners_before old) members) setup.partitions (owners_before old) members
+planned setup old members =
+    planned_by (quota setup (owners_before old) members) setup.partitions (owners_before old) members

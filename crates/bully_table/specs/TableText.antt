@@ -1,5 +1,6 @@
 -- Tables as text: the owners, parted by single spaces.
-use Rattle.std.specs.Prelude.{◌≡◌, ◌⊎◌, ℕ, Bool, false, List, Result, Ok, Err, IsOk, codes, map, length, not, ◌==◌, is_none, unwrap_or, if◌then◌else◌}
+use Rattle.std.specs.Prelude.{◌≡◌, ◌⊎◌, ℕ, Bool, false, List, Result, Ok, Err, IsOk, codes, map, length, not, ◌==◌}
+use Rattle.std.specs.Prelude.{is_none, unwrap_or, if◌then◌else◌}
 use Rattle.std.specs.Fmt.{decimal}
 use Rattle.std.specs.List.{join_with_byte, list_any, slice_split}
 use Rattle.std.specs.Option.{option_map_or}

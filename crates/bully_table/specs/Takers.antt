@@ -1,5 +1,6 @@
 -- Who takes the partitions that don't stay, one after the other.
-use Rattle.std.specs.Prelude.{◌≡◌, ℕ, zero, suc, ◌+◌, ◌-◌, List, [], ◌++◌, replicate, take, ◌==◌, slice_index_or, if◌then◌else◌}
+use Rattle.std.specs.Prelude.{◌≡◌, ℕ, zero, suc, ◌+◌, ◌-◌, List, [], ◌++◌, replicate, take, ◌==◌, slice_index_or}
+use Rattle.std.specs.Prelude.{if◌then◌else◌}
 use Rattle.std.specs.List.{list_any}
 use Rattle.bully_base.specs.Setup.{Setup, IsNodeNumber}
 use Rattle.bully_base.specs.declared.TheConstants.{NODES_MAX}
@@ -20,8 +21,10 @@ takers_from takes (suc n) m = replicate (takes m) m ++ takers_from takes n (m + 
 
 -- who is still to take, where this node takes so many more
 abbrev pub takers_left : List ℕ → List ℕ → ℕ → ℕ → List ℕ
-takers_left quotas counts node left = replicate left node ++ takers_from (spare quotas counts) (NODES_MAX - node) (node + 1)
+takers_left quotas counts node left =
+    replicate left node ++ takers_from (spare quotas counts) (NODES_MAX - node) (node + 1)
 
 -- what is left of each quota once the owners at so many places are counted
 abbrev pub AreLeft : (ℕ → ℕ) → List ℕ → ℕ → List ℕ → Type 0
-AreLeft quotas before place left = (m : ℕ) → IsNodeNumber m → slice_index_or left (m - 1) 0 ≡ quotas m - count_of m (take place before)
+AreLeft quotas before place left = (m : ℕ) → IsNodeNumber m
+    → slice_index_or left (m - 1) 0 ≡ quotas m - count_of m (take place before)

@@ -1,4 +1,5 @@
-ghost use Rattle.std.specs.Prelude.{◌≡◌, ◌↔◌, ◌+◌, ◌-◌, ◌<◌, ◌≤◌, ℕ, List, All, Contains, IsTrue, length, replicate, slice_index_or};
+ghost use Rattle.std.specs.Prelude.{◌≡◌, ◌↔◌, ◌+◌, ◌-◌, ◌<◌, ◌≤◌, ℕ, List, All, Contains, IsTrue, length, replicate};
+ghost use Rattle.std.specs.Prelude.{slice_index_or};
 ghost use Rattle.bully_base.specs.NodeSet.{IsFallingBelow};
 ghost use Rattle.bully_base.specs.Setup.{IsNodeNumber, weight_of};
 ghost use Rattle.bully_base.specs.declared.TheConstants.{NODES_MAX, PARTITIONS_MAX};
@@ -41,7 +42,8 @@ pub fn are_members(owners: &[Node], members: &NodeSet) -> bool
 pub fn are_fair(setup: &Setup, owners: &[Node], members: &NodeSet) -> bool
     requires few { length owners.now ≤ PARTITIONS_MAX }
     requires nodes { All (λ m. m ≤ setup.now.nodes) members.now }
-    ensures { IsTrue result ↔ ((m : ℕ) → Contains members.now m → IsFair (base_of setup.now members.now m) (count_of m owners.now)) }
+    ensures { IsTrue result
+        ↔ ((m : ℕ) → Contains members.now m → IsFair (base_of setup.now members.now m) (count_of m owners.now)) }
 {
     // `highest` also shows the proof that the members fall.
     if members.highest().is_none() {
@@ -97,7 +99,8 @@ pub fn total_weight(setup: &Setup, members: &NodeSet) -> u32
 pub fn base_of(setup: &Setup, node: Node, total: u32) -> u16
     requires node { node ≤ setup.now.nodes }
     requires total { weight_of setup.now node ≤ total }
-    ensures base { (members : List ℕ) → total ≡ total_weight setup.now members → result ≡ base_of setup.now members node }
+    ensures base { (members : List ℕ) → total ≡ total_weight setup.now members
+        → result ≡ base_of setup.now members node }
     ensures within { result ≤ setup.now.partitions }
 {
     (u32::from(setup.partitions()) * u32::from(setup.weight(node)) / total) as u16

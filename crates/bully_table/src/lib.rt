@@ -25,9 +25,9 @@ pub use room::TableRoom;
 pub use table::{Table, TableFault, copied};
 pub use text::push_owners;
 
-/// The laws of equal weights. Where all nodes weigh 1 and no task is kept, a table is balanced exactly where its owners are
-/// members and the counts of any two members differ by one at most; and quotas and planned tables are those by the number
-/// of members.
+/// The laws of equal weights. Where all nodes weigh 1 and no task is kept, a table is balanced exactly where its owners
+/// are members and the counts of any two members differ by one at most; and quotas and planned tables are those by the
+/// number of members.
 pub fn equal_weights()
     ensures balanced { BalanceIsEven }
     ensures quota { QuotaIsEqual }

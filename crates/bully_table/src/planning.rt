@@ -1,9 +1,11 @@
-ghost use Rattle.std.specs.Prelude.{◌≡◌, ◌≢◌, ◌↔◌, ◌+◌, ◌-◌, ◌<◌, ◌≤◌, ℕ, List, [], All, Contains, Some, None, length, IfOk, IfErr, if◌then◌else◌};
+ghost use Rattle.std.specs.Prelude.{◌≡◌, ◌≢◌, ◌↔◌, ◌+◌, ◌-◌, ◌<◌, ◌≤◌, ℕ, List, [], All, Contains, Some, None, length};
+ghost use Rattle.std.specs.Prelude.{IfOk, IfErr, if◌then◌else◌};
 ghost use Rattle.std.specs.Option.{IfSome, option_copied};
 ghost use Rattle.bully_base.specs.NodeSet.{IsFallingBelow};
 ghost use Rattle.bully_base.specs.declared.TheConstants.{NODES_MAX};
 ghost use Rattle.bully_table.specs.Balance.{total_weight};
-ghost use Rattle.bully_table.specs.Planning.{IsFewest, IsMostKept, moves_from, owners_before, quota, planned_by, planned, owner_at, stays};
+ghost use Rattle.bully_table.specs.Planning.{IsFewest, IsMostKept, moves_from, owners_before, quota, planned_by};
+ghost use Rattle.bully_table.specs.Planning.{planned, owner_at, stays};
 ghost use Rattle.bully_table.specs.Takers.{AreLeft};
 
 use crate::balance::{PLACES, count_owners, place_of};
@@ -43,14 +45,14 @@ impl From<AllocError> for PlanFault {
 }
 
 /// Plans a table that is balanced over the members, which are nodes of the setup, and has the fewest moves from the old
-/// table, if there is one. The old table has the setup's partitions. Refused, in this order, as `NoMember`, `OutOfMemory`.
-/// The rule: docs/ALGORITHM.md.
+/// table, if there is one. The old table has the setup's partitions. Refused, in this order, as `NoMember`,
+/// `OutOfMemory`. The rule: docs/ALGORITHM.md.
 ///
-/// A member's base is the number of partitions times its weight, divided by what the members weigh together, and rounded
-/// down. What the bases leave goes to the members one by one: first to those that own more than their base in the old
-/// table, in rising number, and then to the others. That makes each member's quota. A partition stays where its owner is a
-/// member, until the quota of that member is full. The others, in rising order, fill the members up to their quotas, in
-/// rising number.
+/// A member's base is the number of partitions times its weight, divided by what the members weigh together, and
+/// rounded down. What the bases leave goes to the members one by one: first to those that own more than their base in
+/// the old table, in rising number, and then to the others. That makes each member's quota. A partition stays where its
+/// owner is a member, until the quota of that member is full. The others, in rising order, fill the members up to their
+/// quotas, in rising number.
 pub fn plan(
     alloc: Global,
     setup: Setup,
@@ -141,7 +143,8 @@ fn planned_owners(
     requires falling { IsFallingBelow (setup.now.nodes + 1) members.now }
     requires weighs { 0 < total_weight setup.now members.now }
     requires covers { length before.now ≤ setup.now.partitions }
-    ensures { IfOk result (λ owners. owners.items ≡ planned_by (quota setup.now before.now members.now) setup.now.partitions before.now members.now) }
+    ensures { IfOk result (λ owners. owners.items
+        ≡ planned_by (quota setup.now before.now members.now) setup.now.partitions before.now members.now) }
 {
     let partitions = usize::from(setup.partitions());
     let mut counts = [0; PLACES];
@@ -164,8 +167,11 @@ fn planned_owners(
 // The owner of the partition at this place, if it stays there. `left` has what is left of each quota once the places
 // before are counted, and then once this one is, too.
 fn staying_owner(before: &[Node], place: usize, left: &mut [u16; PLACES]) -> Option<Node>
-    ensures left { (quotas : ℕ → ℕ) → AreLeft quotas before.now place left.old → AreLeft quotas before.now (place + 1) left.new }
-    ensures owner { (quotas : ℕ → ℕ) (members : List ℕ) → IsFallingBelow (NODES_MAX + 1) members → ((m : ℕ) → ¬ Contains members m → quotas m ≡ 0) → AreLeft quotas before.now place left.old → result ≡ (if stays quotas before.now members place then Some (owner_at before.now place) else None) }
+    ensures left { (quotas : ℕ → ℕ) → AreLeft quotas before.now place left.old
+        → AreLeft quotas before.now (place + 1) left.new }
+    ensures owner { (quotas : ℕ → ℕ) (members : List ℕ) → IsFallingBelow (NODES_MAX + 1) members
+        → ((m : ℕ) → ¬ Contains members m → quotas m ≡ 0) → AreLeft quotas before.now place left.old
+        → result ≡ (if stays quotas before.now members place then Some (owner_at before.now place) else None) }
 {
     let owner = *before.get(place)?;
     let left = &mut left[place_of(owner)];

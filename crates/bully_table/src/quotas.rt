@@ -20,7 +20,8 @@ pub fn write_quotas(
     requires falling { IsFallingBelow (setup.now.nodes + 1) members.now }
     requires weighs { 0 < total_weight setup.now members.now }
     requires none { quotas.old ≡ replicate NODES_MAX 0 }
-    ensures { (before : List ℕ) → ((m : ℕ) → IsNodeNumber m → slice_index_or counts.now (m - 1) 0 ≡ count_of m before) → (m : ℕ) → IsNodeNumber m → slice_index_or quotas.new (m - 1) 0 ≡ quota setup.now before members.now m }
+    ensures { (before : List ℕ) → ((m : ℕ) → IsNodeNumber m → slice_index_or counts.now (m - 1) 0 ≡ count_of m before)
+        → (m : ℕ) → IsNodeNumber m → slice_index_or quotas.new (m - 1) 0 ≡ quota setup.now before members.now m }
 {
     let beyond = write_bases(setup, members, counts, quotas);
     // What is left of the rest for the members that owned more than their base, and for the others.
@@ -61,7 +62,8 @@ fn write_bases(
     requires none { bases.old ≡ replicate NODES_MAX 0 }
     ensures bases { (m : ℕ) → IsNodeNumber m → slice_index_or bases.new (m - 1) 0 ≡ base_share setup.now members.now m }
     ensures rest { result.rest ≡ rest_of setup.now members.now }
-    ensures above { result.above ≡ count_by (λ m. nat_lt (base_of setup.now members.now m) (slice_index_or counts.now (m - 1) 0)) members.now }
+    ensures above { result.above
+        ≡ count_by (λ m. nat_lt (base_of setup.now members.now m) (slice_index_or counts.now (m - 1) 0)) members.now }
 {
     let total = total_weight(setup, members);
     let mut beyond = Beyond {

@@ -1,4 +1,5 @@
-ghost use Rattle.std.specs.Prelude.{◌≡◌, ◌↔◌, ◌<◌, ◌≤◌, [], length, slice_get, vec_capacity, bytes_eq, All, IsTrue, IfOk, IfErr, Ok, Some};
+ghost use Rattle.std.specs.Prelude.{◌≡◌, ◌↔◌, ◌<◌, ◌≤◌, [], length, slice_get, vec_capacity, bytes_eq, All, IsTrue};
+ghost use Rattle.std.specs.Prelude.{IfOk, IfErr, Ok, Some};
 ghost use Rattle.std.specs.Cmp.{partial_equiv_from_equiv};
 ghost use Rattle.std.specs.Cmp.Lexicographic.{nat_list_eq_equiv};
 ghost use Rattle.std.specs.Option.{option_copied};
@@ -177,8 +178,8 @@ impl Table {
         self.owners.copy_from_slice(&other.owners);
     }
 
-    /// At how many partitions the owner is another one than in the old table, which has the same length: from 0 to that.
-    /// The rule: docs/ALGORITHM.md.
+    /// At how many partitions the owner is another one than in the old table, which has the same length: from 0 to
+    /// that. The rule: docs/ALGORITHM.md.
     pub fn moves(&self, old: &Table) -> u16
         requires { length old.now ≡ length self.now }
         ensures { result ≡ moves old.now self.now }

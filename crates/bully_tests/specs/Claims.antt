@@ -68,7 +68,8 @@ IsRefusedAt setup events k refused =
 -- the event behind the first k is answered so
 abbrev pub IsAnsweredAt : Setup → List Event → ℕ → Answer → Type 0
 IsAnsweredAt setup events k a =
-    (answers : List Answer) × (w : World) × IsLawful setup (take (k + 1) events) answers w × (slice_get answers k ≡ Some a)
+    (answers : List Answer) × (w : World) × IsLawful setup (take (k + 1) events) answers w
+    × (slice_get answers k ≡ Some a)
 
 -- after so many events the world shows each of these
 abbrev pub Goes : {A : Type 0} → Setup → List Event → (World → A) → List (ℕ × A) → Type 0

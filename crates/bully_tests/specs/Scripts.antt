@@ -7,9 +7,11 @@ use Rattle.bully_calls.specs.declared.call.Call.{Call}
 use Rattle.bully_calls.specs.declared.call.CallKind.{CallKind}
 use Rattle.bully_calls.specs.declared.call.CallKind.TheVariants.{AreYouUp, Halt, NewCoordinator, Ready}
 use Rattle.bully_steps.specs.declared.point.Point.{Point}
-use Rattle.bully_steps.specs.declared.point.Point.TheVariants.{Idle, Asking, Halting, Announcing, Planning, Readying, Inquiring}
+use Rattle.bully_steps.specs.declared.point.Point.TheVariants.{Idle, Asking, Halting, Announcing, Planning, Readying}
+use Rattle.bully_steps.specs.declared.point.Point.TheVariants.{Inquiring}
 use Rattle.bully_calls.specs.declared.event.Event.{Event}
-use Rattle.bully_calls.specs.declared.event.Event.TheVariants.{Recover, Crash, Check, Timeout, Start, Run, Lose, Return, Drop, Move, Plan}
+use Rattle.bully_calls.specs.declared.event.Event.TheVariants.{Recover, Crash, Check, Timeout, Start, Run, Lose, Return}
+use Rattle.bully_calls.specs.declared.event.Event.TheVariants.{Drop, Move, Plan}
 use Rattle.bully_tests.specs.Claims.{PrintedNode}
 
 -- the setup of a trace with so many nodes and partitions
@@ -18,7 +20,8 @@ trace_setup nodes partitions = even_setup nodes partitions 1000000
 
 -- that of a trace whose header has the weights and says whether tasks are kept
 abbrev pub weighted_setup : ℕ → ℕ → List ℕ → Bool → Setup
-weighted_setup nodes partitions weights keeps = record (trace_setup nodes partitions) { weights = weights; keeps = keeps }
+weighted_setup nodes partitions weights keeps =
+    record (trace_setup nodes partitions) { weights = weights; keeps = keeps }
 
 abbrev pub row : Status → Option ℕ → Option ℕ → Option (List ℕ) → PrintedNode
 row status coordinator halter task = record { status = status; coordinator = coordinator; halter = halter; task = task }

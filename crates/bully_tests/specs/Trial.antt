@@ -1,5 +1,6 @@
 -- Lists of events tried by the function that computes a step: a list of events runs by itself.
-use Rattle.std.specs.Prelude.{ℕ, Bool, true, false, List, [], ◌∷◌, length, Some, None, ◌+◌, ◌&&◌, nat_le, is_some, is_none}
+use Rattle.std.specs.Prelude.{ℕ, Bool, true, false, List, [], ◌∷◌, length, Some, None, ◌+◌, ◌&&◌, nat_le, is_some}
+use Rattle.std.specs.Prelude.{is_none}
 use Rattle.std.specs.Option.{option_map_or}
 use Rattle.bully_base.specs.Setup.{Setup}
 use Rattle.bully_calls.specs.declared.call.Answer.{Answer}
@@ -31,7 +32,8 @@ all_answers setup events = answers_of (steps_of setup events)
 abbrev pub passes_from : Setup → World → ℕ → List Event → Bool
 passes_from setup w count [] = true
 passes_from setup w count (e ∷ events) =
-    is_none (cause setup w count e) && option_map_or (λ t. passes_from setup t.0 (count + 1) events) (step_of setup w e) false
+    is_none (cause setup w count e)
+    && option_map_or (λ t. passes_from setup t.0 (count + 1) events) (step_of setup w e) false
 
 abbrev pub passes : Setup → List Event → Bool
 passes setup events = passes_from setup (first_world setup) 0 events

@@ -9,7 +9,8 @@ mod worked;
 use bully_base::Node;
 use bully_world::{Event, World};
 
-// Whose event it is: a recovery and a crash are the operator's, a run is its callee's, and what else a node does is its own.
+// Whose event it is: a recovery and a crash are the operator's, a run is its callee's, and what else a node does is its
+// own.
 fn whose(world: &World, event: &Event) -> Option<u16> {
     match event {
         Event::Recover(_) | Event::Crash(_) => Some(0),

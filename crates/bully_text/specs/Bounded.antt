@@ -1,5 +1,6 @@
 -- A text of which no row has more bytes than it may.
-use Rattle.std.specs.Prelude.{◌≡◌, ℕ, ◌+◌, ◌≤◌, ◌++◌, ◌==◌, ◌||◌, Bool, true, false, List, [], ◌∷◌, length, take, ⊤, Option, Some, None, nat_lt, option_map, if◌then◌else◌}
+use Rattle.std.specs.Prelude.{◌≡◌, ℕ, ◌+◌, ◌≤◌, ◌++◌, ◌==◌, ◌||◌, Bool, true, false, List, [], ◌∷◌, length, take, ⊤}
+use Rattle.std.specs.Prelude.{Option, Some, None, nat_lt, option_map, if◌then◌else◌}
 use Rattle.bully_text.specs.declared.TheConstants.{ROW_BYTES_MAX}
 use Rattle.bully_text.specs.declared.bounded.BoundedRows.{BoundedRows}
 use Rattle.bully_text.specs.declared.bounded.Place.{Place}
@@ -19,7 +20,8 @@ place_outside byte = if starts_field byte then Place.FieldStart else Place.InFie
 
 -- where one stands behind a byte. A byte-order mark at the start of the text is none of a field
 abbrev pub place_after : Place → ℕ → Place
-place_after Place.TextStart byte = if byte == 239 then Place.MarkBegun else if byte == 34 then Place.InQuotes else place_outside byte
+place_after Place.TextStart byte = if byte == 239 then Place.MarkBegun else if byte == 34 then Place.InQuotes else
+    place_outside byte
 place_after Place.MarkBegun byte = if byte == 187 then Place.MarkBehind else place_outside byte
 place_after Place.MarkBehind byte = if byte == 191 then Place.FieldStart else place_outside byte
 place_after Place.FieldStart byte = if byte == 34 then Place.InQuotes else place_outside byte
@@ -59,7 +61,8 @@ ends_at Place.AfterQuote byte = ends_row byte
 
 -- how many bytes of its row there are behind a byte, so many before it; none where the row has more than it may
 abbrev pub count_after : Place → ℕ → ℕ → Option ℕ
-count_after place count byte = if ends_at place byte then Some 0 else if nat_lt count ROW_BYTES_MAX then Some (count + 1) else None
+count_after place count byte = if ends_at place byte then Some 0 else if nat_lt count ROW_BYTES_MAX
+    then Some (count + 1) else None
 
 -- the text up to the first row that has more bytes than it may, and as many of that one as it may have
 unfoldable pub bounded_from : Place → ℕ → List ℕ → List ℕ
@@ -82,11 +85,13 @@ is_cut_of rows = rows.is_cut
 
 -- what is left to give, where what is left underneath is known
 abbrev pub bounded_left : {R : Type 0} → (R → Option (List ℕ)) → BoundedRows R → Option (List ℕ)
-bounded_left remaining rows = if rows.is_cut then Some [] else option_map (bounded_from rows.place rows.count) (remaining rows.reader)
+bounded_left remaining rows =
+    if rows.is_cut then Some [] else option_map (bounded_from rows.place rows.count) (remaining rows.reader)
 
 -- of these bytes so many are given, and what then is given of the rest
 pub record Gives (place : Place) (count : ℕ) (given : List ℕ) (taken : Taken) : Type 0 where
   pub within : taken.bytes ≤ length given
   pub whole : taken.is_cut ≡ false → taken.bytes ≡ length given
   pub left : (rest : List ℕ)
-      → bounded_from place count (given ++ rest) ≡ take taken.bytes given ++ (if taken.is_cut then [] else bounded_from taken.place taken.count rest)
+      → bounded_from place count (given ++ rest) ≡ take taken.bytes given ++ (if taken.is_cut then [] else
+      bounded_from taken.place taken.count rest)

@@ -1,6 +1,7 @@
 ghost use Rattle.std.specs.Prelude.{◌≡◌, ◌+◌, ◌≤◌, true, Some, None, [], length, option_map};
 ghost use Rattle.memchr.specs.Find.{IsFirstByte, is_byte};
-ghost use Rattle.bully_text.specs.Bounded.{Gives, IsPlain, bounded, bounded_left, count_after, ends_at, ends_row, is_cut_of, is_quoted, place_after, place_of, place_outside, starts_field};
+ghost use Rattle.bully_text.specs.Bounded.{Gives, IsPlain, bounded, bounded_left, count_after, ends_at, ends_row};
+ghost use Rattle.bully_text.specs.Bounded.{is_cut_of, is_quoted, place_after, place_of, place_outside, starts_field};
 ghost use Rattle.bully_text.specs.declared.TheConstants.{ROW_BYTES_MAX};
 
 use crate::ROW_BYTES_MAX;
@@ -21,9 +22,9 @@ enum Place {
     AfterQuote,
 }
 
-/// A reader of the text of a trace, up to the first row that has more than [`ROW_BYTES_MAX`] bytes: of that one it gives so many,
-/// and then it is at its end. Such a row has no form that the profile lists, nor has what is given of it. A row ends at a line feed or a
-/// carriage return outside of quotes. The rule: docs/FORMATS.md.
+/// A reader of the text of a trace, up to the first row that has more than [`ROW_BYTES_MAX`] bytes: of that one it
+/// gives so many, and then it is at its end. Such a row has no form that the profile lists, nor has what is given of
+/// it. A row ends at a line feed or a carriage return outside of quotes. The rule: docs/FORMATS.md.
 #[derive(Drop)]
 pub struct BoundedRows<R: Read> {
     reader: R,

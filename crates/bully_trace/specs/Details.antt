@@ -1,6 +1,7 @@
--- What a row of version 3 may say beside an event of a call, and beside a claim: which call it was and what was answered,
--- and all of a node's vector.
-use Rattle.std.specs.Prelude.{ℕ, Bool, true, false, List, Option, Some, None, ◌&&◌, ◌==◌, bytes_eq, option_map, option_and_then, if◌then◌else◌}
+-- What a row of version 3 may say beside an event of a call, and beside a claim: which call it was and what was
+-- answered, and all of a node's vector.
+use Rattle.std.specs.Prelude.{ℕ, Bool, true, false, List, Option, Some, None, ◌&&◌, ◌==◌, bytes_eq, option_map}
+use Rattle.std.specs.Prelude.{option_and_then, if◌then◌else◌}
 use Rattle.bully_base.specs.declared.node.Status.{Status}
 use Rattle.bully_base.specs.declared.node.Status.TheVariants.{Down, Election, Reorganization, Normal}
 use Rattle.bully_base.specs.Setup.{Setup, is_node}
@@ -63,13 +64,16 @@ offered_call _ = None
 abbrev pub brought : Pending → Option Answer
 brought c = option_map (λ o. if c.is_live then answer_of o else Discarded) (outcome_of c.phase)
 
--- what there is to say of an event of node i of this kind in the world before it, by what its rows say; none where there is no such call
+-- what there is to say of an event of node i of this kind in the world before it, by what its rows say; none where
+-- there is no such call
 abbrev pub said_by : Saying → NodeEventKind → Setup → World → ℕ → Option Detail
 said_by Saying.Nothing kind setup w i = None
 said_by Saying.Offered kind setup w i = option_map (unanswered kind) (offered_call (offer setup w i))
 said_by Saying.Held kind setup w i = option_map (unanswered kind) (call_at w i)
-said_by Saying.Replied kind setup w i = option_map (λ call. answered kind call (reply call.kind (vector w call.callee))) (call_at w i)
-said_by Saying.Brought kind setup w i = option_and_then (λ c. option_map (answered kind c.call) (brought c)) (pending w i)
+said_by Saying.Replied kind setup w i =
+    option_map (λ call. answered kind call (reply call.kind (vector w call.callee))) (call_at w i)
+said_by Saying.Brought kind setup w i =
+    option_and_then (λ c. option_map (answered kind c.call) (brought c)) (pending w i)
 
 -- this is what there is to say, of an event of one kind
 abbrev pub is_said : Option Detail → Detail → Bool
@@ -86,7 +90,8 @@ is_so setup w e = is_node setup e.node && is_node setup e.detail.call.callee && 
 
 -- what there is to say of an event in the world before it
 abbrev pub said_at : EventKind → Setup → World → ℕ → Option DetailedEvent
-said_at (EventKind.Node kind) setup w i = option_map (λ d. record { node = i; detail = d }) (said_by (node_saying kind) kind setup w i)
+said_at (EventKind.Node kind) setup w i =
+    option_map (λ d. record { node = i; detail = d }) (said_by (node_saying kind) kind setup w i)
 said_at EventKind.Plan setup w i = None
 
 abbrev pub said_of : Setup → World → Event → Option DetailedEvent

@@ -16,8 +16,8 @@ pub record JudgeState : Type 0 where
   pub world : WorldState
   pub stopped : Option Verdict
 
--- from this world and this first verdict on, behind further rows, the first of which has this number, the verdict and the
--- last world are these
+-- from this world and this first verdict on, behind further rows, the first of which has this number, the verdict and
+-- the last world are these
 abbrev pub IsJudgedOn : WorldState → Option Verdict → ℕ → List Row → Verdict → World → Type 0
 IsJudgedOn world stopped number more verdict w =
     MatchOption stopped
@@ -27,7 +27,8 @@ IsJudgedOn world stopped number more verdict w =
 -- the rows of a trace were judged: what it comes to behind further rows, all of them come to from the first world
 pub record HasJudged (setup : Setup) (rows : List Row) (judge : JudgeState) : Type 0 where
   pub same : judge.world.setup ≡ setup
-  pub judged : (more : List Row) (verdict : Verdict) (w : World) → IsJudgedOn judge.world judge.stopped (length rows + 2) more verdict w
+  pub judged : (more : List Row) (verdict : Verdict) (w : World)
+      → IsJudgedOn judge.world judge.stopped (length rows + 2) more verdict w
       → IsJudged setup (first_world setup) 0 2 (rows ++ more) verdict w
 
 -- the rows of a trace with this header were judged

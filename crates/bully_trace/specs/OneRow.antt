@@ -37,7 +37,8 @@ differs_unless so = if so then None else Some Violation.Differs
 -- what is wrong with the row in this world, if anything is: its event is refused, or what it says isn't so
 abbrev pub violation_of : WorldState → Row → Option Violation
 violation_of w (Row.Event e) = refused_or (cause_in w e) None
-violation_of w (Row.Detailed e) = refused_or (cause_in w (event_of_detailed e)) (differs_unless (is_so w.setup (world_of w) e))
+violation_of w (Row.Detailed e) =
+    refused_or (cause_in w (event_of_detailed e)) (differs_unless (is_so w.setup (world_of w) e))
 violation_of w (Row.Claim claim) = differs_unless (is_true w.setup (world_of w) claim)
 violation_of w (Row.Whole whole) = differs_unless (is_whole w.setup (world_of w) whole)
 
@@ -48,8 +49,8 @@ IsRowTaken before (Row.Detailed e) after = (a : Answer) × IsApplied before (eve
 IsRowTaken before (Row.Claim claim) after = after ≡ before
 IsRowTaken before (Row.Whole whole) after = after ≡ before
 
--- the judge took the row of this number: behind a row that decided nothing changes; else what is wrong with this row decides, and
--- where nothing is, it was taken to the world
+-- the judge took the row of this number: behind a row that decided nothing changes; else what is wrong with this row
+-- decides, and where nothing is, it was taken to the world
 pub record IsTakenBy (number : ℕ) (row : Row) (before after : JudgeState) : Type 0 where
   pub decided : IfSome before.stopped (λ verdict. after ≡ before)
   pub decides : before.stopped ≡ None → after.stopped ≡ option_map (verdict_at number) (violation_of before.world row)

@@ -13,10 +13,13 @@ use Rattle.bully_trace.specs.Verdict.{IsVerdict}
 
 -- no trace has two verdicts, nor are its rows taken to two worlds
 abbrev pub HasOneVerdict : Type 0
-HasOneVerdict = (trace : Trace) (verdict other : Verdict) (w v : World) → IsVerdict trace verdict w → IsVerdict trace other v → (verdict ≡ other) × (w ≡ v)
+HasOneVerdict = (trace : Trace) (verdict other : Verdict) (w v : World) → IsVerdict trace verdict w
+    → IsVerdict trace other v → (verdict ≡ other) × (w ≡ v)
 
 -- the trace of a lawful list of events is lawful, with as many, in whatever version it is told
 abbrev pub JudgesLawful : Type 0
 JudgesLawful =
-    (version : Version) (setup : Setup) (events : List Event) (answers : List Answer) (w : World) → IsLawful setup events answers w
-    → IsVerdict (record { version = version; setup = setup; rows = map Row.Event events }) (Verdict.Lawful (length events)) w
+    (version : Version) (setup : Setup) (events : List Event) (answers : List Answer) (w : World)
+    → IsLawful setup events answers w
+    → IsVerdict (record { version = version; setup = setup; rows = map Row.Event events })
+    (Verdict.Lawful (length events)) w

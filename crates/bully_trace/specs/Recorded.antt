@@ -19,17 +19,20 @@ claim_of (Row.Whole whole) = Some whole.claim
 abbrev pub TakesPartBy : Status → Type 0
 TakesPartBy status = (status ≡ Reorganization) ⊎ (status ≡ Normal)
 
--- what two rows claim of nodes in Reorganization or Normal goes together: they tell a coordinator, and the same; and of Normal
--- nodes they tell a task, where they tell all, and the same owners
+-- what two rows claim of nodes in Reorganization or Normal goes together: they tell a coordinator, and the same; and of
+-- Normal nodes they tell a task, where they tell all, and the same owners
 pub record ClaimsAgree (a b : Row) : Type 0 where
   pub has_coordinator : (c : Claim) → claim_of a ≡ Some c → TakesPartBy c.status → IsSome c.coordinator
-  pub same_coordinator : (c d : Claim) → claim_of a ≡ Some c → claim_of b ≡ Some d → TakesPartBy c.status → TakesPartBy d.status → c.coordinator ≡ d.coordinator
+  pub same_coordinator : (c d : Claim) → claim_of a ≡ Some c → claim_of b ≡ Some d → TakesPartBy c.status
+      → TakesPartBy d.status → c.coordinator ≡ d.coordinator
   pub has_task : (c : Whole) → a ≡ Row.Whole c → c.claim.status ≡ Normal → IsSome c.task
-  pub same_task : (c d : Whole) → a ≡ Row.Whole c → b ≡ Row.Whole d → c.claim.status ≡ Normal → d.claim.status ≡ Normal → c.task ≡ d.task
+  pub same_task : (c d : Whole) → a ≡ Row.Whole c → b ≡ Row.Whole d → c.claim.status ≡ Normal → d.claim.status ≡ Normal
+      → c.task ≡ d.task
 
 -- where the trace is lawful, two claims agree that have no event between them
 abbrev pub RecordedAgreement : Trace → Verdict → Type 0
 RecordedAgreement trace (Verdict.Lawful count) =
-    (before between after : List Row) (a b : Row) (c : Claim) → trace.rows ≡ before ++ a ∷ (between ++ b ∷ after) → claim_of a ≡ Some c → events_of between ≡ [] → ClaimsAgree a b
+    (before between after : List Row) (a b : Row) (c : Claim) → trace.rows ≡ before ++ a ∷ (between ++ b ∷ after)
+    → claim_of a ≡ Some c → events_of between ≡ [] → ClaimsAgree a b
 RecordedAgreement trace (Verdict.Refused number why) = Unit {0}
 RecordedAgreement trace (Verdict.Differs number) = Unit {0}

@@ -26,7 +26,8 @@ IsJudged setup w count number (Row.Event e ∷ rows) verdict w' =
 IsJudged setup w count number (Row.Detailed e ∷ rows) verdict w' =
     MatchOption (cause setup w count (event_of_detailed e))
     (MatchBool (is_so setup w e)
-    ((mid : World) × (a : Answer) × Step setup w (event_of_detailed e) mid a × IsJudged setup mid (count + 1) (number + 1) rows verdict w')
+    ((mid : World) × (a : Answer) × Step setup w (event_of_detailed e) mid a
+    × IsJudged setup mid (count + 1) (number + 1) rows verdict w')
     ((verdict ≡ Verdict.Differs number) × (w' ≡ w)))
     (λ why. (verdict ≡ Verdict.Refused number why) × (w' ≡ w))
 IsJudged setup w count number (Row.Claim claim ∷ rows) verdict w' =
@@ -53,7 +54,8 @@ events_of (Row.Whole whole ∷ rows) = events_of rows
 -- where the verdict is lawful with a count, the rows mean a lawful list of so many events
 abbrev pub IsLawfulCount : Trace → Verdict → Type 0
 IsLawfulCount trace (Verdict.Lawful count) =
-    (answers : List Answer) × (w : World) × IsLawful trace.setup (events_of trace.rows) answers w × (length (events_of trace.rows) ≡ count)
+    (answers : List Answer) × (w : World) × IsLawful trace.setup (events_of trace.rows) answers w
+    × (length (events_of trace.rows) ≡ count)
 IsLawfulCount trace (Verdict.Refused number why) = Unit {0}
 IsLawfulCount trace (Verdict.Differs number) = Unit {0}
 
@@ -61,6 +63,7 @@ IsLawfulCount trace (Verdict.Differs number) = Unit {0}
 -- nodes agree
 abbrev pub AgreesAfterEachRow : Trace → Verdict → Type 0
 AgreesAfterEachRow trace (Verdict.Lawful count) =
-    (k : ℕ) → (answers : List Answer) × (w : World) × IsLawful trace.setup (events_of (take k trace.rows)) answers w × Agreement w
+    (k : ℕ) → (answers : List Answer) × (w : World) × IsLawful trace.setup (events_of (take k trace.rows)) answers w
+    × Agreement w
 AgreesAfterEachRow trace (Verdict.Refused number why) = Unit {0}
 AgreesAfterEachRow trace (Verdict.Differs number) = Unit {0}

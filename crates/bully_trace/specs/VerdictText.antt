@@ -14,7 +14,8 @@ use Rattle.bully_rows.specs.Words.{status_word}
 
 abbrev pub node_line : ℕ → Vector → List ℕ
 node_line i v =
-    decimal i ++ codes " " ++ status_word v.status ++ codes " " ++ node_text v.coordinator ++ codes " " ++ node_text v.halter
+    decimal i ++ codes " " ++ status_word v.status ++ codes " " ++ node_text v.coordinator ++ codes " "
+    ++ node_text v.halter
     ++ codes " " ++ task_text 44 v.task ++ codes "\n"
 
 -- the lines of the first n nodes
@@ -37,4 +38,5 @@ verdict_text setup (Verdict.Differs row) w = verdict_head (Verdict.Differs row)
 -- where the bytes of a reader are known, they mean a trace with this verdict, whose text is written
 abbrev pub IsJudgedAs : Option (List ℕ) → Verdict → (List ℕ → Type 0) → Type 0
 IsJudgedAs known verdict Writes =
-    IfSome known (λ bytes. (trace : Trace) × (w : World) × (trace_of (records_of bytes) ≡ Ok trace) × IsVerdict trace verdict w × Writes (verdict_text trace.setup verdict w))
+    IfSome known (λ bytes. (trace : Trace) × (w : World) × (trace_of (records_of bytes) ≡ Ok trace)
+    × IsVerdict trace verdict w × Writes (verdict_text trace.setup verdict w))

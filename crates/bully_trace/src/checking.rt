@@ -101,8 +101,10 @@ fn write_verdict<W: Write>(
     judge: &Judge,
     writer: &mut W,
 ) -> Result<Verdict, TraceFault>
-    ensures verdict { (setup : SetupState) (rows : List RowState) → HasJudged setup rows judge.now → IfOk result (λ verdict. IsJudged setup (first_world setup) 0 2 rows verdict (world_of judge.now.world)) }
-    ensures text { IfOk result (λ verdict. Appends (W.contents writer.old) (W.contents writer.new) (verdict_text judge.now.world.setup verdict (world_of judge.now.world))) }
+    ensures verdict { (setup : SetupState) (rows : List RowState) → HasJudged setup rows judge.now
+        → IfOk result (λ verdict. IsJudged setup (first_world setup) 0 2 rows verdict (world_of judge.now.world)) }
+    ensures text { IfOk result (λ verdict. Appends (W.contents writer.old) (W.contents writer.new)
+        (verdict_text judge.now.world.setup verdict (world_of judge.now.world))) }
     ensures fault { IfErr result IsOfWriting }
     ensures silent { IfErr result (λ fault. fault.cause ≡ TraceCause.OutOfMemory → writer.new ≡ writer.old) }
 {
@@ -128,7 +130,8 @@ pub fn verdict_lines(alloc: Global, verdict: Verdict, world: &World) -> Result<S
 
 // The lines of all nodes.
 fn push_nodes(text: &mut String, world: &World) -> Result<(), OutOfMemory>
-    ensures { OnOk result (string_bytes text.new ≡ string_bytes text.old ++ node_lines (world_of world.now) world.now.setup.nodes) }
+    ensures { OnOk result (string_bytes text.new ≡ string_bytes text.old
+        ++ node_lines (world_of world.now) world.now.setup.nodes) }
 {
     for before in 0..world.setup().nodes() {
         let node = Node::new(before + 1).unwrap();

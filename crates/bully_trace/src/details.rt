@@ -6,7 +6,8 @@ ghost use Rattle.bully_handlers.specs.Handler.{reply};
 ghost use Rattle.bully_handlers.specs.Vector.{is_normal};
 ghost use Rattle.bully_steps.specs.Point.{offered};
 ghost use Rattle.bully_rows.specs.EventsTold.{answered};
-ghost use Rattle.bully_trace.specs.Details.{brought, call_at, is_so, is_true, is_whole, offered_call, said_by, said_of, same_answers, same_task, says};
+ghost use Rattle.bully_trace.specs.Details.{brought, call_at, is_so, is_true, is_whole, offered_call, said_by, said_of};
+ghost use Rattle.bully_trace.specs.Details.{same_answers, same_task, says};
 ghost use Rattle.bully_calls.specs.Events.{node_of, node_saying};
 ghost use Rattle.bully_world.specs.State.{IsReached, state_at, world_of};
 ghost use Rattle.bully_world.specs.World.{pending, vector};
@@ -91,7 +92,8 @@ fn same_answers(one: Option<Answer>, other: Option<Answer>) -> bool
 // (a procedure keeps that its point is one of its node's)
 pub fn offer_of(world: &World, node: Node) -> Want
     requires { node ≤ world.now.setup.nodes }
-    ensures { result ≡ offered world.now.setup (state_at world.now node).vector.vector.coordinator (state_at world.now node).point }
+    ensures { result
+        ≡ offered world.now.setup (state_at world.now node).vector.vector.coordinator (state_at world.now node).point }
 {
     let procedure = world.procedure(node);
     let coordinator = world.vector(node).coordinator();
@@ -100,8 +102,8 @@ pub fn offer_of(world: &World, node: Node) -> Want
         .offers(procedure.setup(), node, coordinator)
 }
 
-/// What there is to say of the event in the world before it: none of an event without a call, and where there is no such call.
-/// Its node is at most the setup's last.
+/// What there is to say of the event in the world before it: none of an event without a call, and where there is no
+/// such call. Its node is at most the setup's last.
 pub fn said_of(world: &World, event: &Event) -> Option<DetailedEvent>
     requires { node_of event.now ≤ world.now.setup.nodes }
     ensures { result ≡ said_of world.now.setup (world_of world.now) event.now }
@@ -116,7 +118,8 @@ pub fn said_of(world: &World, event: &Event) -> Option<DetailedEvent>
     }
 }
 
-// What there is to say of an event of the node of this kind, as the table of events has it: the call, and the answer, if one is told.
+// What there is to say of an event of the node of this kind, as the table of events has it: the call, and the answer,
+// if one is told.
 fn said_by(world: &World, node: Node, kind: NodeEventKind) -> Option<Detail>
     requires { node ≤ world.now.setup.nodes }
     ensures { result ≡ said_by (node_saying kind) kind world.now.setup (world_of world.now) node }
@@ -140,7 +143,8 @@ fn replied(world: &World, kind: NodeEventKind, call: Call) -> Detail
 // That the call in the slot of the node returns, and what it brings; none where it can't return yet.
 fn returned(world: &World, node: Node, kind: NodeEventKind) -> Option<Detail>
     requires { node ≤ world.now.setup.nodes }
-    ensures { result ≡ option_and_then (λ c. option_map (answered kind c.call) (brought c)) (pending (world_of world.now) node) }
+    ensures { result
+        ≡ option_and_then (λ c. option_map (answered kind c.call) (brought c)) (pending (world_of world.now) node) }
 {
     let slot = world.slot(node);
     let call = slot.call()?;

@@ -1,4 +1,5 @@
-ghost use Rattle.std.specs.Prelude.{◌≡◌, ◌+◌, ◌++◌, ◌∷◌, [], List, length, IfErr, IfOk, IfSome, IsOk, None, OnOk, Some, ◌↔◌};
+ghost use Rattle.std.specs.Prelude.{◌≡◌, ◌+◌, ◌++◌, ◌∷◌, [], List, length, IfErr, IfOk, IfSome, IsOk, None, OnOk, Some};
+ghost use Rattle.std.specs.Prelude.{◌↔◌};
 ghost use Rattle.std.specs.Option.{option_and_then, option_map};
 ghost use Rattle.bully_base.specs.Setup.{Setup as SetupState};
 ghost use Rattle.bully_rows.specs.declared.trace.Row.{Row as RowState};
@@ -41,7 +42,8 @@ impl Judge {
     pub fn new(alloc: Global, header: Header) -> Result<Judge, OutOfMemory>
         ensures judged { IfOk result (HasJudged header.setup []) }
         ensures version { IfOk result (λ judge. judge.version ≡ header.version) }
-        ensures state { IfOk result (λ judge. judge ≡ record { version = header.version; world = first_state header.setup; stopped = None }) }
+        ensures state { IfOk result (λ judge.
+            judge ≡ record { version = header.version; world = first_state header.setup; stopped = None }) }
     {
         Ok(Judge {
             version: header.version,
@@ -57,12 +59,13 @@ impl Judge {
         self.version
     }
 
-    /// Takes the row of this number. The first event that the world refuses, or the first claim or detail that is false of it,
-    /// decides, and no later row changes anything.
+    /// Takes the row of this number. The first event that the world refuses, or the first claim or detail that is false
+    /// of it, decides, and no later row changes anything.
     pub fn feed_row(&mut self, number: u32, row: &Row)
         ensures version { self.new.version ≡ self.old.version }
         ensures taken { IsTakenBy number row.now self.old self.new }
-        ensures judged { (setup : SetupState) (rows : List RowState) → length rows + 2 ≡ number → HasJudged setup rows self.old → HasJudged setup (rows ++ row.now ∷ []) self.new }
+        ensures judged { (setup : SetupState) (rows : List RowState) → length rows + 2 ≡ number
+            → HasJudged setup rows self.old → HasJudged setup (rows ++ row.now ∷ []) self.new }
     {
         match row {
             Row::Event(event) => self.judge_event(number, event),
@@ -73,13 +76,14 @@ impl Judge {
     }
 
     /// Takes the row of this number, which tells this event, as `feed_row` does.
-    // (the arms are alike, and those of the kinds that come most are kept apart for speed: each has a copy of the step of its
-    // own, in which the kind is known, so what reads a word goes on right to what its event needs, and none of it chooses by
-    // the kind once more)
+    // (the arms are alike, and those of the kinds that come most are kept apart for speed: each has a copy of the step
+    // of its own, in which the kind is known, so what reads a word goes on right to what its event needs, and none of
+    // it chooses by the kind once more)
     pub fn feed_node_event(&mut self, number: u32, event: NodeEvent)
         ensures version { self.new.version ≡ self.old.version }
         ensures taken { IsTakenBy number (Row.Event (event_at event.kind event.node)) self.old self.new }
-        ensures judged { (setup : SetupState) (rows : List RowState) → length rows + 2 ≡ number → HasJudged setup rows self.old
+        ensures judged { (setup : SetupState) (rows : List RowState) → length rows + 2 ≡ number
+            → HasJudged setup rows self.old
             → HasJudged setup (rows ++ Row.Event (event_at event.kind event.node) ∷ []) self.new }
     {
         let node = event.node;
@@ -149,7 +153,8 @@ impl Judge {
 
     /// The verdict on the rows that were taken: lawful with the number of their events, where no other one came first.
     pub fn verdict(&self) -> Verdict
-        ensures { (setup : SetupState) (rows : List RowState) → HasJudged setup rows self.now → IsJudged setup (first_world setup) 0 2 rows result (world_of self.now.world) }
+        ensures { (setup : SetupState) (rows : List RowState) → HasJudged setup rows self.now
+            → IsJudged setup (first_world setup) 0 2 rows result (world_of self.now.world) }
     {
         match self.stopped {
             Some(verdict) => verdict,
@@ -157,8 +162,8 @@ impl Judge {
         }
     }
 
-    /// Takes the next row, where nothing is wrong with it; no row decided before. What is wrong with it else is told, and then nothing
-    /// changes: it decides nothing.
+    /// Takes the next row, where nothing is wrong with it; no row decided before. What is wrong with it else is told,
+    /// and then nothing changes: it decides nothing.
     pub fn try_row(&mut self, row: &Row) -> Option<Violation>
         requires { self.old.stopped ≡ None }
         ensures violation { result ≡ violation_of self.old.world row.now }
@@ -174,7 +179,8 @@ impl Judge {
     pub fn try_node_event(&mut self, event: NodeEvent) -> Option<Violation>
         requires { self.old.stopped ≡ None }
         ensures violation { result ≡ violation_of self.old.world (Row.Event (event_at event.kind event.node)) }
-        ensures taken { result ≡ None → IsRowTaken self.old.world (Row.Event (event_at event.kind event.node)) self.new.world }
+        ensures taken { result ≡ None
+            → IsRowTaken self.old.world (Row.Event (event_at event.kind event.node)) self.new.world }
         ensures unchanged { IfSome result (λ _. self.new ≡ self.old) }
         ensures going { (self.new.stopped ≡ None) × (self.new.version ≡ self.old.version) }
     {
@@ -196,8 +202,8 @@ impl Judge {
         }
     }
 
-    /// Takes an event to the world, as a row that tells it, and answers it, as [`Walk::apply`] does; no row decided before. Refused
-    /// with its cause, and then nothing changes, and it decides nothing.
+    /// Takes an event to the world, as a row that tells it, and answers it, as [`Walk::apply`] does; no row decided
+    /// before. Refused with its cause, and then nothing changes, and it decides nothing.
     #[inline(always)]
     pub fn apply(&mut self, event: &Event) -> Result<Answer, Refused>
         requires { self.old.stopped ≡ None }
@@ -206,7 +212,8 @@ impl Judge {
         ensures why { IfErr result (λ why. cause_in self.old.world event.now ≡ Some why) }
         ensures unchanged { IfErr result (λ _. self.new ≡ self.old) }
         ensures going { (self.new.stopped ≡ None) × (self.new.version ≡ self.old.version) }
-        ensures judged { (setup : SetupState) (rows : List RowState) → HasJudged setup rows self.old → OnOk result (HasJudged setup (rows ++ Row.Event event.now ∷ []) self.new) }
+        ensures judged { (setup : SetupState) (rows : List RowState) → HasJudged setup rows self.old
+            → OnOk result (HasJudged setup (rows ++ Row.Event event.now ∷ []) self.new) }
     {
         self.walk.apply(event)
     }

@@ -1,9 +1,9 @@
 //! The checker of traces, and what upgrades them.
 //!
-//! It stands on bully_rows, which reads and writes them and most of whose names are here, too, on bully_agree, and on the crates
-//! below these. The crates above rely on the verdict being that of the rows that the text means, on the nodes agreeing after each
-//! row of a lawful trace, and on an upgraded trace having the same setup and the same rows. What judges row by row is public too
-//! ([`Judge`]), so that whoever explains a verdict has it by the same rules.
+//! It stands on bully_rows, which reads and writes them and most of whose names are here, too, on bully_agree, and on
+//! the crates below these. The crates above rely on the verdict being that of the rows that the text means, on the
+//! nodes agreeing after each row of a lawful trace, and on an upgraded trace having the same setup and the same rows.
+//! What judges row by row is public too ([`Judge`]), so that whoever explains a verdict has it by the same rules.
 #![tactic(auto)]
 
 ghost use Rattle.std.specs.Prelude.{◌↔◌};
@@ -36,22 +36,22 @@ pub use upgrading::upgrade;
 pub use verdict::{Verdict, Violation};
 pub use verdict_text::push_verdict_head;
 
-/// The law of upgraded traces. The verdict on one, and the world that its rows were taken to, are those of the trace that
-/// was upgraded.
+/// The law of upgraded traces. The verdict on one, and the world that its rows were taken to, are those of the trace
+/// that was upgraded.
 pub fn same_verdict()
     ensures { (trace : TraceState) (verdict : VerdictState) (w : World)
         → IsVerdict (upgraded trace) verdict w ↔ IsVerdict trace verdict w }
 {}
 
-/// The law of rows that say more. What is said beside an event that is possible is so, as [`check`] asks, exactly where the step of
-/// that event has it: of a start the call that it sends, of the others the call in the slot, and of a run and a return also
-/// the answer; and where the group has the node and the callee.
+/// The law of rows that say more. What is said beside an event that is possible is so, as [`check`] asks, exactly where
+/// the step of that event has it: of a start the call that it sends, of the others the call in the slot, and of a run
+/// and a return also the answer; and where the group has the node and the callee.
 pub fn step_told()
     ensures { TellsTheStep }
 {}
 
-/// The law of verdicts. No trace has two, nor are its rows taken to two worlds. The trace of a lawful list of events is lawful, with as
-/// many.
+/// The law of verdicts. No trace has two, nor are its rows taken to two worlds. The trace of a lawful list of events is
+/// lawful, with as many.
 pub fn one_verdict()
     ensures one { HasOneVerdict }
     ensures lawful { JudgesLawful }

@@ -8,11 +8,11 @@ use bully_rows::{Trace, TraceCause, TraceFault, read_trace, write_trace};
 use std::alloc::Global;
 use std::io::{Read, Write};
 
-/// Upgrades a trace: reads one of any version, writes the one with the same setup and the same rows in version 2, or in version 3
-/// where a row says more, and tells how many rows it has behind its header. It judges nothing. All rows are read before anything
-/// is written, and are kept till then. Refused as [`crate::read_trace`] refuses the trace, and then nothing was written; as `OutOfMemory` where
-/// the text can't be made, with nothing written; then as `Write`, and then a prefix of the text may have been written. The
-/// last two are at row 0.
+/// Upgrades a trace: reads one of any version, writes the one with the same setup and the same rows in version 2, or in
+/// version 3 where a row says more, and tells how many rows it has behind its header. It judges nothing. All rows are
+/// read before anything is written, and are kept till then. Refused as [`crate::read_trace`] refuses the trace, and
+/// then nothing was written; as `OutOfMemory` where the text can't be made, with nothing written; then as `Write`, and
+/// then a prefix of the text may have been written. The last two are at row 0.
 pub fn upgrade<R: Read + Drop, W: Write>(
     alloc: Global,
     reader: R,

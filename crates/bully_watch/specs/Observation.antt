@@ -31,8 +31,10 @@ pub record MayPublish (p : PublisherState) (entries : List Entry) : Type 0 where
   pub history : (w : World) × IsHistory p.publisher.setup entries w
   pub taken : IsPrefix p.taken entries
 
--- what a publish of them does: it tells and shows the whole. Refused, it shows what it showed, and may have taken in a part
-pub record Publishes {E : Type 0} (p : PublisherState) (entries : List Entry) (q : PublisherState) (result : Result Prefix E) : Type 0 where
+-- what a publish of them does: it tells and shows the whole. Refused, it shows what it showed, and may have taken in a
+-- part
+pub record Publishes {E : Type 0} (p : PublisherState) (entries : List Entry) (q : PublisherState)
+    (result : Result Prefix E) : Type 0 where
   pub publisher : q.publisher ≡ p.publisher
   pub told : IfOk result (λ t. (t.publisher ≡ p.publisher) × (t.entries ≡ entries))
   pub shown : MatchResult result (λ _. q.shown ≡ entries) (λ _. q.shown ≡ p.shown)

@@ -34,7 +34,8 @@ impl Model for Observer {
 
     ghost view = { λ o. prefix_of (seat_view o.reader.place) };
 
-    ghost invariant = { λ o. ((seat_view o.reader.place).is_named ≡ true) × (o.count ≡ length (seat_view o.reader.place).seen) };
+    ghost invariant = { λ o. ((seat_view o.reader.place).is_named ≡ true)
+        × (o.count ≡ length (seat_view o.reader.place).seen) };
 }
 
 /// Why a look gives no view, in the order of refusals.
@@ -76,8 +77,8 @@ impl Observer {
         }
     }
 
-    /// The view after a prefix of the publisher's history, at least as long as what it saw or learned of before.
-    /// It takes no lock and never waits, and has the allocator that the publisher was made with. Refused with `Gone` where
+    /// The view after a prefix of the publisher's history, at least as long as what it saw or learned of before. It
+    /// takes no lock and never waits, and has the allocator that the publisher was made with. Refused with `Gone` where
     /// the publisher was ended, and with `OutOfMemory` where an allocation fails.
     pub fn look(&mut self) -> Result<View, LookFault>
         ensures publisher { self.new.publisher ≡ self.old.publisher }
@@ -98,7 +99,8 @@ impl Observer {
         ensures publisher { self.new.publisher ≡ self.old.publisher }
         ensures goes_on { IsPrefix self.old.entries self.new.entries }
         ensures glance { IfOk result (Glances self.old.publisher self.new.entries node) }
-        ensures fault { MatchResult result (λ _. node ≤ self.old.publisher.setup.nodes) (IsGlanceFault self.old.publisher.setup node) }
+        ensures fault { MatchResult result (λ _.
+            node ≤ self.old.publisher.setup.nodes) (IsGlanceFault self.old.publisher.setup node) }
     {
         match self.read(&OfNode { node }) {
             Some(Some(glance)) => Ok(glance),

@@ -41,9 +41,14 @@ impl Model for Publisher {
 
     ghost Value = { PublisherState };
 
-    ghost view = { λ p. record { publisher = (seat_view p.writer.desk.place).publisher; shown = (seat_view p.writer.desk.place).seen; taken = (seat_view p.writer.desk.place).seen ++ drop p.writer.behind p.writer.log.items } };
+    ghost view = { λ p. record {
+      publisher = (seat_view p.writer.desk.place).publisher;
+      shown = (seat_view p.writer.desk.place).seen;
+      taken = (seat_view p.writer.desk.place).seen ++ drop p.writer.behind p.writer.log.items;
+    } };
 
-    ghost invariant = { λ p. IsPublisher p.name.name p.count (seat_view p.writer.desk.place) p.writer.desk.shown.value.world (drop p.writer.behind p.writer.log.items) };
+    ghost invariant = { λ p. IsPublisher p.name.name p.count
+        (seat_view p.writer.desk.place) p.writer.desk.shown.value.world (drop p.writer.behind p.writer.log.items) };
 }
 
 /// Why no publisher is opened, in the order of refusals.
@@ -171,7 +176,8 @@ fn take_in(writer: CopyWriter, count: usize, entries: &[Entry]) -> (CopyWriter, 
     requires here { (view writer.desk.place).seen ++ drop writer.behind writer.log.items ≡ take count entries.now }
     ensures desk { result.0.desk ≡ writer.desk }
     ensures within { (count ≤ result.1) × (result.1 ≤ length entries.now) }
-    ensures here { (view result.0.desk.place).seen ++ drop result.0.behind result.0.log.items ≡ take result.1 entries.now }
+    ensures here { (view result.0.desk.place).seen ++ drop result.0.behind result.0.log.items
+        ≡ take result.1 entries.now }
 {
     let mut writer = writer;
     let mut next = count;
@@ -190,7 +196,8 @@ fn take_in(writer: CopyWriter, count: usize, entries: &[Entry]) -> (CopyWriter, 
 // Shows what was taken in. From then on the writer knows just what N names.
 fn show<N: NextKnowledge, R: Wait>(rt: &R, _name: &Blank, writer: CopyWriter) -> CopyWriter
     requires shown { LeadsToCopy (view writer.desk.place).seen writer.desk.shown.value.world }
-    requires taken { (w : WorldOf) × IsHistory writer.desk.shown.value.world.setup ((view writer.desk.place).seen ++ drop writer.behind writer.log.items) w }
+    requires taken { (w : WorldOf) × IsHistory writer.desk.shown.value.world.setup ((view writer.desk.place).seen
+        ++ drop writer.behind writer.log.items) w }
     requires all { (view writer.desk.place).seen ++ drop writer.behind writer.log.items ≡ N.knowledge.seen }
     requires setup { N.knowledge.publisher.setup ≡ writer.desk.shown.value.world.setup }
     ensures knowledge { view result.desk.place ≡ N.knowledge }
@@ -220,7 +227,8 @@ fn reader_of<R: Wait>(rt: &R, writer: &CopyWriter) -> CopyReader
 // The reader learns all that is shown.
 fn tell(writer: &mut CopyWriter, reader: &mut CopyReader)
     requires { reader.old.place.table_id ≡ writer.old.desk.place.table_id }
-    ensures kept { (writer.new.desk.shown ≡ writer.old.desk.shown) × (writer.new.log ≡ writer.old.log) × (writer.new.behind ≡ writer.old.behind) × (view writer.new.desk.place ≡ view writer.old.desk.place) }
+    ensures kept { (writer.new.desk.shown ≡ writer.old.desk.shown) × (writer.new.log ≡ writer.old.log)
+        × (writer.new.behind ≡ writer.old.behind) × (view writer.new.desk.place ≡ view writer.old.desk.place) }
     ensures told { view reader.new.place ≡ view writer.old.desk.place }
 {
     reader.learn::<Learn>(writer.tell::<Tell>());
@@ -229,8 +237,10 @@ fn tell(writer: &mut CopyWriter, reader: &mut CopyReader)
 // So many observers, who know what is shown, which is nothing yet.
 fn enroll(alloc: Global, writer: &mut CopyWriter, count: u16) -> Result<Vec<Observer>, AllocError>
     requires { ((view writer.old.desk.place).is_named ≡ true) × ((view writer.old.desk.place).seen ≡ []) }
-    ensures kept { (writer.new.desk.shown ≡ writer.old.desk.shown) × (writer.new.log ≡ writer.old.log) × (writer.new.behind ≡ writer.old.behind) × (view writer.new.desk.place ≡ view writer.old.desk.place) }
-    ensures observers { IfOk result (λ v. (vec_len v ≡ count) × All (λ o. o ≡ prefix_of (view writer.old.desk.place)) v.items) }
+    ensures kept { (writer.new.desk.shown ≡ writer.old.desk.shown) × (writer.new.log ≡ writer.old.log)
+        × (writer.new.behind ≡ writer.old.behind) × (view writer.new.desk.place ≡ view writer.old.desk.place) }
+    ensures observers { IfOk result (λ v. (vec_len v ≡ count)
+        × All (λ o. o ≡ prefix_of (view writer.old.desk.place)) v.items) }
 {
     let mut observers = Vec::new(alloc);
     for _number in 0..count {

@@ -56,7 +56,8 @@ impl Sight for OfNode {
     ghost use Rattle.std.specs.Prelude.{◌≡◌, ◌≤◌, ◌<◌, MatchOption};
     ghost use Rattle.bully_watch.specs.Sight.{glance_in};
 
-    ghost sees = { λ s w seen. MatchOption seen (w.setup.nodes < s.node) (λ g. (s.node ≤ w.setup.nodes) × (g ≡ glance_in w s.node)) };
+    ghost sees = { λ s w seen. MatchOption seen (w.setup.nodes < s.node) (λ g. (s.node ≤ w.setup.nodes)
+        × (g ≡ glance_in w s.node)) };
 
     fn read(&self, world: &World) -> Option<Glance> {
         if self.node.number() > world.setup().nodes() {

@@ -23,7 +23,8 @@ impl Model for Told {
 
     ghost view = { λ t. prefix_of (seat_view t.reader.place) };
 
-    ghost invariant = { λ t. ((seat_view t.reader.place).is_named ≡ true) × (t.count ≡ length (seat_view t.reader.place).seen) };
+    ghost invariant = { λ t. ((seat_view t.reader.place).is_named ≡ true)
+        × (t.count ≡ length (seat_view t.reader.place).seen) };
 }
 
 impl Told {

@@ -1,7 +1,8 @@
 -- A store that the processes of a group share, and what the processes know. A session of a process works by no plan
 -- before the offset up to which it has promised to be idle; and the log grows only while all holders of leases are idle
 -- up to its end.
-use Rattle.std.specs.Prelude.{◌≡◌, ◌<◌, ◌≤◌, ◌++◌, ◌&&◌, ◌==◌, ℕ, List, [], ◌∷◌, length, take, Contains, Option, Some, None, cond}
+use Rattle.std.specs.Prelude.{◌≡◌, ◌<◌, ◌≤◌, ◌++◌, ◌&&◌, ◌==◌, ℕ, List, [], ◌∷◌, length, take, Contains, Option, Some}
+use Rattle.std.specs.Prelude.{None, cond}
 use Rattle.std.specs.List.{AllByRecursion}
 use Rattle.bully_agree.specs.Fencing.{Planned, IsLastPlan}
 use Rattle.bully_agree.specs.Runs.{CanRun, RunsTo}
@@ -18,8 +19,8 @@ pub record Lease : Type 0 where
   pub session : ℕ
   pub idle : ℕ
 
--- what a session knows and does: how many events it has learned, the last offset up to which it has ever promised to be idle, whether or not the
--- store heard of that, and by which plan it works, if it does
+-- what a session knows and does: how many events it has learned, the last offset up to which it has ever promised to be
+-- idle, whether or not the store heard of that, and by which plan it works, if it does
 pub record Session : Type 0 where
   pub learned : ℕ
   pub promised : ℕ
@@ -63,7 +64,8 @@ abbrev pub longer : Store → List Event → Store
 longer s events = record s { log = s.log ++ events; lengths = s.lengths ++ length (s.log ++ events) ∷ [] }
 
 abbrev pub begins : Store → ℕ → ℕ → Planned → Store
-begins s i n plan = with_session (record s { begun = record { node = i; session = n; plan = plan } ∷ s.begun }) i n (record (s.sessions i n) { work = Some plan })
+begins s i n plan = with_session (record s { begun = record { node = i; session = n; plan = plan } ∷ s.begun }) i n
+    (record (s.sessions i n) { work = Some plan })
 
 abbrev pub promises : Store → ℕ → ℕ → ℕ → Store
 promises s i n offset = with_session s i n (record (s.sessions i n) { promised = offset })
@@ -133,10 +135,13 @@ pub record MayBegin (setup : Setup) (s : Store) (i n : ℕ) (plan : Planned) : T
 -- this act may be done in the store s, and leads to the store s'
 abbrev pub Does : Setup → Store → Act → Store → Type 0
 Does setup s (Append offset events) s' = AcceptsAppend s offset × MayAppend setup s events × (s' ≡ longer s events)
-Does setup s (Acquire i n offset) s' = AcceptsAcquire s i offset × MayAcquire s i n offset × (s' ≡ with_lease s i (Some (record { session = n; idle = offset })))
-Does setup s (Yield i n offset) s' = AcceptsYield s i n × MayYield s i n offset × (s' ≡ with_lease s i (Some (record { session = n; idle = offset })))
+Does setup s (Acquire i n offset) s' = AcceptsAcquire s i offset × MayAcquire s i n offset
+    × (s' ≡ with_lease s i (Some (record { session = n; idle = offset })))
+Does setup s (Yield i n offset) s' = AcceptsYield s i n × MayYield s i n offset
+    × (s' ≡ with_lease s i (Some (record { session = n; idle = offset })))
 Does setup s (End i) s' = s' ≡ with_lease s i None
-Does setup s (Learn i n offset) s' = TellsLength s offset × MayLearn s i n offset × (s' ≡ with_session s i n (record (s.sessions i n) { learned = offset }))
+Does setup s (Learn i n offset) s' = TellsLength s offset × MayLearn s i n offset
+    × (s' ≡ with_session s i n (record (s.sessions i n) { learned = offset }))
 Does setup s (Promise i n offset) s' = MayPromise s i n offset × (s' ≡ promises s i n offset)
 Does setup s (Begin i n) s' = (plan : Planned) × MayBegin setup s i n plan × (s' ≡ begins s i n plan)
 Does setup s (Stop i n) s' = s' ≡ with_session s i n (record (s.sessions i n) { work = None })
@@ -148,7 +153,13 @@ Become setup s (act ∷ acts) s' = (mid : Store) × Does setup s act mid × Beco
 
 -- the log is empty, nobody holds a lease, and no session has learned or promised anything
 abbrev pub first_store : Store
-first_store = record { log = []; lengths = 0 ∷ []; live = λ i. None; sessions = λ i n. record { learned = 0; promised = 0; work = None }; begun = [] }
+first_store = record {
+  log = [];
+  lengths = 0 ∷ [];
+  live = λ i. None;
+  sessions = λ i n. record { learned = 0; promised = 0; work = None };
+  begun = [];
+}
 
 -- this session holds the lease of node i, and works by this plan
 pub record IsAtWork (s : Store) (i n : ℕ) (plan : Planned) : Type 0 where
@@ -160,7 +171,8 @@ pub record IsAtWork (s : Store) (i n : ℕ) (plan : Planned) : Type 0 where
 pub record IsApart (later earlier : Begun) : Type 0 where
   pub rises : earlier.plan.token ≤ later.plan.token
   pub node : earlier.plan.token ≡ later.plan.token → earlier.node ≡ later.node → earlier.session ≡ later.session
-  pub partition : (k : ℕ) → earlier.plan.token ≡ later.plan.token → GivesTo earlier.plan.table k earlier.node → GivesTo later.plan.table k later.node
+  pub partition : (k : ℕ) → earlier.plan.token ≡ later.plan.token → GivesTo earlier.plan.table k earlier.node
+      → GivesTo later.plan.table k later.node
       → (earlier.node ≡ later.node) × (earlier.session ≡ later.session)
 
 -- that holds of each session that began and all that began before it

@@ -26,7 +26,8 @@ pub fn one_worker()
     ensures planned { (setup : Setup) (events : List Event) (answers : List Answer) (w : World) (i k : ℕ)
         → IsLawful setup events answers w → WorksOn w i k
         → (p : Planned) × IsLastPlan events p × GoesBy w i p × GivesTo p.table k i }
-    ensures fenced { (setup : Setup) (events more : List Event) (answers others : List Answer) (w v : World) (i j k : ℕ) (p q : Planned)
+    ensures fenced { (setup : Setup) (events more : List Event) (answers others : List Answer) (w v : World) (i j k : ℕ)
+        (p q : Planned)
         → IsLawful setup events answers w → IsLawful setup (events ++ more) others v → WorksOn w i k → WorksOn v j k
         → IsLastPlan events p → IsLastPlan (events ++ more) q → p.token ≡ q.token → i ≡ j }
 {}
@@ -34,13 +35,15 @@ pub fn one_worker()
 /// The law of owners. A Normal node stays Normal at a step exactly if the step isn't its crash, its own move or the run
 /// of a Halt at it. As long as none of these comes, the node keeps its vector, with its task, and nobody plans.
 pub fn owners_stay()
-    ensures exact { (setup : Setup) (events : List Event) (answers : List Answer) (w w' : World) (e : Event) (a : Answer) (i : ℕ)
+    ensures exact { (setup : Setup) (events : List Event) (answers : List Answer) (w w' : World) (e : Event)
+        (a : Answer) (i : ℕ)
         → IsLawful setup events answers w → Step setup w e w' a → (vector w i).status ≡ Normal
         → (((vector w' i).status ≡ Normal) ↔ (ends_work w i e ≡ false)) }
     ensures stays { (setup : Setup) (events more : List Event) (answers others : List Answer) (w v : World) (i : ℕ)
         → IsLawful setup events answers w → IsLawful setup (events ++ more) others v → (vector w i).status ≡ Normal
         → Spares setup w more i → (vector v i ≡ vector w i) × (has_plan more ≡ false) }
-    ensures last { (events more : List Event) (p : Planned) → has_plan more ≡ false → IsLastPlan events p → IsLastPlan (events ++ more) p }
+    ensures last { (events more : List Event) (p : Planned) → has_plan more ≡ false → IsLastPlan events p
+        → IsLastPlan (events ++ more) p }
 {}
 
 /// The law of promises. Whatever is done to a store, each session that is live and works has learned the whole log and
@@ -57,7 +60,8 @@ pub fn workers_apart()
     ensures owner { (setup : Setup) (acts : List Act) (s : Store) (i n : ℕ) (p : Planned)
         → Become setup first_store acts s → IsAtWork s i n p
         → ((s.sessions i n).learned ≡ length s.log) × (is : IsOwner setup s.log i p) × GoesBy is.world i p }
-    ensures still { (setup : Setup) (acts : List Act) (s s' : Store) (i n : ℕ) (p : Planned) (offset : ℕ) (events : List Event)
+    ensures still { (setup : Setup) (acts : List Act) (s s' : Store) (i n : ℕ) (p : Planned) (offset : ℕ)
+        (events : List Event)
         → Become setup first_store acts s → IsAtWork s i n p → Does setup s (Append offset events) s' → ⊥ }
     ensures now { (setup : Setup) (acts : List Act) (s : Store) (i j n m : ℕ) (p q : Planned)
         → Become setup first_store acts s → IsAtWork s i n p → IsAtWork s j m q

@@ -1,4 +1,5 @@
-//! A workbench: what the scripts of `bench/` time, nodes on their own over simulated networks, and each public call that takes memory.
+//! A workbench: what the scripts of `bench/` time, nodes on their own over simulated networks, and each public call
+//! that takes memory.
 //!
 //!     plan ROUNDS               plans for random groups: the sums of their moves and of their bounds, and a number that all owners make
 //!     records                   how many records `csv` finds on standard input
@@ -17,15 +18,17 @@
 //!
 //!     memory [CALL]             makes a call that takes memory, and tells what came of it; without a name, all names
 //!
-//! Without words it makes 1,000 plans and a small trace, and tells the names of the calls. A BREACH is a premise that the network breaks
-//! now and then: `slow`, `invented`, `late` or `twice`. A trace is read from standard input. The exit status is 2 for other words, and 4
-//! where something goes wrong, as where memory is refused.
+//! Without words it makes 1,000 plans and a small trace, and tells the names of the calls. A BREACH is a premise that
+//! the network breaks now and then: `slow`, `invented`, `late` or `twice`. A trace is read from standard input. The
+//! exit status is 2 for other words, and 4 where something goes wrong, as where memory is refused.
 //!
-//! `bench/README.md` says what is timed. `tests/cluster/simulate` has the program judge the networks, agents of `bindings/python/try` and
-//! `bindings/rust/try` do again what their traces say, and `tests/hostile/memory` refuses a call each of its requests in turn. These calls are of all libraries
-//! but those that need a configuration, words or threads: what those make of refused memory is tried with the program itself.
+//! `bench/README.md` says what is timed. `tests/cluster/simulate` has the program judge the networks, agents of
+//! `bindings/python/try` and `bindings/rust/try` do again what their traces say, and `tests/hostile/memory` refuses a
+//! call each of its requests in turn. These calls are of all libraries but those that need a configuration, words or
+//! threads: what those make of refused memory is tried with the program itself.
 //!
-//! It stands on bully_group, bully_agent, bully_rebalance, bully_annotate and the crates below them. Nothing stands on it.
+//! It stands on bully_group, bully_agent, bully_rebalance, bully_annotate and the crates below them. Nothing stands on
+//! it.
 #![tactic(auto)]
 
 mod bench;

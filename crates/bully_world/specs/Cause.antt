@@ -1,5 +1,6 @@
 -- Why an event is refused: the first of twelve refusals that holds.
-use Rattle.std.specs.Prelude.{ℕ, Bool, true, false, List, [], ◌∷◌, length, Option, Some, None, ◌&&◌, not, nat_le, ◌==◌, if◌then◌else◌}
+use Rattle.std.specs.Prelude.{ℕ, Bool, true, false, List, [], ◌∷◌, length, Option, Some, None, ◌&&◌, not, nat_le, ◌==◌}
+use Rattle.std.specs.Prelude.{if◌then◌else◌}
 use Rattle.bully_base.specs.NodeSet.{with_node}
 use Rattle.bully_base.specs.Setup.{Setup, is_node}
 use Rattle.bully_table.specs.Balance.{is_balanced}
@@ -11,7 +12,8 @@ use Rattle.bully_steps.specs.declared.point.Want.{Want}
 use Rattle.bully_calls.specs.declared.event.Event.{Event}
 use Rattle.bully_calls.specs.Events.{node_of}
 use Rattle.bully_calls.specs.declared.event.Refused.{Refused}
-use Rattle.bully_calls.specs.declared.event.Refused.TheVariants.{Full, BadNode, IsDown, IsUp, Busy, NoStep, SlotBusy, NoCall, CalleeDown, CalleeUp, BadTable, NotOrphan}
+use Rattle.bully_calls.specs.declared.event.Refused.TheVariants.{Full, BadNode, IsDown, IsUp, Busy, NoStep, SlotBusy}
+use Rattle.bully_calls.specs.declared.event.Refused.TheVariants.{NoCall, CalleeDown, CalleeUp, BadTable, NotOrphan}
 use Rattle.bully_world.specs.Step.{offer}
 use Rattle.bully_world.specs.World.{World, vector, point, pending}
 

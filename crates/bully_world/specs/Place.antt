@@ -20,8 +20,8 @@ abbrev pub place_by : Whose → World → ℕ → ℕ
 place_by Whose.Callee w i = callee_or i (call_at w i)
 place_by whose w i = i
 
--- the node at which an event of this kind, of node i, takes place, and the only one whose vector it may change: of one that is
--- its callee's the callee of node i's call, and else node i
+-- the node at which an event of this kind, of node i, takes place, and the only one whose vector it may change: of one
+-- that is its callee's the callee of node i's call, and else node i
 abbrev pub place_at : World → ℕ → EventKind → ℕ
 place_at w i kind = place_by (whose_of kind) w i
 

@@ -1,5 +1,6 @@
 -- What callers see of a group's world, and the world of the definitions that it stands for.
-use Rattle.std.specs.Prelude.{◌≡◌, ◌≤◌, ◌<◌, ◌+◌, ◌==◌, ◌&&◌, if◌then◌else◌, ℕ, Bool, true, false, List, map, length, Option, Some, None, IfSome, option_map, replicate}
+use Rattle.std.specs.Prelude.{◌≡◌, ◌≤◌, ◌<◌, ◌+◌, ◌==◌, ◌&&◌, if◌then◌else◌, ℕ, Bool, true, false, List, map, length}
+use Rattle.std.specs.Prelude.{Option, Some, None, IfSome, option_map, replicate}
 use Rattle.bully_base.specs.Places.{at_node}
 use Rattle.bully_base.specs.Setup.{Setup, IsNode}
 use Rattle.bully_calls.specs.declared.call.Answer.{Answer}
@@ -128,7 +129,8 @@ StepsTo before e after answer = Step before.setup (world_of before) e (world_of 
 -- each node's generation rises by one where the event raises it, and else stays
 abbrev pub RaisesGenerations : Event → WorldState → WorldState → Type 0
 RaisesGenerations e before after =
-    (i : ℕ) → (state_at after i).generation ≡ (state_at before i).generation + (if raises (world_of before) e i then 1 else 0)
+    (i : ℕ)
+    → (state_at after i).generation ≡ (state_at before i).generation + (if raises (world_of before) e i then 1 else 0)
 
 abbrev pub KeepsGenerations : WorldState → WorldState → Type 0
 KeepsGenerations before after = (i : ℕ) → (state_at after i).generation ≡ (state_at before i).generation
@@ -137,8 +139,8 @@ KeepsGenerations before after = (i : ℕ) → (state_at after i).generation ≡ 
 abbrev pub KeepsTags : Event → WorldState → WorldState → Type 0
 KeepsTags e before after = (i : ℕ) → changes_slot e i ≡ false → tag_in (state_at after i) ≡ tag_in (state_at before i)
 
--- the event was applied and answered so: it is one step, for which there was room, and is counted; generations rise as it says, the
--- tags stay that it doesn't change, and the setup stays
+-- the event was applied and answered so: it is one step, for which there was room, and is counted; generations rise as
+-- it says, the tags stay that it doesn't change, and the setup stays
 pub record IsApplied (before : WorldState) (e : Event) (after : WorldState) (answer : Answer) : Type 0 where
   pub step : StepsTo before e after answer
   pub room : before.events < before.setup.events_max

@@ -1,5 +1,6 @@
 -- What an event that nothing refuses makes of what is kept of each node, and its answer.
-use Rattle.std.specs.Prelude.{◌≡◌, ◌≢◌, ℕ, ◌+◌, ◌<◌, ◌≤◌, ◌^◌, ◌==◌, IsTrue, IsSome, IfSome, length, not, List, Option, Some, None, option_map, unwrap_or, if◌then◌else◌}
+use Rattle.std.specs.Prelude.{◌≡◌, ◌≢◌, ℕ, ◌+◌, ◌<◌, ◌≤◌, ◌^◌, ◌==◌, IsTrue, IsSome, IfSome, length, not, List, Option}
+use Rattle.std.specs.Prelude.{Some, None, option_map, unwrap_or, if◌then◌else◌}
 use Rattle.std.specs.Option.{option_map_or}
 use Rattle.bully_base.specs.declared.node.Status.TheVariants.{Down}
 use Rattle.bully_base.specs.Places.{put_node}
@@ -39,7 +40,10 @@ abbrev pub recovered_state : Setup → ℕ → StoredNode → StoredNode
 recovered_state setup i m = record (with_vector (recovered setup m.vector.vector) m) { point = election i }
 
 abbrev pub crashed_state : Setup → StoredNode → StoredNode
-crashed_state setup m = record (with_content None (with_vector (crashed setup m.vector.vector) m)) { point = Idle; generation = m.generation + 1 }
+crashed_state setup m = record (with_content None (with_vector (crashed setup m.vector.vector) m)) {
+  point = Idle;
+  generation = m.generation + 1;
+}
 
 abbrev pub begun_state : Point → StoredNode → StoredNode
 begun_state p m = record m { point = p }
@@ -97,7 +101,8 @@ returned_state setup i p o m =
     if p.tag.generation == m.generation then proceeded_state setup i o (with_content None m) else with_content None m
 
 abbrev pub planned_state : List ℕ → StoredNode → StoredNode
-planned_state table m = record (with_vector (record m.vector.vector { task = Some table }) m) { point = Readying m.vector.vector.up }
+planned_state table m =
+    record (with_vector (record m.vector.vector { task = Some table }) m) { point = Readying m.vector.vector.up }
 
 -- the callee's answer to the call
 abbrev pub replied : List StoredNode → SlotCall → Answer
@@ -136,7 +141,8 @@ state_after setup ms e = put_node ms (node_of e) (node_after setup e (kept_of ms
 abbrev pub return_answer : ℕ → Option SlotCall → Answer
 return_answer generation None = Answer.Done
 return_answer generation (Some p) =
-    if p.tag.generation == generation then option_map_or answer_of (outcome_of p.phase) Answer.Done else Answer.Discarded
+    if p.tag.generation == generation then option_map_or answer_of (outcome_of p.phase) Answer.Done else
+    Answer.Discarded
 
 -- what an event other than a Run is answered
 abbrev pub node_answer : Event → StoredNode → Answer
@@ -158,7 +164,8 @@ abbrev pub MayApply : Setup → Event → StoredNode → Type 0
 MayApply setup (Event.Start i) m =
     IsCall (offered setup m.vector.vector.coordinator m.point)
     × (m.slot.content ≡ None)
-    × ((call : Call) → offered setup m.vector.vector.coordinator m.point ≡ Want.Start call → CarriesFor call (carried call.kind m.vector.vector) m.slot.room)
+    × ((call : Call) → offered setup m.vector.vector.coordinator m.point ≡ Want.Start call
+    → CarriesFor call (carried call.kind m.vector.vector) m.slot.room)
 MayApply setup (Event.Lose i) m = IsTrue (holds_call (λ f. not (is_failed f)) m.slot)
 MayApply setup (Event.Return i) m = IsSome (outcome_in m.slot)
 MayApply setup (Event.Plan i table) m = length table ≡ m.vector.room

@@ -73,7 +73,8 @@ abbrev pub Proceeds : Setup → World → ℕ → Outcome → World → Type 0
 Proceeds setup w i o w' =
     (p : Point)
     × (next_point setup i (vector w i).up (point w i) o ≡ Some p)
-    × (w' ≡ with_node_state w i (record { vector = next_vector i (point w i) o (vector w i); point = p; pending = None }))
+    × (w'
+    ≡ with_node_state w i (record { vector = next_vector i (point w i) o (vector w i); point = p; pending = None }))
 
 -- a live call's return moves the point, an orphan's is discarded
 abbrev pub Returns : Setup → World → ℕ → Bool → Outcome → World → Answer → Type 0
@@ -94,12 +95,14 @@ Step setup w (Event.Crash i) w' a =
 Step setup w (Event.Check i) w' a =
     IsUp w i
     × (point w i ≡ Idle)
-    × (w' ≡ with_node_state w i (record (node_state w i) { point = checked setup i (vector w i).status (vector w i).coordinator }))
+    × (w' ≡ with_node_state w i
+    (record (node_state w i) { point = checked setup i (vector w i).status (vector w i).coordinator }))
     × (a ≡ Answer.Done)
 Step setup w (Event.Timeout i) w' a =
     IsUp w i
     × (point w i ≡ Idle)
-    × (w' ≡ with_node_state w i (record (node_state w i) { point = timed_out i (vector w i).status (vector w i).coordinator }))
+    × (w' ≡ with_node_state w i
+    (record (node_state w i) { point = timed_out i (vector w i).status (vector w i).coordinator }))
     × (a ≡ Answer.Done)
 Step setup w (Event.Start i) w' a =
     IsUp w i
@@ -145,5 +148,6 @@ Step setup w (Event.Plan i table) w' a =
     × (pending w i ≡ None)
     × (length table ≡ setup.partitions)
     × IsBalanced setup table (with_node i (vector w i).up)
-    × (w' ≡ with_node_state w i (record { vector = record (vector w i) { task = Some table }; point = Readying (vector w i).up; pending = None }))
+    × (w' ≡ with_node_state w i
+    (record { vector = record (vector w i) { task = Some table }; point = Readying (vector w i).up; pending = None }))
     × (a ≡ Answer.Done)

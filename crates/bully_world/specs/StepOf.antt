@@ -1,5 +1,6 @@
 -- The function that computes a step: each of its conditions as a test. That it computes exactly `Step` is a law.
-use Rattle.std.specs.Prelude.{◌≡◌, ◌↔◌, ℕ, Bool, true, false, List, [], ◌∷◌, length, Option, Some, None, ◌&&◌, not, ◌==◌, option_map, option_and_then}
+use Rattle.std.specs.Prelude.{◌≡◌, ◌↔◌, ℕ, Bool, true, false, List, [], ◌∷◌, length, Option, Some, None, ◌&&◌, not}
+use Rattle.std.specs.Prelude.{◌==◌, option_map, option_and_then}
 use Rattle.bully_base.specs.NodeSet.{with_node}
 use Rattle.bully_base.specs.Setup.{Setup, is_node}
 use Rattle.bully_table.specs.Balance.{is_balanced}
@@ -36,7 +37,8 @@ is_planning Point.Planning = true
 is_planning _ = false
 
 abbrev pub start_of : World → ℕ → Bool → Want → StepResult
-start_of w i b (Want.Start call) = when b (with_node_state w i (record (node_state w i) { pending = Some (sent call (vector w i)) })) Done
+start_of w i b (Want.Start call) =
+    when b (with_node_state w i (record (node_state w i) { pending = Some (sent call (vector w i)) })) Done
 start_of w i b _ = None
 
 abbrev pub run_of : World → ℕ → Option Pending → StepResult
@@ -80,15 +82,19 @@ is_plannable setup table i up = (length table == setup.partitions) && is_balance
 -- the event as one step
 abbrev pub step_of : Setup → World → Event → StepResult
 step_of setup w (Event.Recover i) =
-    when (is_node setup i && is_down_at w i) (with_node_state w i (record (node_state w i) { vector = recovered setup (vector w i); point = election i })) Done
+    when (is_node setup i && is_down_at w i)
+    (with_node_state w i (record (node_state w i) { vector = recovered setup (vector w i); point = election i })) Done
 step_of setup w (Event.Crash i) =
-    when (not (is_down_at w i)) (with_node_state w i (record { vector = crashed setup (vector w i); point = Point.Idle; pending = None })) Done
+    when (not (is_down_at w i))
+    (with_node_state w i (record { vector = crashed setup (vector w i); point = Point.Idle; pending = None })) Done
 step_of setup w (Event.Check i) =
     when (not (is_down_at w i) && is_idle (point w i))
-    (with_node_state w i (record (node_state w i) { point = checked setup i (vector w i).status (vector w i).coordinator })) Done
+    (with_node_state w i
+    (record (node_state w i) { point = checked setup i (vector w i).status (vector w i).coordinator })) Done
 step_of setup w (Event.Timeout i) =
     when (not (is_down_at w i) && is_idle (point w i))
-    (with_node_state w i (record (node_state w i) { point = timed_out i (vector w i).status (vector w i).coordinator })) Done
+    (with_node_state w i (record (node_state w i) { point = timed_out i (vector w i).status (vector w i).coordinator }))
+    Done
 step_of setup w (Event.Start i) = start_of w i (is_ready w i) (offer setup w i)
 step_of setup w (Event.Run i) = run_of w i (pending w i)
 step_of setup w (Event.Lose i) = lose_of w i (pending w i)
@@ -97,7 +103,11 @@ step_of setup w (Event.Drop i) = drop_of w i (pending w i)
 step_of setup w (Event.Move i) = move_of setup w i (is_ready w i) (offer setup w i)
 step_of setup w (Event.Plan i table) =
     when (is_planning (point w i) && not (is_pending (pending w i)) && is_plannable setup table i (vector w i).up)
-    (with_node_state w i (record { vector = record (vector w i) { task = Some table }; point = Point.Readying (vector w i).up; pending = None })) Done
+    (with_node_state w i (record {
+      vector = record (vector w i) { task = Some table };
+      point = Point.Readying (vector w i).up;
+      pending = None;
+    })) Done
 
 -- the last world and all answers; none where a step isn't possible
 abbrev pub StepsResult : Type 0
@@ -120,7 +130,8 @@ steps_of setup events = steps_from setup (first_world setup) events
 -- it computes exactly the step
 abbrev pub StepIsComputed : Type 0
 StepIsComputed =
-    (setup : Setup) (w : World) (e : Event) (w' : World) (a : Answer) → (step_of setup w e ≡ Some (w', a)) ↔ Step setup w e w' a
+    (setup : Setup) (w : World) (e : Event) (w' : World) (a : Answer)
+    → (step_of setup w e ≡ Some (w', a)) ↔ Step setup w e w' a
 
 -- and, of a list, exactly where it leads
 abbrev pub LeadIsComputed : Type 0

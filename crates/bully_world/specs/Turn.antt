@@ -1,6 +1,7 @@
 -- The procedure that a world shows of a node, whether the one that the node holds is in step with the world, and
 -- what the turn rule has it do.
-use Rattle.std.specs.Prelude.{ℕ, ◌==◌, ◌&&◌, Bool, true, false, not, List, [], Option, Some, None, bytes_eq, unwrap_or, if◌then◌else◌}
+use Rattle.std.specs.Prelude.{ℕ, ◌==◌, ◌&&◌, Bool, true, false, not, List, [], Option, Some, None, bytes_eq, unwrap_or}
+use Rattle.std.specs.Prelude.{if◌then◌else◌}
 use Rattle.std.specs.Option.{option_map_or, option_eq}
 use Rattle.bully_base.specs.Setup.{Setup}
 use Rattle.bully_calls.specs.declared.call.Answer.{Answer}
@@ -8,7 +9,8 @@ use Rattle.bully_calls.specs.declared.call.Outcome.{Outcome}
 use Rattle.bully_calls.specs.declared.call.Phase.{Phase}
 use Rattle.bully_calls.specs.Pending.{Pending}
 use Rattle.bully_steps.specs.declared.point.Point.{Point}
-use Rattle.bully_steps.specs.declared.point.Point.TheVariants.{Idle, Asking, Halting, Announcing, Planning, Readying, Checking, Inquiring}
+use Rattle.bully_steps.specs.declared.point.Point.TheVariants.{Idle, Asking, Halting, Announcing, Planning, Readying}
+use Rattle.bully_steps.specs.declared.point.Point.TheVariants.{Checking, Inquiring}
 use Rattle.bully_steps.specs.declared.point.Want.{Want}
 use Rattle.bully_steps.specs.ProcedureState.{ProcedureState, procedure_state, want_of, resumed}
 use Rattle.bully_calls.specs.declared.event.Event.{Event}
@@ -70,7 +72,8 @@ is_in_step w h = agree h (procedure_in w h.node)
 -- the turn where the slot is full: what ran or failed returns; what was sent to a node that is Down is lost; and of
 -- what was sent to a node that is up an orphan is dropped
 abbrev pub turn_of_call : Bool → Bool → Phase → Next
-turn_of_call callee_is_down is_live Phase.Sent = if callee_is_down then Take Lose else if is_live then Rest else Take Drop
+turn_of_call callee_is_down is_live Phase.Sent = if callee_is_down then Take Lose else if is_live then Rest else
+    Take Drop
 turn_of_call callee_is_down is_live (Phase.Ran answer) = Take Return
 turn_of_call callee_is_down is_live Phase.Failed = Take Return
 

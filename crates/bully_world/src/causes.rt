@@ -1,11 +1,13 @@
-ghost use Rattle.std.specs.Prelude.{◌≡◌, ◌+◌, ◌≤◌, ◌<◌, ◌==◌, ◌&&◌, ℕ, length, not, true, false, Some, None, IfSome, if◌then◌else◌};
+ghost use Rattle.std.specs.Prelude.{◌≡◌, ◌+◌, ◌≤◌, ◌<◌, ◌==◌, ◌&&◌, ℕ, length, not, true, false, Some, None, IfSome};
+ghost use Rattle.std.specs.Prelude.{if◌then◌else◌};
 ghost use Rattle.bully_base.specs.NodeSet.{with_node, IsFallingBelow};
 ghost use Rattle.bully_base.specs.Setup.{IsSetup};
 ghost use Rattle.bully_table.specs.Balance.{is_balanced};
 ghost use Rattle.bully_calls.specs.Pending.{is_sent, is_failed};
 ghost use Rattle.bully_steps.specs.Point.{offered, IsPointOf};
 ghost use Rattle.bully_calls.specs.Events.{node_of};
-ghost use Rattle.bully_world.specs.Cause.{refuses, first_of, later_refusals, cause, is_idle, is_call, is_move, is_plan, in_phase, is_pending, is_live_in, callee_is_down, IsToldByNode};
+ghost use Rattle.bully_world.specs.Cause.{refuses, first_of, later_refusals, cause, is_idle, is_call, is_move, is_plan};
+ghost use Rattle.bully_world.specs.Cause.{in_phase, is_pending, is_live_in, callee_is_down, IsToldByNode};
 ghost use Rattle.bully_world.specs.NodeInvariant.{NodeInvariant, WorldInvariant};
 ghost use Rattle.bully_world.specs.State.{node_state_of, world_in};
 ghost use Rattle.bully_world.specs.World.{World, node_state};
@@ -86,7 +88,8 @@ pub fn own_cause(setup: &Setup, named: &NodeState, event: &Event) -> Option<Refu
     requires own { IsToldByNode event.now }
     requires fits { NodeInvariant setup.now (node_of event.now) (node_state_of named.now) }
     requires node { node_of event.now ≤ setup.now.nodes }
-    ensures { (w : World) (count : ℕ) → node_state w (node_of event.now) ≡ node_state_of named.now → result ≡ first_of (refuses setup.now w count event.now) later_refusals }
+    ensures { (w : World) (count : ℕ) → node_state w (node_of event.now) ≡ node_state_of named.now
+        → result ≡ first_of (refuses setup.now w count event.now) later_refusals }
 {
     match event {
         Event::Recover(_) | Event::Crash(_) => None,
@@ -159,7 +162,8 @@ fn refused_if(holds: bool, refused: Refused) -> Option<Refused>
 
 // Why a Start, a Move or a Plan is refused, where the point offers it or not.
 fn step_cause(node_state: &NodeState, offered: bool) -> Option<Refused>
-    ensures { result ≡ (if not offered then Some Refused.NoStep else if is_pending (node_state_of node_state.now).pending then Some Refused.SlotBusy else None) }
+    ensures { result ≡ (if not offered then Some Refused.NoStep else
+        if is_pending (node_state_of node_state.now).pending then Some Refused.SlotBusy else None) }
 {
     if !offered {
         return Some(Refused::NoStep);
@@ -173,9 +177,11 @@ fn plan_cause(setup: &Setup, node_state: &NodeState, node: Node, table: &Table) 
     requires point { IsPointOf setup.now node node_state.now.point }
     requires node { node ≤ setup.now.nodes }
     requires up { IsFallingBelow node node_state.now.vector.vector.up }
-    ensures { result ≡ (if not (is_plan (offered setup.now node_state.now.vector.vector.coordinator node_state.now.point)) then Some Refused.NoStep
+    ensures { result ≡ (if not (is_plan
+        (offered setup.now node_state.now.vector.vector.coordinator node_state.now.point)) then Some Refused.NoStep
         else if is_pending (node_state_of node_state.now).pending then Some Refused.SlotBusy
-        else if not ((length table.now == setup.now.partitions) && is_balanced setup.now table.now (with_node node node_state.now.vector.vector.up)) then Some Refused.BadTable else None) }
+        else if not ((length table.now == setup.now.partitions) && is_balanced setup.now table.now
+        (with_node node node_state.now.vector.vector.up)) then Some Refused.BadTable else None) }
 {
     let cause = step_cause(node_state, offers_plan(node_state.offer(setup, node)));
     if cause.is_some() {
@@ -192,7 +198,8 @@ fn plan_cause(setup: &Setup, node_state: &NodeState, node: Node, table: &Table) 
 fn accepts_table(setup: &Setup, node_state: &NodeState, node: Node, table: &Table) -> bool
     requires node { node ≤ setup.now.nodes }
     requires up { IsFallingBelow node node_state.now.vector.vector.up }
-    ensures { result ≡ (length table.now == setup.now.partitions) && is_balanced setup.now table.now (with_node node node_state.now.vector.vector.up) }
+    ensures { result ≡ (length table.now == setup.now.partitions)
+        && is_balanced setup.now table.now (with_node node node_state.now.vector.vector.up) }
 {
     let mut planned = *node_state.vector().up();
     planned.insert(node);
@@ -215,7 +222,8 @@ fn callee_down(states: &[NodeState], node_state: &NodeState) -> bool
 fn run_cause(states: &[NodeState], node_state: &NodeState) -> Option<Refused>
     requires { IfSome node_state.now.slot.content (λ p. (0 < p.call.callee) × (p.call.callee ≤ length states.now)) }
     ensures { result ≡ (if not (in_phase is_sent (node_state_of node_state.now).pending) then Some Refused.NoCall
-        else if callee_is_down (world_in states.now) (node_state_of node_state.now).pending then Some Refused.CalleeDown else None) }
+        else if callee_is_down (world_in states.now) (node_state_of node_state.now).pending then Some Refused.CalleeDown
+        else None) }
 {
     if !is_sent(node_state) {
         return Some(Refused::NoCall);
@@ -226,8 +234,10 @@ fn run_cause(states: &[NodeState], node_state: &NodeState) -> Option<Refused>
 // Why a loss of the state's call is refused.
 fn lose_cause(states: &[NodeState], node_state: &NodeState) -> Option<Refused>
     requires { IfSome node_state.now.slot.content (λ p. (0 < p.call.callee) × (p.call.callee ≤ length states.now)) }
-    ensures { result ≡ (if not (in_phase (λ f. not (is_failed f)) (node_state_of node_state.now).pending) then Some Refused.NoCall
-        else if not (callee_is_down (world_in states.now) (node_state_of node_state.now).pending) then Some Refused.CalleeUp else None) }
+    ensures { result ≡ (if not (in_phase (λ f. not (is_failed f)) (node_state_of node_state.now).pending)
+        then Some Refused.NoCall
+        else if not (callee_is_down (world_in states.now) (node_state_of node_state.now).pending)
+        then Some Refused.CalleeUp else None) }
 {
     if !is_unfailed(node_state) {
         return Some(Refused::NoCall);

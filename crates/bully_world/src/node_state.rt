@@ -1,4 +1,5 @@
-ghost use Rattle.std.specs.Prelude.{◌≡◌, ◌≢◌, ◌⊎◌, ◌↔◌, ◌+◌, ◌<◌, ◌≤◌, ◌^◌, ℕ, length, not, IfOk, IfSome, IsSome, IsTrue, None};
+ghost use Rattle.std.specs.Prelude.{◌≡◌, ◌≢◌, ◌⊎◌, ◌↔◌, ◌+◌, ◌<◌, ◌≤◌, ◌^◌, ℕ, length, not, IfOk, IfSome, IsSome};
+ghost use Rattle.std.specs.Prelude.{IsTrue, None};
 ghost use Rattle.std.specs.Option.{option_copied};
 ghost use Rattle.bully_base.specs.declared.TheConstants.{NODES_MAX};
 ghost use Rattle.bully_calls.specs.Pending.{is_sent, is_failed};
@@ -10,7 +11,10 @@ ghost use Rattle.bully_calls.specs.Events.{node_of};
 ghost use Rattle.bully_world.specs.State.{empty_state};
 ghost use Rattle.bully_world.specs.Step.{carried};
 ghost use Rattle.bully_world.specs.Waiting.{sent_in};
-ghost use Rattle.bully_world.specs.StateAfter.{with_vector, with_content, down_state, halted_number, recovered_state, crashed_state, opened_state, phased_state, callee_state_after, heard_state, proceeded_state, node_after_return, return_answer, planned_state, started_state, node_after, node_answer, MayApply};
+ghost use Rattle.bully_world.specs.StateAfter.{with_vector, with_content, down_state, halted_number, recovered_state};
+ghost use Rattle.bully_world.specs.StateAfter.{crashed_state, opened_state, phased_state, callee_state_after};
+ghost use Rattle.bully_world.specs.StateAfter.{heard_state, proceeded_state, node_after_return, return_answer};
+ghost use Rattle.bully_world.specs.StateAfter.{planned_state, started_state, node_after, node_answer, MayApply};
 
 use bully_base::{Node, OutOfMemory, Setup, Status};
 use bully_calls::{Answer, Call, CallKind, Event, Outcome, Phase, Slot, Tag};
@@ -34,7 +38,8 @@ impl Model for NodeState {
 
     ghost Value = { StoredNode };
 
-    ghost view = { λ m. record { vector = m.vector; point = m.stored_point; slot = m.slot; generation = m.generation } };
+    ghost view = { λ m.
+        record { vector = m.vector; point = m.stored_point; slot = m.slot; generation = m.generation } };
 }
 
 impl NodeState {
@@ -50,7 +55,8 @@ impl NodeState {
         })
     }
 
-    /// A node that is Down and has kept this task, if any; that has the setup's partitions. Refused where an allocation fails.
+    /// A node that is Down and has kept this task, if any; that has the setup's partitions. Refused where an allocation
+    /// fails.
     pub fn restored(
         alloc: Global,
         setup: &Setup,
@@ -264,7 +270,8 @@ impl NodeState {
 
     // The node's vector, where its procedure moves without a call.
     fn move_vector(&mut self, node: Node)
-        ensures { self.new ≡ with_vector (next_vector node self.old.point Outcome.Moved self.old.vector.vector) self.old }
+        ensures { self.new
+            ≡ with_vector (next_vector node self.old.point Outcome.Moved self.old.vector.vector) self.old }
     {
         match self.stored_point.kind() {
             PointKind::Asking(_) => self.vector.become_candidate(node),
@@ -281,7 +288,8 @@ impl NodeState {
     // The node's vector, where its call was answered Yes: a halted node joins its up set.
     fn join_halted(&mut self)
         requires small { halted_number self.old.point ≤ NODES_MAX }
-        ensures { (node : ℕ) → self.new ≡ with_vector (next_vector node self.old.point Outcome.Yes self.old.vector.vector) self.old }
+        ensures { (node : ℕ)
+            → self.new ≡ with_vector (next_vector node self.old.point Outcome.Yes self.old.vector.vector) self.old }
     {
         if let PointKind::Halting(number) = self.stored_point.kind() {
             if let Some(callee) = Node::new(number) {

@@ -1,7 +1,8 @@
 ghost use Rattle.std.specs.Prelude.{◌≡◌, ◌≢◌, ◌+◌, ◌<◌, ◌≤◌, length, IfSome, Some, slice_index_or, slice_set};
 ghost use Rattle.bully_handlers.specs.Handler.{reply};
 ghost use Rattle.bully_world.specs.State.{empty_state, kept_of};
-ghost use Rattle.bully_world.specs.StateAfter.{CanApply, CanExchange, CanRun, callee_state_after, phased_state, state_after, state_after_run, answer_after, run_answer};
+ghost use Rattle.bully_world.specs.StateAfter.{CanApply, CanExchange, CanRun, callee_state_after, phased_state};
+ghost use Rattle.bully_world.specs.StateAfter.{state_after, state_after_run, answer_after, run_answer};
 ghost use Rattle.bully_calls.specs.Events.{node_of};
 ghost use Rattle.bully_world.specs.Waiting.{sent_in, IsWaiting, with_sent, without_sent};
 
@@ -21,7 +22,8 @@ pub fn apply_event(
 ) -> Answer
     requires can { CanApply setup.now states.old event.now }
     requires node { node_of event.now ≤ length states.old }
-    requires sent { IfSome (sent_in (kept_of (state_after setup.now states.old event.now) (node_of event.now))) (λ j. (0 < j) × (j ≤ length states.old)) }
+    requires sent { IfSome (sent_in (kept_of (state_after setup.now states.old event.now) (node_of event.now))) (λ j.
+        (0 < j) × (j ≤ length states.old)) }
     requires waiting { IsWaiting states.old waiting.old }
     ensures after { states.new ≡ state_after setup.now states.old event.now }
     ensures answer { result ≡ answer_after states.old event.now }
@@ -89,10 +91,13 @@ fn run_between(states: &mut [NodeState], caller: Node, here: usize, there: usize
     requires here { here < length states.old }
     requires there { there < length states.old }
     requires apart { here ≢ there }
-    requires can { CanExchange (slice_index_or states.old here (empty_state 0)) (slice_index_or states.old there (empty_state 0)) }
-    ensures answer { IfSome (slice_index_or states.old here (empty_state 0)).slot.content (λ p. result ≡ reply p.call.kind (slice_index_or states.old there (empty_state 0)).vector.vector) }
+    requires can { CanExchange (slice_index_or states.old here (empty_state 0))
+        (slice_index_or states.old there (empty_state 0)) }
+    ensures answer { IfSome (slice_index_or states.old here (empty_state 0)).slot.content (λ p.
+        result ≡ reply p.call.kind (slice_index_or states.old there (empty_state 0)).vector.vector) }
     ensures after { IfSome (slice_index_or states.old here (empty_state 0)).slot.content (λ p. states.new
-        ≡ slice_set (slice_set states.old here (phased_state (Phase.Ran result) (slice_index_or states.old here (empty_state 0)))) there (callee_state_after caller p (slice_index_or states.old there (empty_state 0)))) }
+        ≡ slice_set (slice_set states.old here (phased_state (Phase.Ran result) (slice_index_or states.old here
+        (empty_state 0)))) there (callee_state_after caller p (slice_index_or states.old there (empty_state 0)))) }
 {
     if there < here {
         let (lower, upper) = states.split_at_mut(here);

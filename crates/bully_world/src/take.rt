@@ -3,7 +3,8 @@ ghost use Rattle.std.specs.Option.{option_map_or};
 ghost use Rattle.bully_steps.specs.ProcedureState.{IsProcedureState, HasSameNode, CanResume, resumed};
 ghost use Rattle.bully_steps.specs.Procedure.{state_of};
 ghost use Rattle.bully_world.specs.State.{StepsTo, KeepsGenerations, IsFull};
-ghost use Rattle.bully_world.specs.Turn.{turn, has_table, step_event, is_in_step, procedure_after, procedure_left, outcome_brought, outcome_left};
+ghost use Rattle.bully_world.specs.Turn.{turn, has_table, step_event, is_in_step, procedure_after, procedure_left};
+ghost use Rattle.bully_world.specs.Turn.{outcome_brought, outcome_left};
 ghost use Rattle.bully_world.specs.declared.turn.Next.{Next};
 ghost use Rattle.bully_world.specs.declared.turn.StepKind.{StepKind};
 
@@ -38,7 +39,8 @@ impl World {
         ensures generations { OnOk result (KeepsGenerations self.old self.new) }
         ensures setup { self.new.setup ≡ self.old.setup }
         ensures event { IfOk result (λ taken. taken.event ≡ step_event kind (state_of procedure.old)) }
-        ensures procedure { IfOk result (λ taken. state_of procedure.new ≡ procedure_after kind taken.answer (state_of procedure.old)) }
+        ensures procedure { IfOk result (λ taken.
+            state_of procedure.new ≡ procedure_after kind taken.answer (state_of procedure.old)) }
         ensures in_step { OnOk result (is_in_step self.new (state_of procedure.new) ≡ true) }
         ensures same_node { HasSameNode (state_of procedure.old) (state_of procedure.new) }
         ensures room { OnOk result (self.old.events < self.old.setup.events_max) }
@@ -99,7 +101,8 @@ fn outcome_brought(answer: Answer) -> Option<Outcome>
 // The procedure goes on after its step with this answer.
 fn advance_after(procedure: &mut Procedure, kind: StepKind, answer: Answer)
     requires { IfSome (outcome_left kind answer) (CanResume (state_of procedure.old)) }
-    ensures { state_of procedure.new ≡ option_map_or (resumed (state_of procedure.old)) (outcome_left kind answer) (state_of procedure.old) }
+    ensures { state_of procedure.new
+        ≡ option_map_or (resumed (state_of procedure.old)) (outcome_left kind answer) (state_of procedure.old) }
 {
     if let Some(outcome) = outcome_by(kind, answer) {
         procedure.advance(outcome);

@@ -5,7 +5,8 @@ ghost use Rattle.bully_steps.specs.ProcedureState.{HasSameNode, want_of, up_at, 
 ghost use Rattle.bully_steps.specs.Procedure.{state_of};
 ghost use Rattle.bully_steps.specs.PointKind.{point_at, nodes_in};
 ghost use Rattle.bully_world.specs.Cause.{is_live_in};
-ghost use Rattle.bully_world.specs.Turn.{event_with, kind_of_step, procedure_by, procedure_in, is_in_step, agree, same_point, same_set, same_node, turn, turn_of_call, turn_of_want, has_table};
+ghost use Rattle.bully_world.specs.Turn.{event_with, kind_of_step, procedure_by, procedure_in, is_in_step, agree};
+ghost use Rattle.bully_world.specs.Turn.{same_point, same_set, same_node, turn, turn_of_call, turn_of_want, has_table};
 ghost use Rattle.bully_world.specs.declared.turn.StepKind.{StepKind};
 
 use crate::World;
@@ -169,7 +170,8 @@ fn next_of_want(procedure: &Procedure) -> Next
 // Whether the procedure agrees with what is kept of its node on generation, point and call, and on the up set or the
 // coordinator that is held at the point.
 fn agrees_with(procedure: &Procedure, node_state: &NodeState) -> bool
-    ensures { result ≡ agree (state_of procedure.now) (procedure_by (state_of procedure.now).setup (state_of procedure.now).node node_state.now) }
+    ensures { result ≡ agree (state_of procedure.now)
+        (procedure_by (state_of procedure.now).setup (state_of procedure.now).node node_state.now) }
 {
     let stored_point = node_state.stored_point();
     let kind = stored_point.kind();
@@ -216,7 +218,8 @@ fn is_same_point(
     shown: &PointKind,
     shown_left: &NodeSet,
 ) -> bool
-    ensures { result ≡ same_point (point_at kind.now (nodes_in (option_copied left.entry))) (point_at shown.now shown_left.now) }
+    ensures { result
+        ≡ same_point (point_at kind.now (nodes_in (option_copied left.entry))) (point_at shown.now shown_left.now) }
 {
     match (kind, shown) {
         (PointKind::Asking(next), PointKind::Asking(other)) => next == other,

@@ -1,5 +1,8 @@
-ghost use Rattle.std.specs.Prelude.{◌≡◌, ◌↔◌, ◌≤◌, ◌<◌, IfOk, IfErr, IfSome, IfNone, IsOk, length, true, false, None, Some};
-ghost use Rattle.bully_world.specs.State.{state_at, world_of, cause_in, waits_for, first_state, new_states, node_state_of, IsApplied, IsFull, NobodyWaits, NobodyWaitsBelow, IsKept, IsReached};
+ghost use Rattle.std.specs.Prelude.{◌≡◌, ◌↔◌, ◌≤◌, ◌<◌, IfOk, IfErr, IfSome, IfNone, IsOk, length, true, false, None};
+ghost use Rattle.std.specs.Prelude.{Some};
+ghost use Rattle.bully_world.specs.State.{state_at, world_of, cause_in, waits_for, first_state, new_states};
+ghost use Rattle.bully_world.specs.State.{node_state_of, IsApplied, IsFull, NobodyWaits, NobodyWaitsBelow, IsKept};
+ghost use Rattle.bully_world.specs.State.{IsReached};
 ghost use Rattle.bully_world.specs.NodeInvariant.{NodeInvariant};
 ghost use Rattle.bully_world.specs.Place.{place_at};
 ghost use Rattle.bully_world.specs.World.{first_world};
@@ -31,7 +34,8 @@ impl Model for World {
 
     ghost view = { λ w. record { setup = w.setup; events = w.events; states = w.states.items } };
 
-    ghost invariant = { λ w. IsWorld (record { setup = w.setup; events = w.events; states = w.states.items }) × IsWaiting w.states.items w.waiting };
+    ghost invariant = { λ w. IsWorld (record { setup = w.setup; events = w.events; states = w.states.items })
+        × IsWaiting w.states.items w.waiting };
 }
 
 impl World {
@@ -162,8 +166,9 @@ impl World {
         self.waiting.lowest(callee)
     }
 
-    /// The node at which an event of this kind, of this node, takes place, and the only one whose vector it may change: the callee of
-    /// the node's call, where the event is the callee's, and else the node itself, which is at most the setup's last.
+    /// The node at which an event of this kind, of this node, takes place, and the only one whose vector it may change:
+    /// the callee of the node's call, where the event is the callee's, and else the node itself, which is at most the
+    /// setup's last.
     pub fn place_at(&self, node: Node, kind: EventKind) -> Node
         requires { node ≤ self.now.setup.nodes }
         ensures place { result ≡ place_at (world_of self.now) node kind }

@@ -5,8 +5,8 @@ use bully_base::{Limits, OutOfMemory, Setup};
 use std::alloc::Global;
 use std::marker::Model;
 
-/// What a group was set up with, in no more memory than it needs: a [`Setup`] has room for the weight of each node that a
-/// group may have, and a view of few nodes would be copied with all of it.
+/// What a group was set up with, in no more memory than it needs: a [`Setup`] has room for the weight of each node that
+/// a group may have, and a view of few nodes would be copied with all of it.
 #[derive(Drop, Debug)]
 pub(super) struct KeptSetup {
     limits: Limits,

@@ -21,8 +21,8 @@ pub struct KeptNode {
     pub task: Option<Table>, // its own; none where it is Normal
 }
 
-/// What is shown of all nodes. All that are Normal have one task, by the law of agreement, which is kept once: so a view
-/// costs no copy of a table for each of them.
+/// What is shown of all nodes. All that are Normal have one task, by the law of agreement, which is kept once: so a
+/// view costs no copy of a table for each of them.
 #[derive(Drop, Debug)]
 pub(super) struct NodeViews {
     normal: Option<Table>, // the task of the Normal nodes
@@ -82,7 +82,8 @@ impl NodeViews {
 // What is kept of the node.
 fn kept(nodes: &[KeptNode], node: Node) -> &KeptNode
     requires { node ≤ length nodes.now }
-    ensures { (normal : Option (List ℕ)) → shown_with normal result.now ≡ at_node nothing_shown (map (shown_with normal) nodes.now) node }
+    ensures { (normal : Option (List ℕ))
+        → shown_with normal result.now ≡ at_node nothing_shown (map (shown_with normal) nodes.now) node }
 {
     &nodes[usize::from(node.number() - 1)]
 }

@@ -1,6 +1,8 @@
-ghost use Rattle.std.specs.Prelude.{◌≡◌, ◌↔◌, ◌<◌, ◌≤◌, IsTrue, false, IfOk, OnOk, IfErr, IfSome, MatchOption, All, length, map, sum, vec_len};
+ghost use Rattle.std.specs.Prelude.{◌≡◌, ◌↔◌, ◌<◌, ◌≤◌, IsTrue, false, IfOk, OnOk, IfErr, IfSome, MatchOption, All};
+ghost use Rattle.std.specs.Prelude.{length, map, sum, vec_len};
 ghost use Rattle.bully_base.specs.declared.TheConstants.{NODES_MAX};
-ghost use Rattle.bully_group.specs.Finish.{AreAll, AreOfGroup, AreFree, AreCounts, AllStand, HasPart, IsLowestDiffering, CanFinish, IsFinishFault, EachInOneLog};
+ghost use Rattle.bully_group.specs.Finish.{AreAll, AreOfGroup, AreFree, AreCounts, AllStand, HasPart};
+ghost use Rattle.bully_group.specs.Finish.{IsLowestDiffering, CanFinish, IsFinishFault, EachInOneLog};
 ghost use Rattle.bully_group.specs.Locked.{view_in};
 
 use super::Locked;
@@ -32,8 +34,8 @@ pub enum FinishFault {
 
 impl<L: Naming> Locked<L> {
     /// Ends the group, with all its seats, in any order, and all its passes. Each seat's log is its actor's part of the
-    /// history. The finished group keeps the publisher. Refused, in this order, as `SeatCount`, `Stranger`, `Differs` and
-    /// `OutOfMemory`; then everything is handed back.
+    /// history. The finished group keeps the publisher. Refused, in this order, as `SeatCount`, `Stranger`, `Differs`
+    /// and `OutOfMemory`; then everything is handed back.
     pub fn finish(
         self,
         seats: Vec<Seat>,

@@ -12,7 +12,8 @@ use crate::pass::Pass;
 use crate::seat::Seat;
 use bully_steps::Procedure;
 
-/// What became of a turn by [`Locked::turn`], which is for a caller's own loop. Each hands a procedure of the same node back.
+/// What became of a turn by [`Locked::turn`], which is for a caller's own loop. Each hands a procedure of the same node
+/// back.
 #[derive(Drop)]
 pub enum Turn {
     /// A step was taken, and the procedure goes on by it.
@@ -28,9 +29,9 @@ pub enum Turn {
 impl<L: Naming> Locked<L> {
     /// Takes the turn of the seat's node by the turn rule alone, with the procedure that the node holds, whose setup is
     /// the group's. It is for a caller's own loop, which serves beside it as it likes: node threads take
-    /// [`Locked::serve_or_turn`]. A step that is taken adds an entry as `step` does. Refused, in this order, as `Foreign`,
-    /// `NotYours` where the seat isn't that of the procedure's node, then, where the rule has a step, `Refused` as Full,
-    /// and `OutOfMemory`; then nothing changes. The rule: docs/ALGORITHM.md.
+    /// [`Locked::serve_or_turn`]. A step that is taken adds an entry as `step` does. Refused, in this order, as
+    /// `Foreign`, `NotYours` where the seat isn't that of the procedure's node, then, where the rule has a step,
+    /// `Refused` as Full, and `OutOfMemory`; then nothing changes. The rule: docs/ALGORITHM.md.
     pub fn turn(&mut self, seat: &mut Seat, procedure: Procedure, pass: &mut Pass<L>) -> Turn
         requires setup { (state_of procedure).setup ≡ L.setup }
         ensures went { IfWent result (Goes self.old seat.old (state_of procedure) self.new seat.new) }
@@ -60,11 +61,13 @@ impl<L: Naming> Locked<L> {
         pass: &mut Pass<L>,
     ) -> Result<NodeTurn, StepFault>
         requires setup { (state_of procedure.old).setup ≡ L.setup }
-        ensures turn { IfOk result (TurnsBy self.old seat.old (state_of procedure.old) self.new seat.new (state_of procedure.new)) }
+        ensures turn { IfOk result
+            (TurnsBy self.old seat.old (state_of procedure.old) self.new seat.new (state_of procedure.new)) }
         ensures fault { IfErr result (IsTurnFault self.old seat.old (state_of procedure.old)) }
         ensures in_step { IfOk result (LeavesInStep self.new (state_of procedure.new)) }
         ensures same_node { HasSameNode (state_of procedure.old) (state_of procedure.new) }
-        ensures unchanged { IfErr result (λ _. (self.new ≡ self.old) × (seat.new ≡ seat.old) × (state_of procedure.new ≡ state_of procedure.old)) }
+        ensures unchanged { IfErr result (λ _. (self.new ≡ self.old) × (seat.new ≡ seat.old)
+            × (state_of procedure.new ≡ state_of procedure.old)) }
         ensures pass { pass.new ≡ (if adds_entry result then pass.old + 1 else pass.old) }
     {
         if let Some(index) = foreign_index(&self.history, seat) {

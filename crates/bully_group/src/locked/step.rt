@@ -1,7 +1,9 @@
-ghost use Rattle.std.specs.Prelude.{◌≡◌, ◌+◌, ◌++◌, ◌<◌, [], ◌∷◌, ◌↔◌, IsTrue, IfOk, OnOk, IfErr, MatchOption, Some, None, is_ok, slice_get, vec_len, vec_capacity, if◌then◌else◌};
+ghost use Rattle.std.specs.Prelude.{◌≡◌, ◌+◌, ◌++◌, ◌<◌, [], ◌∷◌, ◌↔◌, IsTrue, IfOk, OnOk, IfErr, MatchOption, Some};
+ghost use Rattle.std.specs.Prelude.{None, is_ok, slice_get, vec_len, vec_capacity, if◌then◌else◌};
 ghost use Rattle.std.specs.Option.{option_map};
 ghost use Rattle.bully_group.specs.Seat.{IsKnown, IsForeign};
-ghost use Rattle.bully_group.specs.Steps.{Records, IsAllowed, IsYours, IsStepFault, IsApplyFault, IsServe, IsServeFault, IsLateFault, is_served};
+ghost use Rattle.bully_group.specs.Steps.{Records, IsAllowed, IsYours, IsStepFault, IsApplyFault, IsServe};
+ghost use Rattle.bully_group.specs.Steps.{IsServeFault, IsLateFault, is_served};
 ghost use Rattle.bully_watch.specs.History.{whose, callee_of};
 ghost use Rattle.bully_world.specs.State.{world_of, cause_in};
 ghost use Rattle.bully_world.specs.World.{pending};
@@ -32,7 +34,8 @@ impl<L: Naming> Locked<L> {
     /// Takes one event of the seat's actor. Its entry becomes the last of the history and, beside its index, of the
     /// seat; the pass counts it. Refused, in this order, as `Foreign`, never for a seat without an entry, `NotYours`,
     /// `Refused` and `OutOfMemory`; then nothing changes.
-    // (inlined with what it calls, as `Locked::serve_or_turn` is, so that an event that was just made stays in registers)
+    // (inlined with what it calls, as `Locked::serve_or_turn` is, so that an event that was just made stays in
+    // registers)
     #[inline(always)]
     pub fn step(
         &mut self,

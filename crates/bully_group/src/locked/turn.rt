@@ -1,5 +1,7 @@
-ghost use Rattle.std.specs.Prelude.{◌≡◌, ◌+◌, ◌<◌, IfOk, IfErr, OnOk, is_ok, true, vec_len, vec_capacity, if◌then◌else◌};
-ghost use Rattle.bully_group.specs.Turns.{IsNodeTurn, IsNodeTurnFault, LeavesInStep, TurnsBy, adds_entry, MayTurn, Goes, IsTurnFault};
+ghost use Rattle.std.specs.Prelude.{◌≡◌, ◌+◌, ◌<◌, IfOk, IfErr, OnOk, is_ok, true, vec_len, vec_capacity};
+ghost use Rattle.std.specs.Prelude.{if◌then◌else◌};
+ghost use Rattle.bully_group.specs.Turns.{IsNodeTurn, IsNodeTurnFault, LeavesInStep, TurnsBy, adds_entry, MayTurn};
+ghost use Rattle.bully_group.specs.Turns.{Goes, IsTurnFault};
 ghost use Rattle.bully_steps.specs.Procedure.{state_of};
 ghost use Rattle.bully_steps.specs.ProcedureState.{HasSameNode};
 ghost use Rattle.bully_world.specs.Turn.{turn, has_table, is_in_step, step_event};
@@ -44,11 +46,13 @@ impl<L: Naming> Locked<L> {
         pass: &mut Pass<L>,
     ) -> Result<NodeTurn, StepFault>
         requires setup { (state_of procedure.old).setup ≡ L.setup }
-        ensures turn { IfOk result (IsNodeTurn self.old seat.old (state_of procedure.old) self.new seat.new (state_of procedure.new)) }
+        ensures turn { IfOk result
+            (IsNodeTurn self.old seat.old (state_of procedure.old) self.new seat.new (state_of procedure.new)) }
         ensures fault { IfErr result (IsNodeTurnFault self.old seat.old (state_of procedure.old)) }
         ensures in_step { IfOk result (LeavesInStep self.new (state_of procedure.new)) }
         ensures same_node { HasSameNode (state_of procedure.old) (state_of procedure.new) }
-        ensures unchanged { IfErr result (λ _. (self.new ≡ self.old) × (seat.new ≡ seat.old) × (state_of procedure.new ≡ state_of procedure.old)) }
+        ensures unchanged { IfErr result (λ _. (self.new ≡ self.old) × (seat.new ≡ seat.old)
+            × (state_of procedure.new ≡ state_of procedure.old)) }
         ensures pass { pass.new ≡ (if adds_entry result then pass.old + 1 else pass.old) }
     {
         if let Some(index) = foreign_index(&self.history, seat) {
@@ -75,11 +79,13 @@ impl<L: Naming> Locked<L> {
     ) -> Result<NodeTurn, StepFault>
         requires setup { (state_of procedure.old).setup ≡ L.setup }
         requires may { MayTurn self.old seat.old (state_of procedure.old) }
-        ensures turn { IfOk result (TurnsBy self.old seat.old (state_of procedure.old) self.new seat.new (state_of procedure.new)) }
+        ensures turn { IfOk result
+            (TurnsBy self.old seat.old (state_of procedure.old) self.new seat.new (state_of procedure.new)) }
         ensures fault { IfErr result (IsTurnFault self.old seat.old (state_of procedure.old)) }
         ensures in_step { IfOk result (LeavesInStep self.new (state_of procedure.new)) }
         ensures same_node { HasSameNode (state_of procedure.old) (state_of procedure.new) }
-        ensures unchanged { IfErr result (λ _. (self.new ≡ self.old) × (seat.new ≡ seat.old) × (state_of procedure.new ≡ state_of procedure.old)) }
+        ensures unchanged { IfErr result (λ _. (self.new ≡ self.old) × (seat.new ≡ seat.old)
+            × (state_of procedure.new ≡ state_of procedure.old)) }
         ensures pass { pass.new ≡ (if adds_entry result then pass.old + 1 else pass.old) }
     {
         match self.world.next(procedure) {
@@ -108,11 +114,13 @@ impl<L: Naming> Locked<L> {
         requires setup { (state_of procedure.old).setup ≡ self.old.world.setup }
         requires may { MayTurn self.old seat.old (state_of procedure.old) }
         requires offered { turn self.old.world (state_of procedure.old) ≡ Next.Take kind }
-        ensures went { OnOk result (Goes self.old seat.old (state_of procedure.old) self.new seat.new (state_of procedure.new)) }
+        ensures went { OnOk result
+            (Goes self.old seat.old (state_of procedure.old) self.new seat.new (state_of procedure.new)) }
         ensures fault { IfErr result (IsTurnFault self.old seat.old (state_of procedure.old)) }
         ensures in_step { OnOk result (is_in_step self.new.world (state_of procedure.new) ≡ true) }
         ensures same_node { HasSameNode (state_of procedure.old) (state_of procedure.new) }
-        ensures unchanged { IfErr result (λ _. (self.new ≡ self.old) × (seat.new ≡ seat.old) × (state_of procedure.new ≡ state_of procedure.old)) }
+        ensures unchanged { IfErr result (λ _. (self.new ≡ self.old) × (seat.new ≡ seat.old)
+            × (state_of procedure.new ≡ state_of procedure.old)) }
         ensures pass { pass.new ≡ (if is_ok result then pass.old + 1 else pass.old) }
     {
         if self.world.is_full() {

@@ -1,6 +1,8 @@
 //! How a member takes in the answers of the store, and what it is told of its work and its end.
 ghost use Rattle.std.specs.Prelude.{◌≡◌, None, Some, true};
-ghost use Rattle.bully_member.specs.Told.{answered, end_for, lost_by, renewed_by, acquired_by, to_end_session, to_snapshot, to_pause, when_answered, when_appended, when_rolled_over, when_promised, when_released, when_renewed, when_acquired};
+ghost use Rattle.bully_member.specs.Told.{answered, end_for, lost_by, renewed_by, acquired_by, to_end_session};
+ghost use Rattle.bully_member.specs.Told.{to_snapshot, to_pause, when_answered, when_appended, when_rolled_over};
+ghost use Rattle.bully_member.specs.Told.{when_promised, when_released, when_renewed, when_acquired};
 ghost use Rattle.bully_member.specs.declared.values.Work.{Work as WorkState};
 
 use super::Member;
@@ -43,7 +45,8 @@ impl Member {
         offset: u32,
         at: u64,
     )
-        ensures { self.new ≡ acquired_by self.old.session self.old (when_acquired self.old now answer session offset at) }
+        ensures { self.new
+            ≡ acquired_by self.old.session self.old (when_acquired self.old now answer session offset at) }
     {
         if self.session != SessionState::Absent {
             return;

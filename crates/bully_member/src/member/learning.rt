@@ -1,6 +1,7 @@
 //! What a member learns of its epoch's log, and how it goes on in the next one.
 ghost use Rattle.std.specs.Prelude.{◌≡◌, ◌≤◌, IfErr, IfOk, List, None, OnOk, Some, [], true, false, replicate};
-ghost use Rattle.bully_member.specs.Learned.{RefusesTerms, after_learning, ending_behind, followed, in_epoch, is_broken, is_following, is_of_log, not_there};
+ghost use Rattle.bully_member.specs.Learned.{RefusesTerms, after_learning, ending_behind, followed, in_epoch};
+ghost use Rattle.bully_member.specs.Learned.{is_broken, is_following, is_of_log, not_there};
 ghost use Rattle.bully_member.specs.Member.{nobody_yet};
 ghost use Rattle.bully_member.specs.Opening.{terms_fault};
 ghost use Rattle.bully_replica.specs.RowReplica.{FollowsUpTo, Stops};
@@ -26,9 +27,11 @@ impl Member {
         alloc: Global,
         reader: &mut RowReader<R>,
     ) -> Result<(), LearnFault>
-        ensures all { OnOk result ((records : List Record) → reader.old.records ≡ Some records → FollowsUpTo records self.old.learned self.new.learned []) }
+        ensures all { OnOk result ((records : List Record) → reader.old.records ≡ Some records
+            → FollowsUpTo records self.old.learned self.new.learned []) }
         ensures part { IfErr result (λ fault. (records : List Record) → reader.old.records ≡ Some records
-            → (left : List Record) × FollowsUpTo records self.old.learned self.new.learned left × Stops reader.old self.old.learned left self.new.learned fault) }
+            → (left : List Record) × FollowsUpTo records self.old.learned self.new.learned left
+            × Stops reader.old self.old.learned left self.new.learned fault) }
         ensures rest { self.new ≡ after_learning self.old self.new.learned result }
         ensures counted { self.old.learned.rows ≤ self.new.learned.rows }
         ensures within { self.new.learned.rows ≤ ROWS_MAX }

@@ -46,9 +46,12 @@ impl Member {
     pub fn rebalance(&self, alloc: Global) -> Result<Vec<Event>, RebalanceFault>
         ensures events { IfOk result (λ events. events.items ≡ rebalance self.now) }
         ensures rebalances { IfOk result (λ events. (log : List EventState) → IsLogOf (replica_of self.now) log
-            → Rebalances (replica_of self.now).world.setup log (table_before (replica_of self.now).last self.now.terms.old) (rebalanced_nodes self.now) events.items) }
-        ensures room { IfOk result (λ events. offset_of self.now + length events.items ≤ (replica_of self.now).world.setup.events_max) }
-        ensures full { IfErr result (λ fault. (fault ≡ FaultState.Full) ↔ ((replica_of self.now).world.setup.events_max < offset_of self.now + length (rebalance self.now))) }
+            → Rebalances (replica_of self.now).world.setup log
+            (table_before (replica_of self.now).last self.now.terms.old) (rebalanced_nodes self.now) events.items) }
+        ensures room { IfOk result (λ events. offset_of self.now + length events.items
+            ≤ (replica_of self.now).world.setup.events_max) }
+        ensures full { IfErr result (λ fault. (fault ≡ FaultState.Full)
+            ↔ ((replica_of self.now).world.setup.events_max < offset_of self.now + length (rebalance self.now))) }
     {
         rebalance(
             alloc,

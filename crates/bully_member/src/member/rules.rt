@@ -1,9 +1,15 @@
 //! What a member does next: the first rule of the table in docs/REBALANCING.md that applies.
 ghost use Rattle.std.specs.Prelude.{◌≡◌, ◌↔◌, ◌≤◌, IsTrue, Bool, None, length, Some};
 ghost use Rattle.bully_base.specs.declared.TheConstants.{NODES_MAX};
-ghost use Rattle.bully_member.specs.Due.{absent_step, due, ending_step, going_step, goes_on, has_to_stop, idle_step, is_due, is_some_token, leaving_step, session_step, noted, live_step, stable_step, stable_wait, unstable_step, rebalance_left, step_by_work, step_of_session, step_unless_awaiting, step_without_session, stopping_step, acquiring_step, token_now};
+ghost use Rattle.bully_member.specs.Due.{absent_step, due, ending_step, going_step, goes_on, has_to_stop, idle_step};
+ghost use Rattle.bully_member.specs.Due.{is_due, is_some_token, leaving_step, session_step, noted, live_step};
+ghost use Rattle.bully_member.specs.Due.{stable_step, stable_wait, unstable_step, rebalance_left, step_by_work};
+ghost use Rattle.bully_member.specs.Due.{step_of_session, step_unless_awaiting, step_without_session, stopping_step};
+ghost use Rattle.bully_member.specs.Due.{acquiring_step, token_now};
 ghost use Rattle.bully_member.specs.Keeping.{Awaits, Keeps};
-ghost use Rattle.bully_member.specs.Member.{AllAreDown, SeesStable, above, all_idle, are_of, is_admitted, group_of, has_room, here, is_alone, is_down, is_closing, most_idle, others_promise, offset_in, offset_of, lease_of, live_of, replica_of, stay_left};
+ghost use Rattle.bully_member.specs.Member.{AllAreDown, SeesStable, above, all_idle, are_of, is_admitted, group_of};
+ghost use Rattle.bully_member.specs.Member.{has_room, here, is_alone, is_down, is_closing, most_idle, others_promise};
+ghost use Rattle.bully_member.specs.Member.{offset_in, offset_of, lease_of, live_of, replica_of, stay_left};
 ghost use Rattle.bully_member.specs.declared.values.Step.{Step as StepState};
 
 use super::Member;
@@ -19,10 +25,12 @@ use bully_base::{NODES_MAX, Node, NodeSet, Status};
 use bully_rebalance::{is_stable, may_work};
 
 impl Member {
-    /// What it does now: the first rule of docs/REBALANCING.md that applies; and it notes that. As long as what it asked for
-    /// isn't answered, by [`Member::answered`] if by nothing else, it asks for nothing else.
+    /// What it does now: the first rule of docs/REBALANCING.md that applies. The member notes that it does this. As
+    /// long as its last request isn't answered, it asks for nothing else: if nothing else answers the request,
+    /// [`Member::answered`] has to.
     pub fn next(&mut self, now: u64) -> Step
-        ensures due { (is_stable are_down : Bool) → (IsTrue is_stable ↔ SeesStable self.old now) → (IsTrue are_down ↔ AllAreDown self.old) → result ≡ due self.old now is_stable are_down }
+        ensures due { (is_stable are_down : Bool) → (IsTrue is_stable ↔ SeesStable self.old now)
+            → (IsTrue are_down ↔ AllAreDown self.old) → result ≡ due self.old now is_stable are_down }
         ensures noted { self.new ≡ noted self.old now result }
         ensures keeps { Keeps self.old now result }
         ensures awaits { Awaits self.old.asked result self.new.asked }

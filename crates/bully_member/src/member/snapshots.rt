@@ -3,7 +3,9 @@ ghost use Rattle.bully_member.specs.declared.opening.TheConstants.{TTL_MAX};
 ghost use Rattle.std.specs.Prelude.{◌≤◌, ◌≡◌, None, Some, true, false, IfErr, IfOk};
 ghost use Rattle.std.specs.Option.{option_copied};
 ghost use Rattle.bully_member.specs.Member.{AreNodes, lease_of};
-ghost use Rattle.bully_member.specs.Told.{alike, arrivals_then, arrived, found, awaits_snapshot, snapshot_read, same_leases, seen_here, stay_of, last_change_then, with_arrival, with_arrivals, with_own};
+ghost use Rattle.bully_member.specs.Told.{alike, arrivals_then, arrived, found, awaits_snapshot, snapshot_read};
+ghost use Rattle.bully_member.specs.Told.{same_leases, seen_here, stay_of, last_change_then, with_arrival};
+ghost use Rattle.bully_member.specs.Told.{with_arrivals, with_own};
 
 use super::Member;
 use crate::times::{first_stay, longer_stay, remembered_for};

@@ -41,7 +41,8 @@ impl<T: Held> Model for Calling<T> {
 
     ghost view = { λ s. record { identity = s.identity; held = s.held; awaits = s.awaits } };
 
-    ghost invariant = { λ s. IsProcedureState (state_at s.identity (T.point s.held) (T.up s.held) (T.coordinator s.held) s.awaits) };
+    ghost invariant = { λ s.
+        IsProcedureState (state_at s.identity (T.point s.held) (T.up s.held) (T.coordinator s.held) s.awaits) };
 }
 
 /// What begins as the state of a procedure.
@@ -50,7 +51,10 @@ pub trait Begins: Held {
     fn begin(self, procedure: &mut Procedure, awaits: bool)
         requires up { IsFallingBelow (state_of procedure.old).node (Self.up self) }
         requires point { IsPointOf (state_of procedure.old).setup (state_of procedure.old).node (Self.point self) }
-        requires inquiry { SuitsInquiry (state_of procedure.old).setup (state_of procedure.old).node (Self.coordinator self) (Self.point self) }
-        requires call { awaits ≡ true → IsCall (offered (state_of procedure.old).setup (Self.coordinator self) (Self.point self)) }
-        ensures { state_of procedure.new ≡ state_at (identity_of (state_of procedure.old)) (Self.point self) (Self.up self) (Self.coordinator self) awaits };
+        requires inquiry { SuitsInquiry (state_of procedure.old).setup (state_of procedure.old).node
+            (Self.coordinator self) (Self.point self) }
+        requires call { awaits ≡ true
+            → IsCall (offered (state_of procedure.old).setup (Self.coordinator self) (Self.point self)) }
+        ensures { state_of procedure.new ≡ state_at (identity_of (state_of procedure.old)) (Self.point self)
+            (Self.up self) (Self.coordinator self) awaits };
 }

@@ -31,7 +31,8 @@ impl Idle {
     /// Makes the procedure its node's idle one.
     #[inline(never)]
     pub(crate) fn begin(procedure: &mut Procedure)
-        ensures { state_of procedure.new ≡ procedure_state (state_of procedure.old).setup (state_of procedure.old).node (state_of procedure.old).generation Point.Idle [] None false }
+        ensures { state_of procedure.new ≡ procedure_state (state_of procedure.old).setup (state_of procedure.old).node
+            (state_of procedure.old).generation Point.Idle [] None false }
     {
         *procedure = Procedure::Idle(Idle {
             identity: *procedure.identity(),

@@ -51,7 +51,8 @@ impl Model for Planned {
 
     ghost view = { λ s. record { identity = s.identity; up = s.up; table = s.table } };
 
-    ghost invariant = { λ s. IsProcedureState (planned (record { identity = s.identity; up = s.up; table = s.table })) };
+    ghost invariant = { λ s.
+        IsProcedureState (planned (record { identity = s.identity; up = s.up; table = s.table })) };
 }
 
 impl Planning {
@@ -59,7 +60,8 @@ impl Planning {
     #[inline(never)]
     pub(crate) fn begin(procedure: &mut Procedure, up: &NodeSet)
         requires up { IsFallingBelow (state_of procedure.old).node up.now }
-        ensures { state_of procedure.new ≡ procedure_state (state_of procedure.old).setup (state_of procedure.old).node (state_of procedure.old).generation Point.Planning up.now None false }
+        ensures { state_of procedure.new ≡ procedure_state (state_of procedure.old).setup (state_of procedure.old).node
+            (state_of procedure.old).generation Point.Planning up.now None false }
     {
         *procedure = Procedure::Planning(Planning {
             identity: *procedure.identity(),
@@ -77,7 +79,10 @@ impl Planning {
         old: Option<&Table>,
     ) -> Result<Planned, (Planning, PlanFault)>
         requires { IfSome (option_copied old) (λ t. length t ≡ self.identity.setup.partitions) }
-        ensures prepared { IfOk result (λ p. planned p ≡ record (planning self) { table = Some (planned_over self.identity.setup (option_copied old.entry) (with_node self.identity.node self.up)) }) }
+        ensures prepared { IfOk result (λ p. planned p ≡ record (planning self) {
+          table =
+              Some (planned_over self.identity.setup (option_copied old.entry) (with_node self.identity.node self.up));
+        }) }
         ensures same { IfErr result (λ back. back.0 ≡ self) }
         ensures fault { IfErr result (λ back. back.1 ≡ PlanFault.OutOfMemory) }
     {
@@ -98,7 +103,8 @@ impl Planning {
         old: Option<&Table>,
     ) -> Result<Table, PlanFault>
         requires { IfSome (option_copied old) (λ t. length t ≡ self.now.identity.setup.partitions) }
-        ensures planned { IfOk result (λ table. table ≡ planned_over self.now.identity.setup (option_copied old.entry) (with_node self.now.identity.node self.now.up)) }
+        ensures planned { IfOk result (λ table. table ≡ planned_over self.now.identity.setup (option_copied old.entry)
+            (with_node self.now.identity.node self.now.up)) }
         ensures balanced { IfOk result (IsPlannedOver self.now.identity.setup self.now.identity.node self.now.up) }
         ensures fault { IfErr result (λ fault. fault ≡ PlanFault.OutOfMemory) }
     {

@@ -134,8 +134,8 @@ fn weight_of(setup: &Setup, number: u16) -> Option<u16> {
     Some(setup.weight(node))
 }
 
-// Whether there is a setup, and it tells 3 nodes, 7 partitions and 9 events, these weights of the first four nodes, and this of what
-// is kept.
+// Whether there is a setup, and it tells 3 nodes, 7 partitions and 9 events, these weights of the first four nodes, and
+// this of what is kept.
 fn is_told(setup: Result<Setup, SetupFault>, weights: [Option<u16>; 4], keeps: bool) -> bool {
     let Ok(setup) = setup else {
         return false;

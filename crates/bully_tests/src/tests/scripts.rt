@@ -18,8 +18,8 @@ saw,1,normal,1,1,-,1 1\n";
 pub const KEPT: &str = "\
 bully,2,1,2,1,keep\nrecover,1\nmove,1\nmove,1\nmove,1\nplan,1,1 1\nmove,1\ncrash,1\n";
 
-/// Node 2 leads itself alone, in a group that keeps tasks, and then it crashes. The rows say more, and claims tell all of a
-/// vector.
+/// Node 2 leads itself alone, in a group that keeps tasks, and then it crashes. The rows say more, and claims tell all
+/// of a vector.
 pub const TOLD: &str = "\
 bully,3,2,3,2 1,keep\nrecover,2\nsaw,2,election,-,-,-,-\nmove,2\nstart,2,halt,1\nlose,2,halt,1\n\
 return,2,halt,1,failed\nmove,2\nmove,2\nplan,2,2 2 2\nsaw,2,reorganization,2,2,-,2 2 2\nmove,2\n\

@@ -20,8 +20,8 @@ impl<L: Naming> Hand<L> {
         }
     }
 
-    /// The operator lets the node of this number crash, or recover, in one hold of the lock. What the world refuses is passed over. Whether the
-    /// turn could be taken.
+    /// The operator lets the node of this number crash, or recover, in one hold of the lock. What the world refuses is
+    /// passed over. Whether the turn could be taken.
     pub fn operate<R: Wait>(
         &mut self,
         rt: &R,

@@ -30,8 +30,8 @@ impl Sums {
         }
     }
 
-    // Plans from the old table for the members of these bits, and adds the plan. A sum goes on at 0 behind the largest number.
-    // None where there is no plan, as for a table of another length.
+    // Plans from the old table for the members of these bits, and adds the plan. A sum goes on at 0 behind the largest
+    // number. None where there is no plan, as for a table of another length.
     fn add_plan(&mut self, alloc: Global, setup: &Setup, old: &Table, bits: u64) -> Option<()> {
         let members = members_of(bits);
         if old.len() != usize::from(setup.partitions()) || !setup.has_all(&members) {
@@ -45,8 +45,8 @@ impl Sums {
     }
 }
 
-/// Plans as often as asked, from 64 random tables in turn, each time for a random set of members: what the plans come to.
-/// None where an allocation fails.
+/// Plans as often as asked, from 64 random tables in turn, each time for a random set of members: what the plans come
+/// to. None where an allocation fails.
 pub fn plan_rounds(alloc: Global, rounds: u32) -> Option<Sums> {
     let mut random = SplitMix64::seed_from_u64(1982);
     let setup = Setup::new(NODES, PARTITIONS, 1).ok()?;

@@ -67,8 +67,8 @@ impl<L: Naming> Team<L> {
         }
     }
 
-    // The operator's turn: all recover in the first round; the last node crashes once in a period, and recovers half way
-    // between.
+    // The operator's turn: all recover in the first round; the last node crashes once in a period, and recovers half
+    // way between.
     fn operate<R: Wait>(&mut self, rt: &R, group: &Group<L>, round: u32) -> bool {
         if round == 1 {
             return self.recover_all(rt, group);

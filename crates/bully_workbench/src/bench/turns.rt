@@ -19,8 +19,8 @@ pub struct Taken {
     pub made: u64,
 }
 
-/// Takes so many turns of nodes, one after the other, in a new group with four partitions for each node. None where a turn can't be
-/// taken, or for a number of nodes that no group has.
+/// Takes so many turns of nodes, one after the other, in a new group with four partitions for each node. None where a
+/// turn can't be taken, or for a number of nodes that no group has.
 pub fn take_turns<R: Wait>(rt: &R, alloc: Global, nodes: u16, count: u32) -> Option<Taken> {
     let partitions = nodes.checked_mul(4)?;
     let setup = Setup::new(nodes, partitions, EVENTS_MAX).ok()?;

@@ -234,7 +234,8 @@ fn in_threads<L: Naming + Send + Sync, R: Threads + Wait + Sync>(
     }
 }
 
-// All looks and publishes, the largest number of entries that was seen, and what the last views make. None where one has none.
+// All looks and publishes, the largest number of entries that was seen, and what the last views make. None where one
+// has none.
 fn sum_of(all: &[Option<Watched>]) -> Option<Watched> {
     let mut sum = NOTHING;
     for one in all {

@@ -30,7 +30,8 @@ pub fn group_call<R: Print + Wait>(trial: &Trial<R>, asked: Asked) -> Option<Out
     tried_by::<Brand, R>(trial, asked, setup, blank)
 }
 
-// Opens the group, which is the call or comes before it. It is opened again where that is refused: the blank comes back then.
+// Opens the group, which is the call or comes before it. It is opened again where that is refused: the blank comes back
+// then.
 fn tried_by<L: Naming, R: Print + Wait>(
     trial: &Trial<R>,
     asked: Asked,
@@ -84,8 +85,8 @@ fn open_by<L: Naming>(
     }
 }
 
-// A call on a group behind those events that come before it. The group is ended then; the call that opened it was refused at
-// first, or not.
+// A call on a group behind those events that come before it. The group is ended then; the call that opened it was
+// refused at first, or not.
 fn opened_call<L: Naming, R: Print + Wait>(
     trial: &Trial<R>,
     asked: Asked,

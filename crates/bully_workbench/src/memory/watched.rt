@@ -106,8 +106,8 @@ pub fn watching_call<R: Print + Wait>(trial: &Trial<R>, watching: Watching) -> O
     watched_by::<Brand, R>(trial, watching, setup, publisher, observer, blank)
 }
 
-// Opens the watched group, which is the call or comes before it. It is opened again where that is refused: publisher and blank
-// come back then.
+// Opens the watched group, which is the call or comes before it. It is opened again where that is refused: publisher
+// and blank come back then.
 fn watched_by<L: Naming, R: Print + Wait>(
     trial: &Trial<R>,
     watching: Watching,
@@ -255,8 +255,8 @@ fn look_call<R: Print>(trial: &Trial<R>, observer: &mut Observer) -> Option<Outc
     }
 }
 
-// A publish of the crashes. Where it is refused memory, the group is as it was, and the observer sees what it saw; and what is
-// seen in the end is the last crash.
+// A publish of the crashes. Where it is refused memory, the group is as it was, and the observer sees what it saw; and
+// what is seen in the end is the last crash.
 fn crashes_call<L: Naming, R: Print + Wait>(
     trial: &Trial<R>,
     opened: &mut Opened<L>,

@@ -21,8 +21,8 @@ pub enum Turns {
     OfWorld(u32),
 }
 
-/// Tells how many events of the trace were followed, up to one that is refused, before these turns were taken. None where nodes on
-/// their own aren't those of the world, where a turn is refused, or where memory is.
+/// Tells how many events of the trace were followed, up to one that is refused, before these turns were taken. None
+/// where nodes on their own aren't those of the world, where a turn is refused, or where memory is.
 pub fn tell_followed<R: Print, I: Read + Drop>(
     rt: &R,
     alloc: Global,
@@ -146,8 +146,8 @@ fn actors_of(alloc: Global, setup: &Setup) -> Option<Vec<Actor>> {
     Some(actors)
 }
 
-// What the event is answered, or why it is refused; none where there is no such node, or nothing on its way, or where memory is
-// refused.
+// What the event is answered, or why it is refused; none where there is no such node, or nothing on its way, or where
+// memory is refused.
 fn take(actors: &mut [Actor], event: &Event) -> Option<Result<Answer, Refused>> {
     let place = place_of(event.node());
     match event {

@@ -6,8 +6,8 @@ use bully_trace::{Verdict, verdict_lines};
 use std::alloc::Global;
 use std::io::{Read, Write};
 
-/// Learns the rows of a trace up to the first with which something is wrong, and writes the verdict that this is. None of a trace
-/// with a fault of form before that.
+/// Learns the rows of a trace up to the first with which something is wrong, and writes the verdict that this is. None
+/// of a trace with a fault of form before that.
 pub fn learn_trace<R: Read + Drop, W: Write>(
     alloc: Global,
     input: R,

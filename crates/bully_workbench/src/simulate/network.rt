@@ -30,8 +30,9 @@ enum Mail {
     Tell(Reply, Call),
 }
 
-/// Nodes on their own, what is on its way between them, and their log: rows in which all is said. It delays what they tell each other
-/// while nodes crash and recover. A step that answers nothing was refused memory, or an agent refused what it shouldn't.
+/// Nodes on their own, what is on its way between them, and their log: rows in which all is said. It delays what they
+/// tell each other while nodes crash and recover. A step that answers nothing was refused memory, or an agent refused
+/// what it shouldn't.
 #[derive(Drop)]
 pub struct Network {
     alloc: Global,
@@ -45,8 +46,8 @@ pub struct Network {
 }
 
 impl Network {
-    /// Nodes that are all Down. One of them crashes or recovers in every tenth step; of every third seed in every hundredth, so
-    /// that more elections come to their end.
+    /// Nodes that are all Down. One of them crashes or recovers in every tenth step; of every third seed in every
+    /// hundredth, so that more elections come to their end.
     pub fn new(alloc: Global, setup: &Setup, seed: u64, breach: Breach) -> Option<Network> {
         let agents = agents_of(alloc, setup)?;
         Some(Network {

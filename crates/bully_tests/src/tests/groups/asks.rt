@@ -70,10 +70,11 @@ pub enum Ask {
     Watch(Watch),
 }
 
-/// A group, watched by two observers or by nobody, whose procedure is held, and what is asked. Then the seats may be used
-/// on another group. A line is told of each ask, and then one of a finish without the last seat, one without the last pass,
-/// and one of the finish with all of them. Of a finished group a line more tells the view of the node; and where it is
-/// watched, there is a look of the first observer then, and one once it is ended. The history begins with these entries.
+/// A group, watched by two observers or by nobody, whose procedure is held, and what is asked. Then the seats may be
+/// used on another group. A line is told of each ask, and then one of a finish without the last seat, one without the
+/// last pass, and one of the finish with all of them. Of a finished group a line more tells the view of the node; and
+/// where it is watched, there is a look of the first observer then, and one once it is ended. The history begins with
+/// these entries.
 #[derive(Clone, Copy)]
 pub struct Case {
     pub nodes: u16,

@@ -57,7 +57,8 @@ impl Model for Watchers {
 
     ghost view = { λ w. w.first.publisher };
 
-    ghost invariant = { λ w. (w.second.publisher ≡ w.first.publisher) × IfSome w.told (λ t. t.publisher ≡ w.first.publisher) × IfSome w.more_told (λ t. t.publisher ≡ w.first.publisher) };
+    ghost invariant = { λ w. (w.second.publisher ≡ w.first.publisher) × IfSome w.told (λ t.
+        t.publisher ≡ w.first.publisher) × IfSome w.more_told (λ t. t.publisher ≡ w.first.publisher) };
 }
 
 impl Watchers {
@@ -125,8 +126,8 @@ impl Watchers {
         }
     }
 
-    // Whether a glance at node 1 shows what was seen of it, and one at the last node of all, which no group here has, is
-    // refused; both are Gone where the look was.
+    // Whether a glance at node 1 shows what was seen of it, and one at the last node of all, which no group here has,
+    // is refused; both are Gone where the look was.
     fn glances_as(&mut self, observer: Which, seen: &Result<View, LookFault>) -> bool
         ensures { self.new ≡ self.old }
     {

@@ -195,8 +195,8 @@ entries: 11
     ],
 };
 
-// Node 1 takes whole turns. Node 2 recovers and halts it: the Halt runs by such a turn, which leaves the procedure as it
-// was, and the next one resyncs. Then there is nothing to do; with a procedure of node 1, no other actor has a turn.
+// Node 1 takes whole turns. Node 2 recovers and halts it: the Halt runs by such a turn, which leaves the procedure as
+// it was, and the next one resyncs. Then there is nothing to do; with a procedure of node 1, no other actor has a turn.
 const NODE_TURNS: Case = Case {
     nodes: 2,
     partitions: 2,

@@ -127,8 +127,8 @@ impl<L: Naming> Opened<L> {
     }
 }
 
-/// Tells why the group isn't finished without its last seat, and why without its last pass. Then its finish; or the group,
-/// and it is told why it has none.
+/// Tells why the group isn't finished without its last seat, and why without its last pass. Then its finish; or the
+/// group, and it is told why it has none.
 pub fn ended<L: Naming>(opened: Opened<L>, text: &mut String) -> Result<Closed, Opened<L>> {
     match without_one(opened, Part::Seat, text) {
         Ok(closed) => Ok(closed),

@@ -18,9 +18,9 @@ use std::mem;
 use std::sync::Wait;
 use std::sync::ledger::Blank;
 
-/// What is done with a second group of so many nodes: the seat of this actor in the first group and the one at this place
-/// in the second are swapped, and the second is asked, also with the seat that isn't its own. Then each seat goes back, or
-/// not, and the second group is finished, before the first one. In both a procedure of node 1 is held.
+/// What is done with a second group of so many nodes: the seat of this actor in the first group and the one at this
+/// place in the second are swapped, and the second is asked, also with the seat that isn't its own. Then each seat goes
+/// back, or not, and the second group is finished, before the first one. In both a procedure of node 1 is held.
 #[derive(Clone, Copy)]
 pub struct Other {
     pub nodes: u16,
@@ -43,7 +43,8 @@ pub const DEALS: &[Case] = &[
     FOREIGN_PUBLISH,
 ];
 
-// Node 1 recovers in the first group, and then the same is tried in the second one with that seat, and a view and turns.
+// Node 1 recovers in the first group, and then the same is tried in the second one with that seat, and a view and
+// turns.
 const FOREIGN: Case = Case {
     nodes: 1,
     partitions: 2,

@@ -72,8 +72,8 @@ const EVEN: [(u16, &str, u16); 3] = [(1, "a", 1), (2, "b", 1), (3, "c", 1)];
 /// The same with weights.
 const HEAVY: [(u16, &str, u16); 3] = [(1, "a", 1), (2, "b", 1000), (3, "c", 2)];
 
-/// A configuration, and what is read of it: its numbers, and whether tasks are kept; the nodes, of which the first configuration
-/// has one alone; and how many faults there are.
+/// A configuration, and what is read of it: its numbers, and whether tasks are kept; the nodes, of which the first
+/// configuration has one alone; and how many faults there are.
 struct Expected {
     text: &'static str,
     nodes: u16,

@@ -24,8 +24,8 @@ fn largest(rt: &impl Abort) -> Setup {
     setup(rt, NODES, PARTITIONS, 1_000)
 }
 
-// Adds the text of the table in which each node in turn owns four partitions: 1 1 1 1 2 2 2 2, and so on to the last node.
-// (where a number isn't written, the text is no table)
+// Adds the text of the table in which each node in turn owns four partitions: 1 1 1 1 2 2 2 2, and so on to the last
+// node. (where a number isn't written, the text is no table)
 fn add_fours(text: &mut String) {
     let _ = text.push_str("1");
     for place in 1..PARTITIONS {

@@ -8,8 +8,8 @@ use bully_base::{Node, NodeSet, Setup, SetupFault};
 use bully_table::{PlanFault, Table, plan};
 use std::alloc::Global;
 
-// A group of 1 to 3 nodes and 1 to 5 partitions, what its nodes weigh, and their shares: what each of them weighs as a member,
-// and nothing where it is none.
+// A group of 1 to 3 nodes and 1 to 5 partitions, what its nodes weigh, and their shares: what each of them weighs as a
+// member, and nothing where it is none.
 #[derive(Clone, Copy)]
 struct Case {
     nodes: u16,

@@ -10,8 +10,8 @@ use bully_table::Table;
 use bully_world::Event;
 use std::alloc::Global;
 
-/// Whom a settled group has: how many events settle it, the last plan's token then, and on what a node's process may work behind
-/// the log that was settled.
+/// Whom a settled group has: how many events settle it, the last plan's token then, and on what a node's process may
+/// work behind the log that was settled.
 struct Settled {
     events: usize,
     token: u32,

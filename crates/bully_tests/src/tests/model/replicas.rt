@@ -48,7 +48,8 @@ pub fn replica_of(alloc: Global, text: &str) -> Option<Replica> {
     Some(replica)
 }
 
-// Whether each event of the log is what its node appends next, and these are its events, the token of its last plan and its planner.
+// Whether each event of the log is what its node appends next, and these are its events, the token of its last plan and
+// its planner.
 fn is_grown(alloc: Global, text: &str, events: u32, token: u32, planner: u16) -> bool {
     match replica_of(alloc, text) {
         Some(replica) => replica.events() == events

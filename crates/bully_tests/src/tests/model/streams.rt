@@ -33,8 +33,8 @@ const READS: [(usize, u32); 9] = [
     (111, 14),
 ];
 
-// Whether a script of so many bytes, behind which the reader fails, is neither judged nor upgraded nor read, for that at this row, and
-// nothing is written.
+// Whether a script of so many bytes, behind which the reader fails, is neither judged nor upgraded nor read, for that
+// at this row, and nothing is written.
 fn fails_behind(alloc: Global, bytes: usize, row: u32) -> bool {
     let Some(text) = OTHERS_DOWN.as_bytes().get(..bytes) else {
         return false;

@@ -1,5 +1,5 @@
-//! What is read of traces and written again, and how many rows an upgrade tells. Verdicts, and what is refused, the cases of
-//! `tests/cases` show.
+//! What is read of traces and written again, and how many rows an upgrade tells. Verdicts, and what is refused, the
+//! cases of `tests/cases` show.
 
 use super::weight_of;
 use crate::tests::scripts::{

@@ -58,8 +58,8 @@ const DROPPED_TOLD: [ApplyAnswer; 13] = [
     (Err(Refused::NoCall), None),
 ];
 
-/// A trace, a bound on events, and what is told of each event, with who waits for the first node; at last how many events there
-/// are, and the status and the generation of the second node.
+/// A trace, a bound on events, and what is told of each event, with who waits for the first node; at last how many
+/// events there are, and the status and the generation of the second node.
 struct Case {
     trace: &'static str,
     events_max: u32,

@@ -11,7 +11,8 @@ use bully_world::Refused;
 use cluster::{Cluster, Input, new_agent};
 use std::alloc::Global;
 
-/// Lines of requests in a group of three nodes with three partitions and 1,000 events, which are written as they are read.
+/// Lines of requests in a group of three nodes with three partitions and 1,000 events, which are written as they are
+/// read.
 const REQUESTS: [&str; 5] = [
     "ask,3,0,1,are-you-up",
     "ask,1,17,3,are-you-normal",
@@ -291,8 +292,8 @@ fn a_reply_to_another_call(rt: HostRuntime) {
 /// A request without a table: its caller, its call and the callee.
 type Asked = (u16, CallKind, u16);
 
-/// What comes to the second node of that group, with so many events told before it was made, and whether it then recovers;
-/// and why the request is refused.
+/// What comes to the second node of that group, with so many events told before it was made, and whether it then
+/// recovers; and why the request is refused.
 const REFUSED: [(u32, bool, Asked, Refused); 9] = [
     (999, true, (3, CallKind::Halt, 2), Refused::Full),
     (999, true, (4, CallKind::Halt, 2), Refused::Full),

@@ -20,11 +20,11 @@ pub enum Rule {
     Open,
     /// Nodes 1 and 2 wait for each other before their first turns.
     Meeting,
-    /// Node 1 waits before its first turn until the operator has taken its own, behind which the operator waits until node
-    /// 1 has taken all of its six.
+    /// Node 1 waits before its first turn until the operator has taken its own, behind which the operator waits until
+    /// node 1 has taken all of its six.
     OperatorFirst,
-    /// The operator and three nodes wait for the turn before their own: in each turn the operator goes first, and then the
-    /// nodes in rising order.
+    /// The operator and three nodes wait for the turn before their own: in each turn the operator goes first, and then
+    /// the nodes in rising order.
     InRounds,
 }
 
