@@ -1,4 +1,5 @@
 use super::network::{Breach, Network};
+use super::random::Random;
 use bully_base::{EVENTS_MAX, Setup};
 use bully_rows::{ROWS_MAX, Row, Rows, Trace, write_trace};
 use std::alloc::Global;
@@ -31,16 +32,41 @@ pub fn tell_requests<R: Print>(rt: &R, alloc: Global, simulation: &Simulation) -
     println!(rt; "requests {requests}").ok()
 }
 
-// What the network is set up with: as many partitions as nodes; of an even seed tasks are kept over a crash.
+// The weights that nodes may have.
+const WEIGHTS: [u16; 4] = [1, 2, 3, 7];
+
+// What the network is set up with. With an even seed tasks are kept over a crash. Two seeds of four have as many
+// partitions as nodes, and nodes of weight 1; the others up to three times as many, and nodes of any of the weights.
 fn setup_of(simulation: &Simulation) -> Option<Setup> {
-    let nodes = simulation.nodes;
-    let ones = [1; 16];
-    let weights = ones.get(..usize::from(nodes))?;
-    let keeps = simulation.seed % 2 == 0;
-    Setup::weighted(nodes, nodes, EVENTS_MAX, weights, keeps).ok()
+    let nodes = usize::from(simulation.nodes);
+    let mut weights = [1; 16];
+    let own = weights.get_mut(..nodes)?;
+    let partitions = if simulation.seed % 4 < 2 {
+        simulation.nodes
+    } else {
+        let mut random = Random(simulation.seed);
+        weigh(own, &mut random)?;
+        u16::try_from(1 + random.below(3 * nodes)?).ok()?
+    };
+    Setup::weighted(
+        simulation.nodes,
+        partitions,
+        EVENTS_MAX,
+        own,
+        simulation.seed % 2 == 0,
+    )
+    .ok()
 }
 
-// The network behind its steps, at whose end each node's vector stands.
+// Each node gets one of the weights.
+fn weigh(own: &mut [u16], random: &mut Random) -> Option<()> {
+    for weight in own {
+        *weight = *WEIGHTS.get(random.below(WEIGHTS.len())?)?;
+    }
+    Some(())
+}
+
+// The network after its steps, with each node's vector at the end of its log.
 fn network_of(alloc: Global, setup: &Setup, simulation: &Simulation) -> Option<Network> {
     let mut network = Network::new(alloc, setup, simulation.seed, simulation.breach)?;
     network.run(simulation.steps)?;
