@@ -36,12 +36,12 @@ pub fn tell_requests<R: Print>(rt: &R, alloc: Global, simulation: &Simulation) -
 const WEIGHTS: [u16; 4] = [1, 2, 3, 7];
 
 // What the network is set up with. With an even seed tasks are kept over a crash. Two seeds of four have as many
-// partitions as nodes, and nodes of weight 1; the others up to three times as many, and nodes of any of the weights.
+// partitions as nodes, and nodes of weight 1; the others up to three times as many, and nodes of several weights.
 fn setup_of(simulation: &Simulation) -> Option<Setup> {
     let nodes = usize::from(simulation.nodes);
     let mut weights = [1; 16];
     let own = weights.get_mut(..nodes)?;
-    let partitions = if simulation.seed % 4 < 2 {
+    let partitions = if simulation.seed % 4 > 1 {
         simulation.nodes
     } else {
         let mut random = Random(simulation.seed);
