@@ -41,7 +41,7 @@ fn setup_of(simulation: &Simulation) -> Option<Setup> {
     let nodes = usize::from(simulation.nodes);
     let mut weights = [1; 16];
     let own = weights.get_mut(..nodes)?;
-    let partitions = if simulation.seed % 4 > 1 {
+    let partitions = if matches!(simulation.seed % 4, 1 | 2) {
         simulation.nodes
     } else {
         let mut random = Random(simulation.seed);
