@@ -12,8 +12,8 @@
 //! - The library takes memory from the C library, whichever allocator the program has, and gives it back itself.
 
 use crate::raw::{
-    self, bully_agent, bully_group, bully_member, bully_member_state, bully_lease,
-    bully_replica, bully_setup, bully_state, bully_status, bully_step, bully_verdict,
+    self, bully_agent, bully_group, bully_lease, bully_member, bully_member_state, bully_replica,
+    bully_setup, bully_state, bully_status, bully_step, bully_verdict,
 };
 use crate::setup::Setup;
 use crate::shown::Owned;
@@ -415,10 +415,7 @@ impl MemberHandle {
         })
     }
 
-    pub(crate) fn owned_of(
-        &self,
-        lease: &bully_lease,
-    ) -> Result<Option<Owned>, bully_status> {
+    pub(crate) fn owned_of(&self, lease: &bully_lease) -> Result<Option<Owned>, bully_status> {
         owned_of(|token, room, count| {
             let (at, partitions, size) = (self.0.get(), room.as_mut_ptr(), room.len());
             // SAFETY: the handle is open, and no other call of it is under way. The room is as long as is said.

@@ -19,12 +19,13 @@ pub use agent::{Agent, AgentBuilder};
 pub use configuration::{Configuration, ConfigurationError};
 pub use faults::{
     FormFault, HeaderError, LearnError, LearnFault, LineFault, LogError, MembersError, NodeFault,
-    OpenError, OpeningError, OutOfMemory, OwnedError, PlanError, PrepareError, Refused, ReplyError,
-    RowError, SeenError, ServeError, RebalanceError, SetupFault, TableFault, TermsFault, TraceFault,
+    OpenError, OpeningError, OutOfMemory, OwnedError, PlanError, PrepareError, RebalanceError,
+    Refused, ReplyError, RowError, SeenError, ServeError, SetupFault, TableFault, TermsFault,
+    TraceFault,
 };
 pub use member::{
-    Ending, Session, SessionState, Member, MemberState, Opening, Lease, Promise, Request, Seen, Step,
-    StoreAnswer, Until, Work, TTL_MAX, TTL_MIN,
+    Ending, Lease, Member, MemberState, Opening, Promise, Request, Seen, Session, SessionState,
+    Step, StoreAnswer, Until, Work, TTL_MAX, TTL_MIN,
 };
 pub use replica::{Replica, ReplicaEvent};
 pub use setup::{Setup, EVENTS_MAX, NODES_MAX, PARTITIONS_MAX, WEIGHT_MAX};

@@ -3,9 +3,9 @@
 use crate::calls::{self, unexpected, unexpected_number, MemberHandle, RawOpening};
 use crate::coded::coded;
 use crate::faults::{
-    LearnError, LearnFault, NodeFault, OpeningError, OutOfMemory, SeenError, RebalanceError,
+    LearnError, LearnFault, NodeFault, OpeningError, OutOfMemory, RebalanceError, SeenError,
 };
-use crate::raw::{self, bully_member_state, bully_lease, bully_step};
+use crate::raw::{self, bully_lease, bully_member_state, bully_step};
 use crate::replica::text_of;
 use crate::shown::{known, Group, Owned, State};
 use std::fmt;

@@ -2,7 +2,7 @@
 
 use crate::calls::{self, unexpected, ReplicaHandle};
 use crate::faults::{
-    LearnError, LearnFault, LogError, NodeFault, OwnedError, RowError, RebalanceError,
+    LearnError, LearnFault, LogError, NodeFault, OwnedError, RebalanceError, RowError,
 };
 use crate::raw;
 use crate::shown::{Group, Owned, State};
@@ -96,7 +96,11 @@ impl Replica {
     ///
     /// The replica doesn't learn them. Append them to the log right after the rows that were learned, with nothing
     /// between, and in one process alone, and then learn them.
-    pub fn rebalance(&self, live: &[u16], old: Option<&[u16]>) -> Result<Vec<String>, RebalanceError> {
+    pub fn rebalance(
+        &self,
+        live: &[u16],
+        old: Option<&[u16]>,
+    ) -> Result<Vec<String>, RebalanceError> {
         let text = self.handle.rebalance(live, old.unwrap_or_default());
         Ok(calls::rows_of(&text.map_err(RebalanceError::told)?))
     }

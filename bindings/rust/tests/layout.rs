@@ -188,7 +188,7 @@ macro_rules! layouts {
             $(
                 let (field, offset) = (stringify!($field), offset_of!(raw::$kind, $field));
                 let size = size_of_field(|held: &raw::$kind| &raw const held.$field);
-                claims.push(format!("_Static_assert(offsetof({kind}, {field}) == {place} && sizeof((({kind} *)0)->{field}) == {size}, \"{kind}.{field}\");"));
+                claims.push(format!("_Static_assert(offsetof({kind}, {field}) == {offset} && sizeof((({kind} *)0)->{field}) == {size}, \"{kind}.{field}\");"));
             )+
         )*
         claims
