@@ -1,5 +1,6 @@
 """The parts of what is tried, and how they run: each as soon as what it needs is built, beside the others. Over what is built without proofs
 here for `bin/test`, and over what the gate proves for `bin/prove`."""
+import resource
 import shutil
 import tempfile
 import time
@@ -138,8 +139,9 @@ class Run:
             return said.read().decode(errors='replace'), status, time.monotonic() - began
 
     def run(self, make: Callable[[ThreadPoolExecutor], bool]) -> bool:
-        """Runs the parts beside what makes the things that they need, and adds their counts. Returns what that gave. If this command is ended
-        meanwhile, what runs is ended, too; then those that wait go on, and begin nothing."""
+        """Runs the parts beside what makes the things that they need, adds their counts, and prints how long all took. Returns what that gave. If
+        this command is ended meanwhile, what runs is ended, too; then the parts that wait continue, and start nothing."""
+        began = time.monotonic()
         with ThreadPoolExecutor(len(self.parts) + len(self.done) + 1) as pool, ExitStack() as behind, self.children:
             behind.callback(self.all_are_done)
             begun = {pool.submit(self.try_part, part): part.name for part in self.parts}
@@ -150,6 +152,9 @@ class Run:
                 said, status, seconds = ended.result()
                 print(f'{said.rstrip()}\n== {begun[ended]}: {seconds:.0f} s', flush=True)
                 self.counts.add(said, status, begun[ended])
+        own, children = (resource.getrusage(whose) for whose in (resource.RUSAGE_SELF, resource.RUSAGE_CHILDREN))
+        processor = sum(each.ru_utime + each.ru_stime for each in (own, children))
+        print(f'== all: {time.monotonic() - began:.0f} s, {processor:.0f} s of processor time', flush=True)
         return is_green
 
 
