@@ -18,10 +18,9 @@
 `init` makes the log of a group, in a file or in etcd. The log keeps the group's settings, including the names of its
 nodes. `run` starts the worker when its node owns partitions, with BULLY_NODE, BULLY_TOKEN, BULLY_PARTITIONS,
 BULLY_COORDINATOR, BULLY_SETTINGS and BULLY_SETTINGS_FILE in the environment of the worker, and stops it before another
-node can own them. `run` finds the settings in the log; if you also give it a configuration, the group must have it,
-have had it, or be requested to have it. `resize` gives the group other settings: a new epoch starts, with a log of its
-own. `prune` removes old epochs. The default of --log is BULLY_LOG of the environment. `docs/MEMBERS.md` explains all
-commands.
+node can own them. `run` finds the settings in the log; it refuses a configuration that the group neither has, nor had,
+nor is requested to have. `resize` gives the group other settings: a new epoch starts, with a log of its own. `prune`
+removes old epochs. The default of --log is BULLY_LOG of the environment. `docs/MEMBERS.md` explains all commands.
 """
 from __future__ import annotations
 
@@ -108,7 +107,7 @@ def parser() -> argparse.ArgumentParser:
     of['history'].add_argument('--times', action='store_true', help=times)
     wanted = of['resize'].add_mutually_exclusive_group(required=True)
     wanted.add_argument('--config', metavar='FILE', help='the new configuration of the group')
-    wanted.add_argument('--cancel', action='store_true', help='take back the requested settings')
+    wanted.add_argument('--cancel', action='store_true', help='cancel the request to resize')
     all_new = 'allow a configuration that keeps no current member; all of them stop'
     of['resize'].add_argument('--all-new', action='store_true', help=all_new)
     keep = 'how many epochs to keep, including the current one'
@@ -138,7 +137,7 @@ def add_words_of_init(init: argparse.ArgumentParser) -> None:
 def add_words_of_run(run: argparse.ArgumentParser) -> None:
     """Adds the options of a member."""
     run.add_argument('--node', required=True, metavar='NODE', help='the name of the node')
-    config = 'a configuration: the group must have it, have had it, or be requested to have it'
+    config = 'a configuration that the group has, had, or is requested to have; others are refused'
     run.add_argument('--config', metavar='FILE', help=config)
     about = f'how long the lease lasts without a renewal (default: that of the log, or else {TTL:g})'
     add_seconds(run, '--ttl', about)
@@ -146,7 +145,7 @@ def add_words_of_run(run: argparse.ArgumentParser) -> None:
     talk = 'keep the worker running during changes, and report them to it as lines of JSON'
     run.add_argument('--talk', action='store_true', help=talk)
     run.add_argument('--listen', metavar='HOST:PORT', help='serve a page, probes and metrics over HTTP')
-    more = 'answer requests by this host, too: a name, an address, or * for any'
+    more = 'also answer requests whose Host is this: a name, an address, or * for any'
     run.add_argument('--allow-host', action='append', default=[], metavar='NAME', help=more)
     run.add_argument('--quiet', action='store_true', help='write only warnings and errors')
     form = 'the format of messages on standard error (default: text)'
@@ -484,7 +483,7 @@ def completion_command(options: argparse.Namespace) -> int:
 COMMANDS: dict[str, tuple[Callable[[argparse.Namespace], int], str]] = {
     'init': (init_command, 'make the log of a group'),
     'run': (run_command, 'run a worker while its node owns partitions'),
-    'status': (status_command, 'show the state of the group'),
+    'status': (status_command, 'show the state of the group, and exit with 0 if all is well, otherwise with 1'),
     'history': (history_command, 'write the log of an epoch as a trace'),
     'resize': (resize_command, 'give the group other settings, in a new epoch'),
     'switchover': (switchover_command, 'make another node the coordinator, in a new epoch'),
@@ -493,7 +492,7 @@ COMMANDS: dict[str, tuple[Callable[[argparse.Namespace], int], str]] = {
     'pause': (maintenance_command, 'stop rebalancing the group until resume; members that work continue'),
     'resume': (maintenance_command, 'end a pause'),
     'prune': (prune_command, 'remove old epochs'),
-    'repair': (repair_command, 'show what is damaged in a log, and cut it with --cut'),
+    'repair': (repair_command, 'show what is damaged in a log, and with --cut remove it'),
     'completion': (completion_command, 'write a script by which a shell completes these commands'),
 }
 
@@ -511,8 +510,8 @@ def main(words: list[str] | None = None) -> int:
     """Runs the command with these words. Returns its exit status: 0; 1 if the worker or its watchdog ended by itself,
     the worker or the epoch didn't end, or the group isn't well; 2 for bad options; 3 for a bad configuration, or a log
     that belongs to another group, or is damaged; 4 if the log or a file can't be used now; 5 if the group has no such
-    node; 6 if no further try helps: the log has another form, the address to listen on can't be used, the library isn't
-    there, or the kernel doesn't list children; 7 if there already is a log; 141 if nobody reads its output."""
+    node; 6 if no further try helps: the log has another format, the address to listen on can't be used, the library
+    isn't there, or the kernel doesn't list children; 7 if there already is a log; 141 if nobody reads its output."""
     drop_what_is_closed()
     options = read_words(words)
     if options.command != 'run':  # it handles signals itself

@@ -181,7 +181,7 @@ class Live:
 
 
 class Way(enum.Enum):
-    """The state of work that was started: it goes on, it has ended on its own, or it was told to stop."""
+    """The state of work that was started: it continues, it has ended on its own, or it was told to stop."""
 
     WORKING, LOST, STOPPING = 'working', 'lost', 'stopping'
 

@@ -14,7 +14,7 @@ worker because its time was over; `ended STATUS` if the worker ended by itself; 
 these are still there a twentieth of the ttl after SIGKILL, for example because they belong to another user. PROCESSES
 is empty if the kernel doesn't list them. The watchdog kills a worker with all that it started, also while the member is
 stopped or dead, and after a sleep of the machine. When the member is gone the watchdog does as after a stop. A watchdog
-that is stopped goes on when its member dies.
+that is stopped continues when its member dies.
 
 If KIND is `talks`, a worker stays over changes: WORDS is then a line for its standard input, and so is {"stop": true}.
 The worker answers such a stop by a line `stopped` on the descriptor BULLY_ANSWERS, or it ends. Earlier answers don't

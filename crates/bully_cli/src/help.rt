@@ -1,4 +1,4 @@
-//! What the program says of itself: its version, and what help tells of each command behind its usage.
+//! What the program says about itself: its version, and what help says about each command after its usage.
 
 /// The version of the program, that the promises of its README were proved for it, and the kit that they were proved
 /// with, by its number, letter and logic. `bin/test` compares number and logic with `rt version`. When the version
@@ -13,10 +13,10 @@ macro_rules! reads_trace {
     ($words:literal, $rest:literal) => {
         concat!(
             $words,
-            "\n\nFaults, each one line on standard error. 'bully explain' says more of the first\n\
-            three: the text of the row, and what may stand there.\n  \
+            "\n\nFaults, each one line on standard error. 'bully explain' shows more about the\n\
+            first three: the text of the row, and what is allowed there.\n  \
             bully: trace row 1: BadHeader  the first row is no header, or there is none\n  \
-            bully: trace row N: BadRow     row N is none of the rows that a trace may have\n  \
+            bully: trace row N: BadRow     row N has none of the forms that a trace allows\n  \
             bully: trace row N: TooManyRows  more than 1,000,000 rows follow the header\n  \
             bully: FILE: REASON            FILE can't be opened; the reason is the system's\n  \
             bully: Read                    the input can't be read\n  \
@@ -32,14 +32,14 @@ macro_rules! reads_config {
     ($words:literal, $rest:literal) => {
         concat!(
             $words,
-            "\n\nFaults, each one line on standard error. Of those of the configuration\n\
-            'bully explain --config=CONFIG' says more: the value, and what may stand there.\n  \
-            bully: config: Toml            it is no UTF-8 text, or no TOML document\n  \
+            "\n\nFaults, each one line on standard error. For those of the configuration\n\
+            'bully explain --config=CONFIG' shows the value, and what is allowed there.\n  \
+            bully: config: Toml            the text isn't UTF-8, or isn't TOML\n  \
             bully: config: Missing KEY     a required key isn't there\n  \
-            bully: config: Kind KEY        its value, or a member of it, is of another kind\n  \
+            bully: config: Kind KEY        its value, or an element of it, is of the wrong kind\n  \
             bully: config: Range KEY       its value is out of its range\n  \
             bully: config: DoubleName      two names are equal\n  \
-            bully: config: UnknownKey      a key stands where none of this name may\n  \
+            bully: config: UnknownKey      a key isn't allowed where it is\n  \
             bully: Read                    the configuration can't be read\n  \
             bully: Write                   not all of the output could be written\n  \
             bully: OutOfMemory             an allocation failed\n",
@@ -48,20 +48,21 @@ macro_rules! reads_config {
     };
 }
 
-/// What help tells of the program.
+/// The help of the program.
 pub const PROGRAM: &str = "\
-    A command reads a trace in FILE or on standard input, or the configuration at a\n\
-    path. It writes the result on standard output, and a fault as one line on\n\
-    standard error. Help of a command says what each line means; 'bully explain'\n\
-    says more of a fault of form, and of a trace that is refused or differs.\n\
+    A command reads a trace in FILE or on standard input, or a configuration. It\n\
+    writes the result on standard output, and a fault as one line on standard error.\n\
+    The help of a command explains each such line; 'bully explain' shows more about a\n\
+    fault of form, and about a trace that is refused or differs.\n\
     \n\
-    Statuses: 0 done, 1 the trace is refused or differs, 2 bad words, 3 a fault of\n\
-    form in a trace or a configuration, or a trace too long to annotate, 4 something\n\
-    failed: FILE can't be opened, Read, Write, Spawn, Finish or OutOfMemory.\n\
+    Statuses: 0 done, 1 the trace is refused or differs, 2 wrong arguments, 3 a fault\n\
+    of form in a trace or a configuration, or a trace too long to annotate, 4\n\
+    something failed: FILE can't be opened, Read, Write, Spawn, Finish or\n\
+    OutOfMemory.\n\
     \n\
     Example: bully play examples/two_nodes.toml | bully check";
 
-/// What help tells of `check`.
+/// The help of `check`.
 pub const CHECK: &str = reads_trace!(
     "\
         Reads a trace in FILE or on standard input. Once all rows are read, writes its\n\
@@ -76,15 +77,15 @@ pub const CHECK: &str = reads_trace!(
         Example: bully check examples/alone.csv"
 );
 
-/// What help tells of `explain`.
+/// The help of `explain`.
 pub const EXPLAIN: &str = reads_trace!(
     "\
-        Reads a trace in FILE or on standard input as 'check' does, and writes on\n\
-        standard output what the rule saw at the row that decided: which rule it broke,\n\
-        where the node stood, what was in its slot, what it could have done, and its last\n\
-        rows. For a fault of form it says on standard error what may stand there. With\n\
-        --json it writes an object. With --config it reads a configuration, and does the\n\
-        same for its first fault: then it takes neither FILE nor --json.\n\
+        Reads a trace in FILE or on standard input as 'check' does, and explains on\n\
+        standard output the row that decided the verdict: the rule that it breaks, the\n\
+        node's point, its call slot, the rows that were possible, and its last rows. For\n\
+        a fault of form it prints on standard error what is allowed there. With --json it\n\
+        writes an object. With --config it reads a configuration, and does the same for\n\
+        its first fault: then it takes neither FILE nor --json.\n\
         \n\
         Statuses: 0 lawful, or no fault in the configuration, 1 refused or differs, 3 a\n\
         fault of form, 4 FILE can't be opened, Read, Write or OutOfMemory.",
@@ -93,15 +94,15 @@ pub const EXPLAIN: &str = reads_trace!(
         Example: bully explain examples/orphan_ready.csv"
 );
 
-/// What help tells of `follow`.
+/// The help of `follow`.
 pub const FOLLOW: &str = reads_trace!(
     "\
         Reads a trace on standard input, or in FILE while it grows, and judges each row\n\
         as it comes. Writes a line on standard output for each change of a node's status,\n\
-        coordinator or task: the time, the row, the node and what it shows now. With\n\
-        --json each line is an object. The first row that is refused or differs ends it,\n\
-        with what 'explain' says of it; the end of standard input, with what 'check' says.\n\
-        A FILE that is no pipe has no end: stop it by Ctrl-C.\n\
+        coordinator or task: the time, the row, the node and its new state. With --json\n\
+        each line is an object. At the first row that is refused or differs it prints\n\
+        what 'explain' prints, and stops; at the end of standard input, what 'check'\n\
+        prints. A regular file has no end: stop 'follow' with Ctrl-C.\n\
         \n\
         Statuses: 0 lawful, 1 refused or differs, 3 a fault of the trace's form, 4 FILE\n\
         can't be opened, Read, Write or OutOfMemory.",
@@ -110,12 +111,12 @@ pub const FOLLOW: &str = reads_trace!(
         Example: bully play examples/two_nodes.toml | bully follow"
 );
 
-/// What help tells of `upgrade`.
+/// The help of `upgrade`.
 pub const UPGRADE: &str = reads_trace!(
     "\
         Reads a trace of any version in FILE or on standard input, and writes it on\n\
-        standard output as one of version 2, or of version 3 if a row says more, with the\n\
-        same rows and the same verdict. It judges nothing.\n\
+        standard output in version 2, or in version 3 if a row has further fields, with\n\
+        the same rows and the same verdict. It doesn't check whether the trace is lawful.\n\
         \n\
         Statuses: 0 written, 3 a fault of the trace's form, 4 FILE can't be opened, Read,\n\
         Write or OutOfMemory.",
@@ -124,13 +125,13 @@ pub const UPGRADE: &str = reads_trace!(
         Example: bully upgrade examples/alone.csv | bully check"
 );
 
-/// What help tells of `annotate`.
+/// The help of `annotate`.
 pub const ANNOTATE: &str = reads_trace!(
     "\
         Reads a lawful trace of any version in FILE or on standard input, and writes it\n\
-        on standard output as one of version 3 that says everything: the call of each\n\
-        event, the answer to it, and behind each event the whole vector of the node that\n\
-        it changed. If the trace isn't lawful, it writes the verdict on standard error.\n\
+        on standard output in version 3 with all further fields: the call of each event,\n\
+        its answer, and after each event the whole vector of the node that it changed. If\n\
+        the trace isn't lawful, it writes the verdict on standard error.\n\
         \n\
         Statuses: 0 written, 1 refused or differs, 3 a fault of the trace's form, or more\n\
         rows than a trace may have, 4 FILE can't be opened, Read, Write or OutOfMemory.",
@@ -141,7 +142,7 @@ pub const ANNOTATE: &str = reads_trace!(
         Example: bully annotate examples/alone.csv | bully check"
 );
 
-/// What help tells of `draw`.
+/// The help of `draw`.
 pub const DRAW: &str = reads_trace!(
     "\
         Reads a trace in FILE or on standard input as 'check' does, and writes an SVG\n\
@@ -149,21 +150,23 @@ pub const DRAW: &str = reads_trace!(
         It shows the 200 rows that end at the verdict, or those of --rows. A row that is\n\
         refused or differs is the last one, with a sentence below it. --html writes the\n\
         picture as a page for a browser, with a search and what each row changes. --text\n\
-        draws for a terminal. --without-claims leaves the rows out that are no events.\n\
+        draws for a terminal. --without-claims leaves out claims, the rows that aren't\n\
+        events, except one at which the trace differs.\n\
         \n\
-        Statuses: 0 lawful, 1 refused or differs, 2 bad words, 3 a fault of form in the\n\
-        trace or in the configuration, 4 FILE can't be opened, Read, Write or\n\
+        Statuses: 0 lawful, 1 refused or differs, 2 wrong arguments, 3 a fault of form in\n\
+        the trace or in the configuration, 4 FILE can't be opened, Read, Write or\n\
         OutOfMemory.",
     "  bully: config: ..              with --names: 'bully help play' lists these\n\
         \n\
         Example: bully draw examples/all_up.csv > all_up.svg"
 );
 
-/// What help tells of `play`.
+/// The help of `play`.
 pub const PLAY: &str = reads_config!(
     "\
         Reads the configuration, plays its group turn by turn on one thread, and writes\n\
-        what happened as a trace on standard output, always the same one.\n\
+        what happened as a trace on standard output. A configuration always gives the\n\
+        same trace.\n\
         \n\
         Statuses: 0 written, 3 a fault in the configuration, 4 Read, Write or\n\
         OutOfMemory.",
@@ -172,12 +175,12 @@ pub const PLAY: &str = reads_config!(
         Example: bully play examples/three_nodes.toml"
 );
 
-/// What help tells of `run`.
+/// The help of `run`.
 pub const RUN: &str = reads_config!(
     "\
         Reads the configuration, runs its group with a thread for the operator and one\n\
-        for each node, and writes its history as a trace on standard output. Each run\n\
-        may write another history, and each history is lawful.\n\
+        for each node, and writes its history as a trace on standard output. Runs may\n\
+        differ; each history is lawful.\n\
         \n\
         Statuses: 0 written, 3 a fault in the configuration, 4 Read, Write, Spawn, Finish\n\
         or OutOfMemory.",
@@ -187,7 +190,7 @@ pub const RUN: &str = reads_config!(
         Example: bully run examples/three_nodes.toml | bully check"
 );
 
-/// What help tells of `table`.
+/// The help of `table`.
 pub const TABLE: &str = reads_config!(
     "\
         Reads the configuration, and plans a table over the members that is balanced by\n\
@@ -199,21 +202,21 @@ pub const TABLE: &str = reads_config!(
         the configuration, 4 Read, Write or OutOfMemory.",
     "  bully: words: Member           a MEMBER isn't among the names\n  \
         bully: words: Length           OWNERS are more or fewer than the partitions\n  \
-        bully: words: Owner            one of OWNERS is a number, and no node's\n  \
-        bully: words: Syntax           one of OWNERS is no number\n\
+        bully: words: Owner            one of OWNERS is a number that no node has\n  \
+        bully: words: Syntax           one of OWNERS isn't a number\n\
         \n\
         Example: bully table examples/three_nodes.toml a b --old '1 2 2 2 3'"
 );
 
-/// What help tells of `completion`.
+/// The help of `completion`.
 pub const COMPLETION: &str = "\
-    Writes on standard output what the shell reads to complete the program's commands\n\
-    and options: bash, zsh or fish.\n\
+    Writes on standard output a script by which bash, zsh or fish completes the\n\
+    program's commands and options.\n\
     \n\
     Statuses: 0 written, 2 another shell, 4 Write or OutOfMemory.\n\
     \n\
     Faults, each one line on standard error:\n  \
-    bully: words: Shell: ..        it is another shell\n  \
+    bully: words: Shell: ..        SHELL isn't bash, zsh or fish\n  \
     bully: Write                   not all of the output could be written\n  \
     bully: OutOfMemory             an allocation failed\n\
     \n\
