@@ -220,7 +220,7 @@ fn names_arg<'a>(alloc: Global) -> Arg<'a>
     ensures rule { rule_of result ≡ names_rule }
     ensures local { result.global ≡ false }
 {
-    let help = "The path of a configuration, whose names stand over the lanes";
+    let help = "The path of a configuration, whose names are drawn over the lanes";
     option_arg(alloc, "names", "CONFIG", help)
 }
 
@@ -228,7 +228,7 @@ fn old_arg<'a>(alloc: Global) -> Arg<'a>
     ensures rule { rule_of result ≡ old_rule }
     ensures local { result.global ≡ false }
 {
-    let help = "The owners in the old table, parted by single spaces";
+    let help = "The owners in the old table, separated by single spaces";
     option_arg(alloc, "old", "OWNERS", help)
 }
 

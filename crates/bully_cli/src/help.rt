@@ -36,7 +36,7 @@ macro_rules! reads_config {
             'bully explain --config=CONFIG' shows the value, and what is allowed there.\n  \
             bully: config: Toml            the text isn't UTF-8, or isn't TOML\n  \
             bully: config: Missing KEY     a required key isn't there\n  \
-            bully: config: Kind KEY        its value, or an element of it, is of the wrong kind\n  \
+            bully: config: Kind KEY        it, or an element of it, is of the wrong kind\n  \
             bully: config: Range KEY       its value is out of its range\n  \
             bully: config: DoubleName      two names are equal\n  \
             bully: config: UnknownKey      a key isn't allowed where it is\n  \

@@ -28,7 +28,7 @@ impl Shell {
     }
 }
 
-/// The names of the shells, parted by single spaces.
+/// The names of the shells, separated by single spaces.
 const SHELLS: &str = "bash zsh fish";
 
 /// The same as zsh takes them.
