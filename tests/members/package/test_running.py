@@ -217,7 +217,7 @@ class Running(Threads):
                 wait_until(member.assignment)
                 if is_stopping:
                     member.leave()
-                    wait_until(lambda: told[-1] == 'stop')
+                    wait_until(lambda: told[-1:] == ['stop'])
                 with mock.patch.object(log, 'renew', side_effect=LogError('here')) as renewed:
                     wait_until(lambda: renewed.called and member.assignment() is None)
                     is_over.set()
