@@ -1,13 +1,13 @@
 """How wrong bodies are tried: which go into one check, and which open goals refuse them."""
-import importlib.machinery
-import importlib.util
-import sys
 import tempfile
 import unittest
+from contextlib import redirect_stdout
+from io import StringIO
 from pathlib import Path
-from types import ModuleType
+from unittest import mock
 
-from stand_in import ROOT
+from counts import Counts
+from stand_in import program
 from wrong_bodies import Edit, function_at, read_edit
 
 SOURCE = """impl Slot {
@@ -37,15 +37,6 @@ only=3 proved=1
 """
 
 
-def program() -> ModuleType:
-    loader = importlib.machinery.SourceFileLoader('edits_try', str(ROOT / 'tests' / 'edits' / 'try'))
-    spec = importlib.util.spec_from_loader('edits_try', loader)
-    made = importlib.util.module_from_spec(spec)  # type: ignore[arg-type]
-    sys.modules['edits_try'] = made
-    loader.exec_module(made)
-    return made
-
-
 class Edits(unittest.TestCase):
     def setUp(self) -> None:
         room = tempfile.TemporaryDirectory()
@@ -54,7 +45,7 @@ class Edits(unittest.TestCase):
         for folder in ('src', 'wrong-bodies'):
             (self.crate / folder).mkdir(parents=True)
         (self.crate / 'src' / 'slot.rt').write_text(SOURCE)
-        self.tried = program()
+        self.tried = program('edits')
 
     def edit(self, first: str, *pairs: str) -> Edit:
         path = self.crate / 'wrong-bodies' / f'it_{len(list((self.crate / "wrong-bodies").iterdir()))}.edit'
@@ -69,6 +60,14 @@ class Edits(unittest.TestCase):
             self.assertTrue(self.is_refused(first), first)
         for first in ('Slot::take (empt)', 'Slot::drop_it (emptied)', 'Slot::held', 'Group::close', 'Slot::take (held), in drop_it (held)', 'Lot::take', 'Slot::empty', 'lent'):
             self.assertFalse(self.is_refused(first), first)
+
+    def test_what_the_prover_did_not_sum_up_refuses_nothing(self) -> None:
+        edit = self.edit('Slot::take (emptied)', '&& true', '')
+        for said, wanted in ((SAID, '1 passed, 0 failed'), (SAID.rpartition('only=')[0], '0 passed, 1 failed')):
+            counts = Counts()
+            with mock.patch.object(self.tried, 'check', return_value=said), mock.patch.object(Edit, 'where', 'it'), redirect_stdout(StringIO()):
+                self.tried.try_batch(None, {}, 'built', [edit], '', counts)
+            self.assertEqual(counts.last(), wanted)
 
     def test_edits_of_one_check_leave_each_other_s_goals_alone(self) -> None:
         of_take, of_drop = self.edit('Slot::take', 'let held = self.held;', ''), self.edit('Slot::drop_it', '&& true', '')

@@ -15,8 +15,8 @@ from building.crates import read_crates, words_to_build
 from building.exports import write_exports
 from counting import run_folder
 from counts import Counts
-from reading import Reader
-from stand_in import ROOT, Tree, as_ever, is_there, waited
+from reading import Case, Reader
+from stand_in import ROOT, Tree, as_ever, is_there, program, waited
 
 # A gate that proves base and bully and leaves what it built, once the test lets it go on; `verdict` has its last line.
 GATE = r'''#!/bin/sh
@@ -119,6 +119,40 @@ class Cases(unittest.TestCase):
         found, counts = self.read('# First.\n? sh no-such-tool\n$ bully check\n> one\n\n# Second.\n? sh\n$ bully help\n\n$ bully help\n')
         self.assertEqual([case[0] for case in found], ['a.txt:6, Second.', 'a.txt'])
         self.assertEqual(counts.last(), '0 passed, 0 failed, 1 skipped')
+
+
+class Sessions(unittest.TestCase):
+    def setUp(self) -> None:
+        room = tempfile.TemporaryDirectory()
+        self.addCleanup(room.cleanup)
+        self.tried = program('cases')
+        Path(room.name, 'bully').write_text('#!/bin/sh\ncat\necho told >&2\nexit 3\n')
+        Path(room.name, 'bully').chmod(0o755)
+        Path(room.name, 'room').mkdir()
+        with mock.patch.object(self.tried, 'PROGRAM', Path(room.name, 'bully')):
+            self.room = self.tried.Room(Path(room.name, 'room'), Counts())
+
+    def run_case(self, case: Case) -> 'tuple[str, str]':
+        self.room.counts, told = Counts(), io.StringIO()
+        with contextlib.redirect_stdout(told):
+            self.room.run(case)
+        return self.room.counts.last(), told.getvalue()
+
+    def test_output_errors_and_status_count_each(self) -> None:
+        right = Case('it', 'bully', 'said\n', 'said\n', 'told\n', 3)
+        for case, is_right in (
+            (right, True), (right._replace(stdin=''), False), (right._replace(stdout=''), False), (right._replace(stderr=''), False),
+            (right._replace(stderr='tell\n'), False), (right._replace(status=0), False), (right._replace(stderr='...\n'), True),
+            (right._replace(command='bully 2>&-', stderr='...\n'), False), (right._replace(command='bully 2>&-', stderr=''), True),
+        ):  # fmt: skip
+            last, told = self.run_case(case)
+            self.assertEqual(last, '1 passed, 0 failed' if is_right else '0 passed, 1 failed', f'{case}\n{told}')
+
+    def test_one_that_never_ends_is_ended_whether_it_waits_or_is_busy(self) -> None:
+        with mock.patch.multiple(self.tried, LOOK=0.2, IDLE_MAX=1, BUSY_MAX=1):
+            for command in ('sleep 600', 'while :; do :; done'):
+                last, told = self.run_case(Case('it', command, status=-signal.SIGTERM))
+                self.assertEqual((last, 'it was ended' in told), ('0 passed, 1 failed', True), told)
 
 
 class Gated(unittest.TestCase):
