@@ -12,7 +12,7 @@ from collections.abc import Callable
 from pathlib import Path
 from unittest import mock
 
-from bully import boots, sqlite, sqlite_file
+from bully import boots, processes, sqlite, sqlite_file
 from bully.clocks import SECOND, nanoseconds_of_boot
 from bully.core import Promise, Until
 from bully.epochs import Opening
@@ -242,6 +242,18 @@ except LogError as fault:
         self.assertEqual((list(reader.read(1, 0)), live(reader)), ([], {'a': Holder(A, EMPTY)}))
         other._file.execute('rollback')
         self.assertTrue(log.append(1, 0, ['recover,1']))
+
+    def test_whose_lock(self) -> None:
+        """A lock of that kind on byte 120 of the file counts, where SQLite has the writer's, and none beside it."""
+        lock = '1: POSIX  ADVISORY  WRITE 7 08:02:31 {} {}'.format
+        for first, last, is_found in (
+            (120, 120, True), (0, 'EOF', True), (120, 127, True), (119, 119, False), (121, 121, False), (123, 127, False),
+            (121, 'EOF', False), (0, 119, False),
+        ):  # fmt: skip
+            found = processes.holder_in('31', f'{lock(first, last)}\n', processes.WRITE)
+            self.assertEqual(found, 7 if is_found else None, (first, last))
+        for inode, kind in (('3', processes.WRITE), ('31', processes.READ)):
+            self.assertIsNone(processes.holder_in(inode, f'{lock(120, 120)}\n', kind))
 
     def test_replaced(self) -> None:
         log = self.begun()

@@ -173,6 +173,13 @@ class Pages(Paged):
             thread.join()
         self.assertEqual(statuses, [200] * page.POLLS_MAX)
 
+    def test_polls_of_a_silent_store(self) -> None:
+        """They end, and count no more."""
+        self.log.is_silent = True
+        self.addCleanup(setattr, self.log, 'is_silent', False)
+        answers = {self.get('/group?after=0')[::2] for _ in range(page.POLLS_MAX + 1)}
+        self.assertEqual(answers, {(503, 'the store does not answer\n')})
+
     def test_a_silent_store(self) -> None:
         """Health, and what is measured of the member, are told all the same."""
         self.make(100.0)

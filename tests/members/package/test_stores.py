@@ -1,16 +1,20 @@
 """Tests of logs in memory and in files by the laws of all stores."""
 from __future__ import annotations
 
+import threading
 import time
 import unittest
 from unittest import mock
 
 from bully import Setup, settings, sqlite
+from bully.clocks import sleep_until_ready
+from bully.core import Until
 from bully.epochs import Opening, Token
 from bully.group import setup_of
 from bully.memory import MemoryLog
 from bully.shared_log import Log
 from ..steps import EMPTY, HEADER, LONG, OPENING, A, Clock
+from ..waiting import PATIENCE
 from .epoch_laws import EpochLaws
 from .folders import WithLogs
 from .laws import Laws
@@ -60,7 +64,27 @@ class WaitsInMemory(Waits, unittest.TestCase):
 
 
 class WaitsInFile(WithLogs, Waits):
-    pass
+    def test_pace(self) -> None:
+        """A wait goes on at the pace that one without news had reached, and starts fast again after news."""
+        log, other = self.pair()
+        sleeps: list[float] = []
+
+        def sleep(seconds: float, *descriptors: int | None) -> list[int]:
+            sleeps.append(seconds)
+            return sleep_until_ready(seconds, *descriptors)
+
+        with mock.patch.object(sqlite, 'sleep_until_ready', sleep):
+            log.wait(1, 0, {}, Until.NEWS, 20 * sqlite.LONGEST_SLEEP)
+            self.assertEqual(sleeps[0], sqlite.SHORTEST_SLEEP)
+            sleeps.clear()
+            later = threading.Timer(0.1, other.acquire, ['1', A, EMPTY, self.LONG])
+            later.start()
+            log.wait(1, 0, {}, Until.NEWS, PATIENCE)
+            later.join()
+            self.assertEqual(sleeps[0], sqlite.LONGEST_SLEEP)
+            sleeps.clear()
+            log.wait(1, 0, log.snapshot(1, 0).sessions, Until.NEWS, 0.1)
+            self.assertEqual(sleeps[0], sqlite.SHORTEST_SLEEP)
 
 
 class EpochsInMemory(EpochLaws, unittest.TestCase):
