@@ -9,6 +9,7 @@ path. The last line is 'N passed, M failed'; the exit status is 0 where M is 0, 
 from __future__ import annotations
 
 import os
+import signal
 import subprocess
 import sys
 from concurrent.futures import ThreadPoolExecutor, as_completed
@@ -38,6 +39,7 @@ def main(words: list[str]) -> int:
         print(__doc__, file=sys.stderr)
         return 2
     os.environ['BULLY_LIBRARY'] = str(Path(words[0]).resolve())
+    signal.signal(signal.SIGHUP, signal.SIG_DFL)  # so that members hear it, though whoever began this ignores it, as nohup does
     counts = Counts()
     if words[1:]:
         counting.run_folder(HERE, 'members.package', counts, words[1:])

@@ -14,7 +14,7 @@ from bully.member import Assignment, Member, OtherGroup, is_known
 from bully.memory import MemoryLog
 from bully.shared_log import Holder, LogError
 from ..steps import HEADER, LONG, OPENING
-from ..waiting import wait_until
+from ..waiting import PATIENCE, wait_until
 from .threads import Noting, Slow, Threads, Troubled
 
 
@@ -201,6 +201,15 @@ class Running(Threads):
         member.leave()
         self.ends_by(thread, KeyError)
         self.assertEqual((len(log.rows), set(log.holders)), (rows, {'1'}))
+
+    def test_work_that_ends_as_its_member_leaves(self) -> None:
+        """By a signal that all processes got. The member ends in order."""
+        member, told, thread = self.begin(MemoryLog(OPENING), 1)
+        wait_until(lambda: told)
+        member.leave()
+        member.end_with(KeyError('here'))
+        thread.join(PATIENCE)
+        self.assertIsNone(member.failure)
 
     def test_a_log_that_fails(self) -> None:
         """Work stops once, whether or not it is stopping when its member ends by a fault of the log."""
