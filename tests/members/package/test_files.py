@@ -16,6 +16,7 @@ from bully import boots, processes, sqlite, sqlite_file
 from bully.clocks import SECOND, nanoseconds_of_boot
 from bully.core import Promise, Until
 from bully.epochs import Opening
+from bully.repair import damage_of
 from bully.shared_log import (
     DamagedLog, DiskFull, ForeignLog, Holder, LogBusy, LogError, LogExists, NoEpoch, NoLog, OtherLog, ReadOnlyLog,
 )  # fmt: skip
@@ -161,6 +162,17 @@ class Files(WithLogs):
         self.path.write_bytes(content)
         with self.assertRaises(DamagedLog):
             self.opened().read(1, 0)
+
+    def test_repaired(self) -> None:
+        """The next epoch goes on from the last plan, or else from the table of the epoch before."""
+        rows = ['recover,1', 'move,1', 'move,1', 'move,1', 'plan,1,1 1']
+        log = self.closing(SqliteLog.create(self.path, Opening(1, 'bully,1,1,2', ('a',), 1000, (0, 1))))
+        for lawful, table in ((0, (0, 1)), (len(rows), (1, 1))):
+            log._file.execute('delete from log')
+            log._file.execute('insert into log values (1, 0, ?, 0)', (''.join(f'{row}\n' for row in [*rows[:lawful], 'x']),))
+            log._file.execute('update epochs set count = ?', (lawful + 1,))
+            damage = damage_of(log)
+            self.assertEqual(damage and (damage.offset, damage.opening.epoch, damage.opening.table), (lawful, 2, table))
 
     def test_holes(self) -> None:
         log = self.begun()

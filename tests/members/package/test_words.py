@@ -1,6 +1,7 @@
 """Tests of the words of `bully-member`: what they may be, what they say of faults, and what they keep to themselves."""
 from __future__ import annotations
 
+import codecs
 import contextlib
 import os
 import re
@@ -218,7 +219,7 @@ class Configurations(WithLog):
 
     def test_what_groups_do_not_use(self) -> None:
         """Neither `events` nor `turns` is needed; what is there has to be right."""
-        for number, (missing, mark) in enumerate(((('events',), b''), (('turns',), b''), (('events', 'turns'), b''))):
+        for number, (missing, mark) in enumerate(((('events',), b''), (('turns',), b''), (('events', 'turns'), codecs.BOM_UTF8))):
             self.path = self.folder / f'{number}.db'
             self.log = f'sqlite:{self.path}'
             told = {**{name: value for name, value in TOP.items() if name not in missing}, 'fault': [FAULT]}
