@@ -479,7 +479,10 @@ class InProcesses(InFolder):
         self.assertRegex(call('status', *self.log_words)[1], r'\nb +down +no, gave up, its worker fails +- +-\n')
         self.assertIn('<td>no, gave up, its worker fails<td>', self.get('/')[1])
         metrics = self.get('/metrics')[1].splitlines()
-        wanted = ['bully_worker_failing{node="a"} 0', 'bully_worker_failing{node="b"} 1', 'bully_gave_up{node="b"} 1']
+        wanted = [
+            'bully_worker_failing{node="a"} 0', 'bully_worker_failing{node="b"} 1', 'bully_gave_up{node="a"} 0', 'bully_gave_up{node="b"} 1',
+            'bully_drained{node="b"} 0',
+        ]  # fmt: skip
         self.assertEqual([line for line in wanted if line not in metrics], [])
         self.assertEqual(fails.said.count(f'bully: {worker}: No such file or directory'), 3)
         said = 'node b: its worker keeps failing; it gives up what it owns, and tries again in 12.0 s'
