@@ -1,15 +1,17 @@
 """Tests of what a member says on standard error, and to the manager of services."""
 from __future__ import annotations
 
+import contextlib
 import logging
 import os
 import socket
 import threading
 import unittest
+from collections.abc import Callable, Iterator
 from unittest import mock
 
 from bully import messages, systemd
-from bully.member import Member
+from bully.member import Assignment, Member
 from bully.memory import MemoryLog
 from bully.shared_log import Snapshot
 from bully.worker import Workers
@@ -82,11 +84,9 @@ class Blocked(MemoryLog):
 class Services(InFolder):
     """What a manager of services hears."""
 
-    def test_a_stuck_member(self) -> None:
-        """It doesn't hear that a member goes on which takes no step."""
-        log = Blocked(OPENING)
-        log.goes_on.set()
-        member = Member(log, 1, lambda work: None, lambda work: None, ttl=0.6)
+    @contextlib.contextmanager
+    def begun(self, member: Member) -> Iterator[Callable[[], bytes]]:
+        """The member runs, with a manager: a function that says what that hears next."""
         with socket.socket(socket.AF_UNIX, socket.SOCK_DGRAM) as manager:
             manager.bind(str(self.folder / 'manager'))
             manager.settimeout(PATIENCE)
@@ -96,9 +96,30 @@ class Services(InFolder):
             thread.start()
             self.addCleanup(thread.join)
             self.addCleanup(member.leave)
-            self.addCleanup(log.goes_on.set)
             told.start()
+            yield lambda: manager.recv(1000)
+            told.close()
+
+    def test_a_stuck_member(self) -> None:
+        """It doesn't hear that a member goes on which takes no step."""
+        log = Blocked(OPENING)
+        log.goes_on.set()
+        with self.begun(Member(log, 1, lambda work: None, lambda work: None, ttl=0.6)) as hear:
+            self.addCleanup(log.goes_on.set)
             for goes_on in (True, False, True):
                 (log.goes_on.set if goes_on else log.goes_on.clear)()
-                wait_until(lambda: (b'WATCHDOG=1' in manager.recv(1000)) == goes_on)
-            told.close()
+                wait_until(lambda: (b'WATCHDOG=1' in hear()) == goes_on)
+
+    def test_a_member_that_leaves(self) -> None:
+        """It hears that while the work is still stopping."""
+        is_over = threading.Event()
+
+        def stop(work: Assignment) -> None:
+            is_over.wait()
+
+        member = Member(MemoryLog(OPENING), 1, lambda work: None, stop, ttl=0.6)
+        with self.begun(member) as hear:
+            self.addCleanup(is_over.set)
+            wait_until(member.assignment)
+            member.leave()
+            wait_until(lambda: b'STOPPING=1' in hear())
