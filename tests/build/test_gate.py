@@ -115,6 +115,9 @@ class Cases(unittest.TestCase):
         found, counts = self.read('# First.\n> two\n\n# Second.\n# bully help\n\n$ bully help\nstrange\n>strange\n')
         self.assertEqual((len(found), counts.failed), (1, 4))
 
+    def test_a_second_command_is_a_failure(self) -> None:
+        self.assertEqual(self.read('# First.\n$ bully help\n# Second.\n$ bully help\n\n# Third.\n$ bully help\n')[1].failed, 1)
+
     def test_a_case_whose_tool_is_missing_is_skipped(self) -> None:
         found, counts = self.read('# First.\n? sh no-such-tool\n$ bully check\n> one\n\n# Second.\n? sh\n$ bully help\n\n$ bully help\n')
         self.assertEqual([case[0] for case in found], ['a.txt:6, Second.', 'a.txt'])

@@ -60,6 +60,8 @@ class Reader:
         elif sign in STREAMS and line[1:2] in ('', ' '):
             self.texts[STREAMS[sign]] += f'{text}\n'
         elif line.startswith('$ '):
+            if self.command:
+                self.counts.hold(False, f'{self.file}:{number}: a case with a second command: a blank line ends the one before')
             self.command = text
         elif line.startswith('? '):
             self.tools = text.split()
