@@ -9,6 +9,6 @@ use Rattle.bully_c.proofs.replicas.bully_c_replica_is_stable.Goals as goal
 pub returns-clause-open : goal.returns-clause-open
 returns-clause-open c =
     let held = c.in-Some.held.value in
-    let written = subst (λ (f : RowReplicaState). IsStableShown f.replica c.args.live.now c.args.offset c.args.is_stable.now c.write_stable-status.result c.write_stable-status.new.is_stable)
+    let written = subst (λ (f : RowReplicaState). IsStableShown f.replica c.args.live.now c.args.offset c.args.is_stable.now c.write_stable-status.result c.write_stable-status.new.stable)
     c.deref.ensures c.write_stable-status.ensures in
     at-open-of RowReplicaState _ _ _ held held held c.write_stable-status.result c.in-Some.ensures.taken refl c.put.ensures (written, refl)

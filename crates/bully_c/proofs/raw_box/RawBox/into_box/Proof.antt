@@ -79,8 +79,8 @@ into_box_spec {M} 𝓤 𝓛 𝓜 𝓡 wired T L =
     (λ b o x block full low. regoal ! (λ (p : Ptr). prop (WpFn 𝓤 H 𝓣.C 𝓣.Λ fn (word p ∷ h ∷ []) Post)) block refl $
     let k = triple_of 𝓛 (g.signature T Heap ghosts dict drops) (g.spec T Heap ghosts dict drops 𝓛 𝓜.mem 𝓡.returns) in
     let y : k.Ghost = (((κs.0, ([], tt)), (qs.0, (full_share, tt)), tt, (a, (block_ptr b o, tt)), (h ∷ [], (vptr b o ∷ [], tt))), x) in
-    move ! (3 ∷ []) $ use1 𝓛 (raw (fact 𝓤 (κs.0 ⊑ T.sessions)) ⊛ ‵ ftrue) (id⊢ 𝓤 _) $ split ! $ move ! (1 ∷ []) $ drop ! $
-    use0 𝓛 (raw (fact 𝓤 ([] ⊑ Heap.sessions))) (fact_i 𝓤 ([] ⊑ Heap.sessions) _ (⊑_static [])) $ move ! (0 ∷ 2 ∷ []) $ join ! $ move ! (1 ∷ 0 ∷ []) $ join ! $
+    move ! (3 ∷ []) $ use1 𝓛 (raw (fact 𝓤 (κs.0 ⊑ T.lives)) ⊛ ‵ ftrue) (id⊢ 𝓤 _) $ split ! $ move ! (1 ∷ []) $ drop ! $
+    use0 𝓛 (raw (fact 𝓤 ([] ⊑ Heap.lives))) (fact_i 𝓤 ([] ⊑ Heap.lives) _ (⊑_static [])) $ move ! (0 ∷ 2 ∷ []) $ join ! $ move ! (1 ∷ 0 ∷ []) $ join ! $
     -- [the callee's `requires`; the allocator; the token]
     move ! (1 ∷ []) $ fsplit ! $ rewrite ! 0 (λ (us : List Val). ‵ (heap.the_row.own_val a us)) told.1 refl $
     feq_i ! (List Val) (vptr b o ∷ []) (vptr b o ∷ []) refl $ move ! (0 ∷ 2 ∷ []) $ fjoin ! $ move ! (1 ∷ 0 ∷ []) $ fjoin ! $

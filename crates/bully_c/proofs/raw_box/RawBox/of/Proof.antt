@@ -58,7 +58,7 @@ of_spec {M} 𝓤 𝓛 𝓜 𝓡 wired T L dx glue =
     regoal ! (λ (us : List Val). prop (WpFn 𝓤 H 𝓣.C 𝓣.Λ fn us Post)) (λ i. told.1 i ++ []) refl $
     split ! $ split ! $ move ! (2 ∷ []) $ fsplit ! $ rewrite ! 0 (λ (us : List Val). ‵ (B.own_val v us)) told.1 refl $ fjoin ! $
     use0 𝓛 (‵ (flft [] full_share)) (𝓛.lfts.lft-nil full_share) $ move ! (0 ∷ 3 ∷ []) $ join ! $ move ! (2 ∷ 0 ∷ []) $ join ! $ join ! $
-    move ! (1 ∷ []) $ use1 𝓛 (raw (fact 𝓤 (κs.0 ⊑ T.sessions)) ⊛ ‵ ftrue) (id⊢ 𝓤 _) $ split ! $ use0 𝓛 (raw (fact 𝓤 ([] ⊑ Heap.sessions))) (fact_i 𝓤 ([] ⊑ Heap.sessions) _ (⊑_static [])) $
+    move ! (1 ∷ []) $ use1 𝓛 (raw (fact 𝓤 (κs.0 ⊑ T.lives)) ⊛ ‵ ftrue) (id⊢ 𝓤 _) $ split ! $ use0 𝓛 (raw (fact 𝓤 ([] ⊑ Heap.lives))) (fact_i 𝓤 ([] ⊑ Heap.lives) _ (⊑_static [])) $
     move ! (0 ∷ 2 ∷ []) $ join ! $ move ! (1 ∷ 0 ∷ []) $ join ! $ move ! (1 ∷ 0 ∷ []) $ join ! $ use1 𝓛 (raw (k.pre y)) (id⊢ 𝓤 _) $
     enter ! _ _ _ _ _ $ alloc_all ! (λ l. pass_all ! refl (told.2, tt) $
     sets ! (of_opd ! (get ! refl)) refl told.2 $
