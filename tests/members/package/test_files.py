@@ -389,10 +389,10 @@ except LogError as fault:
                 self.assertTrue(self.opened().renew('a', A, LONG))
                 self.assertEqual(self.modes(), [0o640] * 3)
         self.assertEqual(sqlite_file.told_readers(str(self.path)), '')
-        for end in ('-shm', ''):
-            Path(f'{self.path}{end}').chmod(0o644)
+        for end, mode in (('-shm', 0o644), ('', 0o602)):
+            Path(f'{self.path}{end}').chmod(mode)
             why = 'so every user who can reach its folder may read it, and whoever may read it can stop the group'
-            told = f'{self.path}{end}: its mode is 0644, {why}; chmod o= {self.path}*'
+            told = f'{self.path}{end}: its mode is {mode:04o}, {why}; chmod o= {self.path}*'
             self.assertEqual(sqlite_file.told_readers(str(self.path)), told)
 
     def modes(self) -> list[int]:
