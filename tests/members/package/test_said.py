@@ -110,6 +110,15 @@ class Services(InFolder):
                 (log.goes_on.set if goes_on else log.goes_on.clear)()
                 wait_until(lambda: (b'WATCHDOG=1' in hear()) == goes_on)
 
+    def test_pace(self) -> None:
+        """It hears that a member goes on twice or more often in the time after which it takes that for stuck, as
+        sd_watchdog_enabled(3) asks for; and what the member does each second."""
+        member = Member(MemoryLog(OPENING), 1, lambda work: None, lambda work: None)
+        with contextlib.closing(member.core):
+            for word, most in (('300000', 0.15), ('1500000', 0.75), ('60000000', 1.0), ('', 1.0)):
+                with mock.patch.dict(os.environ, NOTIFY_SOCKET='@manager', WATCHDOG_USEC=word):
+                    self.assertTrue(0 < systemd.Service(member, Workers(['true'], '1', 0.0))._beat <= most, word)
+
     def test_a_member_that_leaves(self) -> None:
         """It hears that while the work is still stopping."""
         is_over = threading.Event()
