@@ -142,6 +142,7 @@ class Commands(InFolder):
         missing = 'rows are missing, or there is something else between them'
         cases = (
             ("update log set rows = rows || char(10) || 'start,2' || char(10)", 5, ['', 'start,2'], "'' is not a row"),
+            ("update log set rows = rows || 'start,2' || char(13, 10)", 4, ['start,2\r'], "'start,2\\r' is not a row"),
             ("update log set rows = rows || 'end,bully,1,3,6' || char(10)", 4, ['end,bully,1,3,6'], no_row),
             ("insert into log values (1, 3, cast(x'ff0a' as text), 0)", 4, ['\ufffd'], no_row),
             ("insert into log values (1, 4, 'x' || char(10), 0)", 5, ['x'], missing),

@@ -176,7 +176,7 @@ class Secrets(WithLog):
         """It is refused, as libpq does: also the group may, if root owns it."""
         path = self.folder / 'password'
         path.write_text(f'{PASSWORD}\n')
-        for mode in (0o644, 0o604, 0o622, 0o666, 0o650):
+        for mode in (0o644, 0o604, 0o622, 0o666, 0o650, 0o620):
             path.chmod(mode)
             with self.subTest(mode=oct(mode)):
                 with self.assertRaisesRegex(store_options.BadWords, f'^--password-file {path}: .* [(]mode {mode:04o}[)]'):
