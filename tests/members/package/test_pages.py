@@ -192,6 +192,12 @@ class Pages(Paged):
         told = dict(line.rsplit(' ', 1) for line in self.get('/metrics')[2].splitlines() if not line.startswith('#'))
         self.assertGreater(float(told[f'bully_sure_seconds{page.labels(self.NAMES[1])}']), 60.0)
 
+    def test_who_is_unknown(self) -> None:
+        """A process that the group doesn't know is measured, too, while all wait for it."""
+        self.assertTrue(self.log.acquire('unknown', Session(1, 1), Promise(1, 0), LONG) and self.log.append(1, 0, ['recover,1']))
+        behind = {name for name in self.measured() if name.startswith('bully_idle_behind_seconds')}
+        self.assertEqual(behind, {f'bully_idle_behind_seconds{page.labels(name)}' for name in (*self.NAMES, 'unknown')})
+
     def test_the_last_known(self) -> None:
         """A store that is silent before anybody asked: what was known last is measured all the same, and how old it is
         and that the store is silent are, too."""
