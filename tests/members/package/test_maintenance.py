@@ -481,8 +481,8 @@ class Maintained(Threads):
         wait_until(lambda: told[-1] == begun)
         count = len(told)
         member.lose(member._work)
-        wait_until(lambda: len(told) == count + 2 and member.assignment())
-        self.assertEqual(told[-3:], [begun, f'stop {work.token}', begun])
+        wait_until(lambda: len(told) >= count + 2 and told[-1] == begun and member.assignment())
+        self.assertEqual(told[count - 1 : count + 2], [begun, f'stop {work.token}', begun])
         rows = self.log.rows[:]
         member.leave()
         thread.join(PATIENCE)
