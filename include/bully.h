@@ -1,10 +1,10 @@
 /* bully.h: one node of a group, or what a process knows of a group and does in it, from C and from whatever calls C.
  *
  * The node elects a coordinator with its group by Garcia-Molina's Bully algorithm and has the group's task.
- * `docs/NODE.md` has the two ways to embed a node, what the program has to keep, and why. An agent is one node that
- * sends calls to the others. A replica is what a process knows of a group whose history is a log in a store outside. A
- * member has the rules of such a process: it says what is to be done next. This library leaves sockets, stores, clocks,
- * threads and files to the program; it makes no thread, takes no lock and prints nothing. `bin/library` builds it.
+ * `docs/NODE.md` has the two ways to embed a node, what the program must keep, and why. An agent is one node that sends
+ * calls to the others. A replica is what a process knows of a group whose history is a log in a store. A member has the
+ * rules of such a process: it says what to do next. This library leaves sockets, stores, clocks, threads and files to
+ * the program; it makes no thread, takes no lock and prints nothing. `bin/library` builds it.
  *
  * Each function returns a status. If that isn't BULLY_OK, nothing has changed, and nothing was written but what the
  * function's comment says. Each function tests its arguments in the order in which its comment lists the statuses:
@@ -13,7 +13,7 @@
  *   right after it points to that many items, any other one to one item. A pointer to no items may be null.
  * - BULLY_CLOSED: the handle isn't open.
  *
- * The program has to keep these rules, which no test can see:
+ * The program must keep these rules, which no test can see:
  *
  * - a handle is zeroed before it is opened, and nothing but this library writes it then; it may be moved, but no copy
  *   is used beside it;
@@ -88,7 +88,7 @@ enum {
     BULLY_BAD_ANSWER = 35,     /* no number of an answer of a store */
 
     /* The first fault of a line, from its left, as `docs/FORMATS.md` lists them. */
-    BULLY_LINE_WORD = 40,   /* it doesn't begin with `ask`, or with `tell`, or isn't UTF-8 */
+    BULLY_LINE_WORD = 40,   /* it doesn't start with `ask` or `tell`, or isn't UTF-8 */
     BULLY_LINE_CALLER = 41,
     BULLY_LINE_NUMBER = 42,
     BULLY_LINE_CALLEE = 43,
@@ -118,8 +118,8 @@ const char *bully_version(void);
 
 /* ---- Setups ---- */
 
-/* What the group is set up with. A function that takes a setup takes the weights of its nodes after it, that of node 1
- * first: as many as nodes, each from 1 to BULLY_WEIGHT_MAX; or none, and then each weighs 1. */
+/* The setup of a group. A function that takes a setup takes the weights of its nodes after it, that of node 1 first: as
+ * many as nodes, each from 1 to BULLY_WEIGHT_MAX; or none, and then each weighs 1. */
 typedef struct bully_setup {
     uint16_t nodes;      /* 1 to BULLY_NODES_MAX */
     uint16_t partitions; /* 1 to BULLY_PARTITIONS_MAX */
@@ -197,9 +197,9 @@ bully_status bully_agent_close(bully_agent *agent);
 
 /* The node recovers, and stands for election. BULLY_NULL, BULLY_CLOSED, BULLY_FULL, BULLY_IS_UP. */
 bully_status bully_agent_recover(bully_agent *agent);
-/* The node crashes, or has to stop. BULLY_NULL, BULLY_CLOSED, BULLY_FULL, BULLY_IS_DOWN. */
+/* The node crashes, or must stop. BULLY_NULL, BULLY_CLOSED, BULLY_FULL, BULLY_IS_DOWN. */
 bully_status bully_agent_crash(bully_agent *agent);
-/* The idle node begins to check. BULLY_NULL, BULLY_CLOSED, BULLY_FULL, BULLY_IS_DOWN, BULLY_BUSY. */
+/* The idle node starts to check. BULLY_NULL, BULLY_CLOSED, BULLY_FULL, BULLY_IS_DOWN, BULLY_BUSY. */
 bully_status bully_agent_check(bully_agent *agent);
 /* The idle node heard nothing for too long. BULLY_NULL, BULLY_CLOSED, BULLY_FULL, BULLY_IS_DOWN, BULLY_BUSY. */
 bully_status bully_agent_timeout(bully_agent *agent);
@@ -292,7 +292,7 @@ bully_status bully_agent_rows(bully_agent *agent, char *rows, size_t room, size_
  * BULLY_NULL, BULLY_CLOSED, BULLY_OUT_OF_MEMORY; BULLY_SHORT, with the length. */
 bully_status bully_agent_claim(bully_agent *agent, char *row, size_t room, size_t *length);
 
-/* ---- A group whose history is a log outside ---- */
+/* ---- A group whose history is a log in a store ---- */
 
 /* A handle of a replica: what the library keeps of a group whose rows it learned. Closed if it is zeroed. */
 typedef struct bully_replica {
@@ -301,7 +301,7 @@ typedef struct bully_replica {
 
 #define BULLY_REPLICA_CLOSED { NULL }
 
-/* Opens the handle: the replica of a log that begins with this header, a row with its line end or without, before any
+/* Opens the handle: the replica of a log that starts with this header, a row with its line end or without, before any
  * other row.
  * BULLY_NULL, BULLY_OPEN; BULLY_BAD_HEADER: it is none, or rows come after it; BULLY_OUT_OF_MEMORY. */
 bully_status bully_replica_open(bully_replica *replica, const char *header, size_t length);
@@ -396,17 +396,17 @@ bully_status bully_replica_owned(bully_replica *replica, uint16_t node, uint32_t
 /* ---- A process that acts for a node, by the rules of a member ---- */
 
 /* A handle of a member: what the library keeps of a process that acts for one node of a group, as `docs/REBALANCING.md`
- * has its rules. It says what is to be done now, the program that drives it does that, and tells the member what became
- * of it. It has no clock, no store and no random numbers of its own. Times are whole nanoseconds of one clock that
- * never goes back. An offset in an epoch's log is a number of rows after its header; each of these rows is an event.
- * Closed if it is zeroed. */
+ * says. It gives the next step. The program that drives it does that, and reports the result to it. A member has no
+ * clock, no store and no random numbers of its own. Times are whole nanoseconds of one clock that never goes back. An
+ * offset in an epoch's log is the number of rows before it, without the header; each row is an event. Closed if it is
+ * zeroed. */
 typedef struct bully_member {
     void *held;
 } bully_member;
 
 #define BULLY_MEMBER_CLOSED { NULL }
 
-/* Opens the handle: a member that has learned nothing, and asked for nothing, of an epoch whose log begins with this
+/* Opens the handle: a member that has learned nothing, and asked for nothing, of an epoch whose log starts with this
  * header, for the node that has its name there. rows_max: how many rows the log may have, from 22 for each node to
  * BULLY_EVENTS_MAX. The old table is as `bully_replica_rebalance` takes one. process: a number that no other process of
  * the group ever has. ttl: for how long a lease lasts after its last renewal.
@@ -421,11 +421,11 @@ bully_status bully_member_close(bully_member *member);
 
 /* What a step is. */
 enum {
-    BULLY_STEP_ASK = 1,      /* send `request` to the store, and tell the member what became of it */
-    BULLY_STEP_BEGIN = 2,    /* begin work by `token` on what `bully_member_owned` gives; nothing is written first */
+    BULLY_STEP_ASK = 1,      /* send `request` to the store, and report its answer to the member */
+    BULLY_STEP_BEGIN = 2,    /* start work by `token` on what `bully_member_owned` gives; nothing is written first */
     BULLY_STEP_STOP = 3,     /* stop all work, and call `bully_member_stopped` when it has ended */
     BULLY_STEP_WAIT = 4,     /* wait for `until`, or for `at_most` nanoseconds, and then call `bully_member_woke` */
-    BULLY_STEP_BACK_OFF = 5, /* do nothing for `at_most` nanoseconds, or until the member is told something */
+    BULLY_STEP_BACK_OFF = 5, /* do nothing for `at_most` nanoseconds, or until something is reported to the member */
     BULLY_STEP_END = 6       /* do nothing more: the member has ended, for the reason `ending` */
 };
 
@@ -439,10 +439,10 @@ enum {
     BULLY_ASK_SNAPSHOT = 4,  /* the rows after all that was learned, and what `bully_member_snapshot_read` is given */
     BULLY_ASK_PROMISE = 5,   /* this session's promise of `offset`, if it has the lease; a higher promise stays */
     BULLY_ASK_APPEND = 6,    /* append the rows of `bully_member_rebalance`: if the log ends at `offset`, somebody holds
-                                a lease, and all who do, unknown processes too, have promised this offset of
-                                this epoch */
-    BULLY_ASK_ROLL_OVER = 7, /* end the epoch, and begin the next one, on the same conditions */
-    BULLY_ASK_FOLLOW = 8     /* what the current epoch began with */
+                                a lease, and all holders, also unknown processes, have promised this offset of this
+                                epoch */
+    BULLY_ASK_ROLL_OVER = 7, /* end the epoch and start the next one, on the same conditions */
+    BULLY_ASK_FOLLOW = 8     /* read what the current epoch starts with */
 };
 
 /* What ends a wait early: rows, sessions or requests to resize other than those that were seen; or one of these. */
@@ -456,7 +456,7 @@ enum {
 /* Why a member ends. */
 enum {
     BULLY_ENDING_NONE = 0,
-    BULLY_ENDING_LEFT = 1,      /* it was told to leave */
+    BULLY_ENDING_LEFT = 1,      /* it was asked to leave */
     BULLY_ENDING_NOT_THERE = 2, /* the group has no node of its name any more */
     BULLY_ENDING_BROKEN = 3     /* the log has a row that isn't learned, or that has no event */
 };
@@ -474,7 +474,7 @@ typedef struct bully_step {
     uint32_t ending;  /* end: BULLY_ENDING_.. */
 } bully_step;
 
-/* What the member does now: the first of its rules that applies. The member notes that, so the step has to be done. As
+/* What the member does now: the first of its rules that applies. The member notes that, so the step must be done. As
  * long as a request is awaited it asks for nothing else: the step is BULLY_STEP_STOP or BULLY_STEP_BACK_OFF. So if the
  * answer of a request is lost, or can't be passed on, call `bully_member_answered` with BULLY_STORE_UNANSWERED.
  * BULLY_NULL, BULLY_CLOSED. */
@@ -511,15 +511,15 @@ typedef struct bully_lease {
  * node of it, in rising order of the nodes; whether an unknown process holds a lease, whose name no node of it has (not
  * 0: yes); and whether other settings are requested (not 0: yes). If the epoch isn't the member's, nothing else counts.
  * Nothing changes if no snapshot is awaited.
- * BULLY_NULL, BULLY_CLOSED; BULLY_BAD_NODE: a lease of no node of the group, or, in another epoch, of no number of a
- * node; BULLY_OUT_OF_MEMORY. */
+ * BULLY_NULL, BULLY_CLOSED; BULLY_BAD_NODE: a lease's node isn't in the group; or, in another epoch, it is 0 or above
+ * BULLY_NODES_MAX; BULLY_OUT_OF_MEMORY. */
 bully_status bully_member_snapshot_read(bully_member *member, uint64_t now, uint32_t epoch, const bully_lease *leases,
                                         size_t lease_count, uint32_t has_unknown, uint32_t has_request);
 
 /* Instead of any other answer: the member's epoch is over, and its log was removed. BULLY_NULL, BULLY_CLOSED. */
 bully_status bully_member_passed(bully_member *member);
 
-/* What the current epoch began with: the member goes on there with its session, and has learned nothing of the log.
+/* What the current epoch starts with: the member continues there with its session, and has learned nothing of the log.
  * Nothing changes if no follow is awaited, and it counts as unanswered if the epoch is the member's. The arguments are
  * those of `bully_member_open`.
  * BULLY_NULL, BULLY_CLOSED; BULLY_BAD_HEADER: it is none, or rows come after it; BULLY_BAD_NODE, BULLY_TABLE_LENGTH,
@@ -532,9 +532,9 @@ bully_status bully_member_followed(bully_member *member, uint64_t now, const cha
 bully_status bully_member_not_there(bully_member *member);
 /* A wait is over. BULLY_NULL, BULLY_CLOSED. */
 bully_status bully_member_woke(bully_member *member);
-/* The member has to leave in an orderly way. BULLY_NULL, BULLY_CLOSED. */
+/* The member must leave in an orderly way. BULLY_NULL, BULLY_CLOSED. */
 bully_status bully_member_leave(bully_member *member);
-/* The work that was begun by this token has ended outside the member. BULLY_NULL, BULLY_CLOSED. */
+/* The work that was started by this token has ended outside the member. BULLY_NULL, BULLY_CLOSED. */
 bully_status bully_member_lost(bully_member *member, uint32_t token);
 /* All work has ended. BULLY_NULL, BULLY_CLOSED. */
 bully_status bully_member_stopped(bully_member *member);
@@ -574,7 +574,7 @@ enum {
     BULLY_WORK_IDLE = 0,
     BULLY_WORK_WORKING = 1,
     BULLY_WORK_LOST = 2,    /* its work ended outside the member */
-    BULLY_WORK_STOPPING = 3 /* it was told to stop its work, and hasn't reported yet that the work has ended */
+    BULLY_WORK_STOPPING = 3 /* it was asked to stop its work, and hasn't reported yet that the work has ended */
 };
 
 typedef struct bully_member_state {

@@ -97,12 +97,12 @@ def chosen(names: List[str], how: str) -> List[Part]:
 
 
 class Run:
-    """A run of parts: what is tried stands in a folder, each thing once it is done, and what is begun ends with the run."""
+    """A run of parts: what is tried is in a folder, each thing once it is done, and what is begun ends with the run."""
 
     def __init__(self, parts: List[Part], how: str, built: Path, more: Iterable[str] = ()) -> None:
         """`more` are things that nothing but the making of others waits for."""
         self.parts, self.how, self.built, self.children, self.counts = parts, how, built, Children(), Counts()
-        # (what waits for facts has to come to its turn: two more than cores, since most of them wait)
+        # (two more than cores, because most parts wait, and one that waits for facts must get its turn)
         self.turns = Semaphore(all_jobs() + 2)
         # (the prover takes memory: one beside those of the gate)
         self.provers = Semaphore(1)

@@ -1,4 +1,5 @@
-"""The wrong bodies: edits of crates/NAME/must-fail and of crates/NAME/wrong-bodies, and what each says of itself.
+"""The wrong bodies: edits of crates/NAME/must-fail, wrong-bodies and more-wrong-bodies, and what each says of itself. The gate tries those of the first
+two.
 
 An edit has lines `file: PATH`, and then `old: TEXT` and `new: TEXT` of one line each, where the text stands once in that file. Its first line names
 the clause that refuses it, and after that where a goal stays open, if that is elsewhere: '# film_of (told), in keep'. Without brackets it
@@ -8,7 +9,7 @@ from pathlib import Path
 from typing import Dict, List, NamedTuple, Optional, Set, Tuple
 
 ROOT = Path(__file__).resolve().parents[1]
-FOLDERS = ('must-fail', 'wrong-bodies')
+FOLDERS = ('must-fail', 'wrong-bodies', 'more-wrong-bodies')
 FUNCTION = re.compile(r'^( *)(pub )?(?:pub\([a-z]+\) )?(?:extern "C" )?(?:const )?fn (\w+)')
 REFUSED = re.compile(r'# ([\w:]+)(?: \((\w+)(?:: (\w+))?\))?(?:, in ([\w:]+)(?: \((\w+)\))?)?')
 PAIR = re.compile(r'^file: (?P<file>.*)|^old: (?P<old>.*)|^new: ?(?P<new>.*)')

@@ -25,7 +25,7 @@ def made_of(crates: Crates, names: Iterable[str], kit: Path) -> Dict[str, str]:
 
 
 def stamp_of(product: Path) -> Path:
-    """The file beside what was built that tells what it was made of. It is there only if the build ended well."""
+    """The file beside what was built that says what it was made of. It is there only if the build ended well."""
     return product.with_name(f'{product.name}.made_of')
 
 

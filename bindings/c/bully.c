@@ -51,7 +51,7 @@ const char *bully_status_name(bully_status status) {
 /* ---- The version ---- */
 
 #ifndef BULLY_VERSION
-#error "BULLY_VERSION has to be the version, as bin/library takes it from crates/bully_cli"
+#error "BULLY_VERSION must be the version, as bin/library takes it from crates/bully_cli"
 #endif
 
 const char *bully_version(void) {

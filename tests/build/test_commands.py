@@ -21,7 +21,7 @@ class Commands(unittest.TestCase):
         return ['--crate-name', name, f'src/{source}', '-L', f'dependency={kit}/rlibs', *logic, *more]
 
     def told(self, since: int = 0) -> 'dict[str, list[str]]':
-        """What the prover was told of each crate, behind so many runs of it. N stands for how many processes it might use."""
+        """What the prover was told of each crate, after so many runs of it. N stands for how many processes it might use."""
         return {name: re.sub(r'--jobs \d+', '--jobs N', ' '.join(words)).split() for name, *words in self.tree.words()[since:]}
 
     def test_the_prover_is_told_what_a_crate_stands_on_and_what_is_kept(self) -> None:

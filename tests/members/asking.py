@@ -48,31 +48,31 @@ class Journal:
         self.turn, self.seen = turn, seen  # the server that was asked first, and what was known then
         self._clock = clock
         self._seen: list[float | Outcome] = []
-        self._offset = 0
+        self._index = 0
 
     def rewind(self) -> None:
-        self._offset = 0
+        self._index = 0
 
     def add(self, outcome: Outcome) -> None:
         self._seen.append(outcome)
 
     def clock(self) -> float:
-        if self._offset == len(self._seen):
+        if self._index == len(self._seen):
             self._seen.append(self._clock())
         moment = self._next()
         assert isinstance(moment, float)
         return moment
 
     def outcome(self, request: Request) -> Outcome:
-        if self._offset == len(self._seen):
+        if self._index == len(self._seen):
             raise Pending(request)
         outcome = self._next()
         assert not isinstance(outcome, float)
         return outcome
 
     def _next(self) -> float | Outcome:
-        self._offset += 1
-        return self._seen[self._offset - 1]
+        self._index += 1
+        return self._seen[self._index - 1]
 
 
 class Asking(Client):

@@ -10,7 +10,7 @@ from bully.epochs import Opening
 from bully.maintenance import Maintenance
 from bully.memory import MemoryLog
 from bully.shared_log import Log, LogError
-from .steps import LONG, snapshot_read
+from .steps import LONG, plain_snapshot
 
 
 def answer_of(ask: Callable[[Log], object], log: Log) -> object:
@@ -49,7 +49,7 @@ def calls_with(meant: Meant) -> list[tuple[int, str, Callable[[Log], object]]]:
         (some, f'promise {name} {session} {here}', lambda log: log.promise(name, session, here)),
         (many, f'append {here} {rows}', lambda log: log.append(epoch, offset, rows)),
         (some, f'roll_over {here} {opening}', lambda log: log.roll_over(epoch, offset, opening)),
-        (some, f'snapshot {here}', lambda log: (snapshot_read(log, epoch, offset), dict(log.snapshot(0, 0).failing))),
+        (some, f'snapshot {here}', lambda log: (plain_snapshot(log, epoch, offset), dict(log.snapshot(0, 0).failing))),
         (1, f'read {here}', lambda log: list(log.read(epoch, offset))),
         (1, f'ask {requested} {epoch}', lambda log: log.ask(requested, epoch)),
         (1, f'cancel {epoch}', lambda log: log.cancel(epoch)),

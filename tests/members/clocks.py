@@ -1,13 +1,13 @@
-"""Tries two members of which one is in another time namespace, so that its clock is far ahead or behind, while a
-recorder apart judges what their workers do.
+"""Tries two members of which one is in another time namespace, so that its clock is far ahead or far back, while a
+separate recorder judges what their workers do.
 
     tests/members/run clocks LIBRARY_FOLDER [--seconds SECONDS] [--ttl SECONDS]
 
-LIBRARY_FOLDER is what `bin/library` wrote. It takes Linux 5.6 and root. While the first member works the second one,
-of the other node, is begun again and again: it has to end by its status, and to say why. Once the first one has left
-the second one works, and the first one is refused. No unit may overlap another one, or be asked for by an old token.
-Workers continue for half a ttl after SIGTERM. The last line is 'N passed, M failed'; the exit status is 0 where
-M is 0, and else 1.
+LIBRARY_FOLDER is what `bin/library` wrote. It needs Linux 5.6 and root. While the first member works the second one,
+of the other node, is started again and again: each time it must end with its status, and say why. Once the first one
+has left the second one works, and the first one is refused. No unit may overlap another one, or be requested with an
+old token. Workers continue for half a ttl after SIGTERM. The last line is 'N passed, M failed'; the exit status is 0 if
+M is 0, otherwise 1.
 """
 from __future__ import annotations
 

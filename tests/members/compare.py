@@ -1,12 +1,12 @@
-"""Asks a server of etcd and the simulated one (`cluster.py`) the same, at random: both have to answer the same.
+"""Asks a server of etcd and the simulated one (`cluster.py`) the same, at random: both must answer the same.
 
     tests/members/run compare LIBRARY_FOLDER [--requests COUNT] [--logs COUNT] [--seed SEED]
 
 LIBRARY_FOLDER is what `bin/library` wrote. It starts a server of its own, if the program `etcd` is on the path, and
 else tries nothing. Asked are transactions that write or read, ranges of any revision, and leases that are granted,
 renewed and ended. Terms aren't compared, nor are numbers of leases. Then logs over both are asked the same, each by
-calls of its own; and a log in memory has to answer so, too. The last line is 'N passed, M failed'; the exit status is 0
-where M is 0, and else 1.
+calls of its own; and a log in memory must answer the same, too. The last line is 'N passed, M failed'; the exit
+status is 0 if M is 0, otherwise 1.
 """
 from __future__ import annotations
 
@@ -169,7 +169,7 @@ def put_by(kind: str, key: bytes, value: str, lease: int | None) -> Json:
 
 
 def plain(path: str, answer: dict[str, Any]) -> object:
-    """What an answer says, however it is told: without terms and leases."""
+    """What an answer says, however it is written: without terms and leases."""
     if 'refused' in answer:
         return 'refused'
     found = [answer] if path == KV_RANGE else [each.get('response_range') for each in answer.get('responses', ())]

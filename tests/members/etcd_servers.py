@@ -150,7 +150,7 @@ class Servers:
         self, count: int = 1, words: Sequence[str] = QUICK, tls: ssl.SSLContext | None = None,
         places: Sequence[Place] = (),
     ) -> None:  # fmt: skip
-        """As many servers as there are places; without places so many on the loopback."""
+        """A server at each of the places; or, without places, so many servers on the loopback."""
         self._folder = tempfile.TemporaryDirectory()
         self._tls = tls
         self.each: list[Server] = []

@@ -17,7 +17,7 @@ from typing import Deque, NamedTuple
 EPOCH = 100
 FIRST = EPOCH + 1  # the end of a log of the first epoch with its header alone
 
-# Conditions that may be left out, one at a time. Each has to lead to what is wrong.
+# Conditions that may be left out, one at a time. Without each of them a wrong state must be reached.
 CONDITIONS = (
     'append while not idle', 'append anywhere', 'roll over while not idle', 'roll over anywhere', 'acquire anywhere',
     'acquire promises nothing', 'promise forgotten', 'promises while it works', 'promise lost',

@@ -115,7 +115,7 @@ class Faults:
         """Until the others are stable without it."""
         name = self.choice.choice(NAMES)
         member = self.group.members.pop(name)
-        self.group.become_stable('the begin of a cut of a member', lambda: network.cut(name, CLIENTS))
+        self.group.become_stable('the start of a cut of a member', lambda: network.cut(name, CLIENTS))
         self.group.members[name] = member
         self.group.become_stable('the end of a cut of a member', lambda: network.heal(name, CLIENTS))
 
@@ -158,11 +158,11 @@ class Faults:
 
     def cut_server(self, network: Network, leads: bool, from_whom: str, bridges: Sequence[int]) -> None:
         server, what = self.server(leads), told(leads)
-        self.become_stable(f'the begin of a cut of {what} from {from_whom}', lambda: network.cut(server.name, *bridges))
+        self.become_stable(f'the start of a cut of {what} from {from_whom}', lambda: network.cut(server.name, *bridges))
         self.become_stable(f'the end of a cut of {what} from {from_whom}', lambda: network.heal(server.name, *bridges))
 
     def become_stable(self, what: str, change: Callable[[], object]) -> None:
-        """Makes a change to the group, where leases may still end in a while."""
+        """Makes a change. Leases may still end for a while after it, so the group must stay stable for longer."""
         self.group.become_stable(what, change, self.steady)
 
 

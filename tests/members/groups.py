@@ -30,7 +30,7 @@ events = 1000
 turns = 1
 names = %s
 """
-PATIENCE = 60.0  # seconds that anything may take: who comes again and again is admitted only after a third of that
+PATIENCE = 60.0  # seconds that anything may take: a node that comes again and again is admitted after a third of that
 ROW = 64  # bytes that a row of a worker has at most
 MEMORY = 24.0  # MiB that an idle member and its watchdog have of their own
 
@@ -42,9 +42,9 @@ def told_seconds(what: str, seconds: Sequence[float]) -> str:
 
 @dataclass
 class Times:
-    """How long a group took to become stable after changes of one kind, and how many rows that took. How long it took
-    after the end of a lease, if one ended, or else after the start of the last one, if one started. And how long until
-    all partitions were worked on, if that was checked at once."""
+    """How long a group took to become stable after changes of one kind, and how many rows that took. The time counts
+    from the change, and also from the end of a lease, if one ended, or else from the start of the last one, if one
+    started. And how long it took until all partitions were worked on, if that was checked at once."""
 
     to_stable: list[float] = field(default_factory=list)
     after_end: list[float] = field(default_factory=list)
@@ -89,7 +89,7 @@ class Work:
         return [row.split() for row in (self.folder / str(partition)).read_text().split('\n')[:-1]]
 
     def faults(self, kind: str) -> list[str]:
-        """What workers told of faults of this kind."""
+        """What workers reported of faults of this kind."""
         file = self.folder / 'faults'
         rows = file.read_text().splitlines() if file.exists() else []
         return [row for row in rows if row.startswith(f'{kind} ')]
@@ -117,8 +117,8 @@ class Group:
         self.count(self.command('init', '--config', str(self.config)).wait(PATIENCE) == 0, 'no log can be made')
         self.view = LogView(self.opened())
         self.shown = self.view.show()  # as it was seen last
-        self.all_live = 0.0  # the last moment at which all nodes were live that were so before the last change
-        self.not_live = 0.0  # the last moment at which not all nodes were live that had a process by then
+        self.all_live = 0.0  # the last time when all nodes that were live before the last change still were
+        self.not_live = 0.0  # the last time when a node that has a process was not live yet
 
     def configured(self, names: Sequence[str], partitions: int) -> Path:
         """A new file with settings."""
@@ -195,7 +195,7 @@ class Group:
         return up == normal == alive and shown.coordinator == alive[-1] and set(shown.owners) == set(alive)
 
     def stay_stable(self, seconds: float, end: float) -> float | None:
-        """Waits until the group has been stable for so many seconds. When that began; nothing, if it isn't before the
+        """Waits until the group has been stable for so many seconds. When that began; nothing, if it isn't so by the
         end."""
         since, rows, live = 0.0, -1, live_in(self.shown)
         while time.monotonic() < end:
@@ -337,7 +337,7 @@ class Group:
     def pause_for_long(self, name: str, whom: str, send: Callable[[int], None]) -> None:
         """The member is stopped until the others are stable without it."""
         paused = self.members.pop(name)
-        self.become_stable(f'the begin of a pause of a {whom}', lambda: send(signal.SIGSTOP))
+        self.become_stable(f'the start of a pause of a {whom}', lambda: send(signal.SIGSTOP))
         if paused.poll() is None:
             self.members[name] = paused
             self.become_stable(f'the end of a pause of a {whom}', lambda: send(signal.SIGCONT))

@@ -26,14 +26,13 @@ class Nothing(Trouble):
     def __init__(self, choice: random.Random) -> None:
         super().__init__(choice)
         self.lost = self.unanswered = self.slow = self.late = self.ends = self.renewal_pauses = 0.0
-        self.pauses = self.deaths = self.leaves = self.cuts = self.joins = self.loops = self.requests = self.prunes = 0.0
+        self.pauses = self.deaths = self.leaves = self.cuts = self.joins = self.loops = self.resizes = self.prunes = 0.0
         self.trip, self.patience, self.room, self.unit, self.slowest = 0.002, PATIENCE, 10_000, 0.01, None
         self.nodes_least, self.nodes = 2, 4
 
 
 class Mannered(LogMember):
-    """It notes what it asks for. If its first lease is acquired late, that is after the store was asked to release
-    it."""
+    """It notes what it asks for. Its first lease may be acquired late: only after the store was asked to release it."""
 
     simulation: Manners
 
@@ -111,7 +110,7 @@ class Manners(OverMemory):
         self.await_all(name, PATIENCE + 3 * PROMPT)
 
     def one_is_cut_off_and_leaves(self, name: str) -> None:
-        """A member that has to end, and isn't sure of its lease, asks once to release it, and ends."""
+        """A member that must end, and isn't sure of its lease, asks once to release it, and ends."""
         member = self.process(name)
         member.cut_until = self.now + 100 * self.ttl
         self.live(self.now + int(1.5 * self.ttl))

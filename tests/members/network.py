@@ -7,15 +7,15 @@ servers and network.
 LIBRARY_FOLDER is what `bin/library` wrote. Each server and each of five members is in a network namespace; without
 root, or without the program `ip`, all are on the loopback, and nothing happens to the network. Members are killed and
 come back, are paused, or their workers, or both, for less and for more than the ttl, and are cut off; servers are
-killed and come back, are paused, and are cut off, the leader among them. Each time the group has to become stable, and
-to work. With up to 10 faults there is one of each that the network has.
+killed and come back, are paused, and are cut off, the leader among them. Each time the group must become stable, and
+work. With up to 10 faults there is one of each that the network has.
 
-At the end the log has to be lawful, also with everything said if PATH is the program `bully`; no two workers may have
-worked on one partition at one moment, no token may have fallen, and all have to leave in order. It prints how long the
+At the end the log must be lawful, also with everything said if PATH is the program `bully`; no two workers may have
+worked on one partition at one moment, no token may have fallen, and all must leave in order. It prints how long the
 group took to become stable, and, next to the death of a member, how long `etcdctl lock` takes with the same ttl, which
 is tried COUNT times; by default a tenth of the number of faults.
 
-The last line is 'N passed, M failed'; the exit status is 0 where M is 0, and else 1. Without the program `etcd` nothing
+The last line is 'N passed, M failed'; the exit status is 0 if M is 0, otherwise 1. Without the program `etcd` nothing
 is tried.
 """
 from __future__ import annotations
@@ -78,7 +78,7 @@ def compare(group: Group, locks: list[float]) -> None:
 
 def run(group: Group, faults: Faults, options: argparse.Namespace) -> None:
     locks = options.faults // 10 if options.locks is None and options.faults >= 50 else options.locks or 0
-    group.become_stable('the begin', group.begin_all)
+    group.become_stable('the start', group.begin_all)
     faults.run(options.faults)
     locked = time_locks(faults.servers, faults.network, locks, faults.choice)
     group.end(options.program)

@@ -1,8 +1,8 @@
 """The same groups over `bully.etcd`, and an etcd whose leaders are lost (`cluster.py`).
 
 Each request of a call has its own way, and may be lost, or its answer; the member waits for it as long as
-`bully.etcd_client` does, and then asks the next server. A watch tells what is new late, or not at all. What is judged is
-read from etcd's keys as they are.
+`bully.etcd_client` does, and then asks the next server. A watch reports news late, or not at all. What is
+judged is read from etcd's keys as they are.
 """
 from __future__ import annotations
 

@@ -155,7 +155,7 @@ class OverMemory(Simulation):
         self.halted_at = NEVER  # when the pause began
         super().__init__(seed, store, trouble)
         self.end = Promise(FIRST, 0)  # of the log, after its last change
-        self.ordered = Maintenance()  # the maintenance that was set last
+        self.last_set = Maintenance()  # the maintenance that was set last
 
     def changed(self, what: str, done: bool) -> bool:
         """In a pause a group is rebalanced only if a member that was there before has promised to be idle, and so can't
@@ -189,7 +189,7 @@ class OverMemory(Simulation):
 
     def drain(self) -> None:
         with suppress(BadWords):  # nobody would work
-            self.ordered = operations.drain(
+            self.last_set = operations.drain(
                 self.store.log, self.choice.choice(self.store.epoch.settings.names), takes_last=False
             )
         self.tell_all()
@@ -197,13 +197,13 @@ class OverMemory(Simulation):
     def undrain(self) -> None:
         drained = sorted(self.store.maintenance.drained & set(self.store.epoch.settings.names))
         if drained:
-            self.ordered = operations.undrain(self.store.log, self.choice.choice(drained))
+            self.last_set = operations.undrain(self.store.log, self.choice.choice(drained))
             self.tell_all()
 
     def halt(self) -> None:
         """The group is paused, and goes on some time later."""
         if not self.store.maintenance.is_paused:
-            self.ordered, self.halted_at = operations.pause(self.store.log), self.now
+            self.last_set, self.halted_at = operations.pause(self.store.log), self.now
             self.tell_all()
             rows = self.end
             self.after(self.some(self.choice.choice([0.3, 2.0, 6.0])), lambda: self.go_on(rows))
@@ -213,7 +213,7 @@ class OverMemory(Simulation):
         works = any(member.worker.work is not None for member in self.alive())
         is_gone = any(name not in held or held[name].session != session for name, session in sessions.items())
         self.happened['members work on in a pause beside one that is gone'] += works and is_gone and end == self.end
-        self.ordered, self.halted_at = operations.resume(self.store.log), NEVER
+        self.last_set, self.halted_at = operations.resume(self.store.log), NEVER
         self.tell_all()
 
     def come_back(self, name: str) -> None:
@@ -226,18 +226,18 @@ class OverMemory(Simulation):
 
     def become_stable(self) -> None:
         """All pauses are over, and some nodes stay drained."""
-        self.ordered, self.halted_at = operations.resume(self.store.log), NEVER
+        self.last_set, self.halted_at = operations.resume(self.store.log), NEVER
         super().become_stable()
 
     def startable(self) -> Sequence[str]:
         names = self.store.epoch.settings.names
         there = [name for name in names if name not in self.store.maintenance.drained]
         if not there:
-            self.ordered = operations.undrain(self.store.log, names[0])
+            self.last_set = operations.undrain(self.store.log, names[0])
         return there or names[:1]
 
     def instability(self) -> str | None:
         maintenance = self.store.maintenance
-        if maintenance != self.ordered or maintenance.drained & set(self.store.held()):
-            return f'the maintenance is {maintenance}, and was {self.ordered}; live are {sorted(self.store.held())}'
+        if maintenance != self.last_set or maintenance.drained & set(self.store.held()):
+            return f'the maintenance is {maintenance}, and was {self.last_set}; live are {sorted(self.store.held())}'
         return super().instability()

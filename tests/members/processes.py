@@ -18,7 +18,7 @@ frozen: set[int] = set()
 
 
 def freeze(test: unittest.TestCase, process: int) -> None:
-    """The process can't be ended from now on, up to `thaw` from the same thread: who is killed stays there until its
+    """The process can't be ended from now on, up to `thaw` from the same thread: a killed process stays there until its
     tracer has waited for it."""
     traced = ctypes.CDLL(None, use_errno=True).ptrace(PTRACE_SEIZE, process, None, None)
     test.assertEqual(traced, 0, os.strerror(ctypes.get_errno()))

@@ -91,8 +91,8 @@ def moves(table: Sequence[int], before: Sequence[int] | None) -> int:
 
 
 def fewest(setup: Setup, members: Sequence[int], before: Sequence[int] | None) -> int:
-    """How many have to, as the library plans. It knows no owner that is gone: here that is one more node, which is no
-    member."""
+    """How many must change their owner, as the library plans. It knows no owner that is gone: here such an owner is one
+    more node, which is no member."""
     weights = (*(setup.weights or (1,) * setup.nodes), 1)
     more = replace(setup, nodes=setup.nodes + 1, weights=weights)
     return plan_table(more, members, before and [owner or more.nodes for owner in before]).moves

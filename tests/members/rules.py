@@ -4,16 +4,16 @@
 
 LIBRARY_FOLDER is what `bin/library` wrote. If nothing more is said all of this is tried, in sizes for each day:
 
-- `--rebalance`: rebalances after so many random lawful logs, and after each prefix of the traces in `examples/`. What they
-  come to is judged apart from the library, and so is what it says of stable groups and of work; and each rebalancer
-  with a bug is found.
+- `--rebalance`: rebalances after so many random lawful logs, and after each prefix of the traces in `examples/`. What
+  they come to is judged apart from the library, and so is what it says of stable groups and of work; and each
+  rebalancer with a bug is found.
 - `--restarts`: so many groups, of which one node comes and goes again and again: how often does that stop the others'
   work?
 - `--manners`: so many groups in which nothing goes wrong: how long do their members wait, and how often do they ask?
-- `--explore`: all states of a small store, or so many; and each condition of it left out, which has to lead to what
-  must not be.
+- `--explore`: all states of a small store, or so many; and the same without each of its conditions, by which a wrong
+  state must be reached.
 
-The last line is 'N passed, M failed'; the exit status is 0 where M is 0, and else 1.
+The last line is 'N passed, M failed'; the exit status is 0 if M is 0, otherwise 1.
 """
 from __future__ import annotations
 

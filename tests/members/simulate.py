@@ -4,15 +4,15 @@
         [--epochs | --maintenance | --trouble NAME]
     tests/members/run simulate LIBRARY_FOLDER --long [CHANGES]
 
-LIBRARY_FOLDER is what `bin/library` wrote. Each group has to become stable once there is no more trouble, its logs have
-to be lawful, and no two members may work on one partition at one moment, but for those that were paused beyond their
+LIBRARY_FOLDER is what `bin/library` wrote. Each group must become stable once there is no more trouble, its logs must
+be lawful, and no two members may work on one partition at one moment, but for those that were paused beyond their
 lease; and then by tokens that the resource can tell apart. The log is that of `bully.memory`; with `--over-etcd` that
 of `bully.etcd`, over an etcd whose leaders are lost; with `--told` members wait there by the package's own watch, and
 read snapshots from what it reported. With `--epochs` logs are soon full, groups are resized often, and old epochs are
 taken away; with `--maintenance` nodes are drained, and groups are paused; and `--trouble` names a kind of `trouble.py`.
-`--long` is one group of five with 10,000 changes of who is there, or CHANGES, over many epochs: the memory of all may
-not grow. A kind of trouble that never happened among 200 seeds or more is a failure, too. The last line is 'N passed, M
-failed'; the exit status is 0 where M is 0, and else 1.
+`--long` is one group of five with 10,000 changes of which members run, or CHANGES, over many epochs: memory must not
+grow. A kind of trouble that never happened among 200 seeds or more is a failure, too. The last line is 'N passed, M
+failed'; the exit status is 0 if M is 0, otherwise 1.
 """
 from __future__ import annotations
 
@@ -31,7 +31,7 @@ from .over_memory import TROUBLES_OF_MAINTENANCE, OverMemory
 from .stabilizing import Simulation
 from .trouble import BY_NAME, TROUBLES, Epochs, Maintained, Trouble
 
-ENOUGH = 200  # seeds, among which each kind of trouble has to be
+ENOUGH = 200  # seeds, among which each kind of trouble must be
 
 
 def words() -> argparse.Namespace:
@@ -51,7 +51,7 @@ def words() -> argparse.Namespace:
 
 
 def group_type(options: argparse.Namespace) -> tuple[Callable[[int], Simulation], list[str]]:
-    """The groups that the words ask for, by their seeds, and what has to happen to them."""
+    """The groups that the words ask for, by their seeds, and what must happen to them."""
     trouble = BY_NAME[options.trouble]
     there = [*TROUBLES, *(TROUBLES_OF_MAINTENANCE if trouble is Maintained else [])]
     if options.told:

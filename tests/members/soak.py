@@ -1,19 +1,19 @@
-"""Tries members for a long time, over a file or over three servers of etcd, while a recorder apart judges what their
+"""Tries members for a long time, over a file or over three servers of etcd, while a separate recorder judges what their
 workers do.
 
     tests/members/run soak LIBRARY_FOLDER [--store sqlite|etcd] [--seconds SECONDS] [--seed SEED] [--stable SHARE]
         [--nodes COUNT] [--ttl SECONDS] [--talk] [--program PATH] [--folder FOLDER]
 
 LIBRARY_FOLDER is what `bin/library` wrote. Members, their watchdogs and their workers are killed and paused, by a seed,
-also a member with its worker and with its watchdog at one moment; so are the servers, one or all. Who has ended is begun
-again. After a share of the faults the group gets time to become stable, and after the others the next one comes. Each
-worker asks the recorder, a process of its own, for each unit of work (`recorder.py`).
+also a member with its worker and with its watchdog at one moment; so are the servers, one or all. Whatever has ended is
+started again. After a share of the faults the group gets time to become stable, and after the others the next one
+comes. Each worker asks the recorder, a process of its own, for each unit of work (`recorder.py`).
 
-Each kind of fault has to be seen to happen. At the end the group has to become stable, and to leave in order; no unit
-may have overlapped another one, or have been asked for by an old token; and the logs have to be lawful, also with
-everything said if PATH is the program `bully`. First the recorder has to see a worker that works on, since member and
-watchdog are paused. The last line is 'N passed, M failed'; the exit status is 0 where M is 0, and else 1. With `--store
-etcd`, but without the program `etcd`, nothing is tried.
+Each kind of fault must be seen to happen. At the end the group must become stable, and leave in order; no unit may
+have overlapped another one, or have been requested with an old token; and the logs must be lawful, also with
+everything said if PATH is the program `bully`. First the recorder must see a worker that keeps working because member
+and watchdog are paused. The last line is 'N passed, M failed'; the exit status is 0 if M is 0, otherwise 1. With
+`--store etcd`, but without the program `etcd`, nothing is tried.
 """
 from __future__ import annotations
 

@@ -1,5 +1,5 @@
 """A soak: a group works for a long time while its members, watchdogs, workers and servers are killed and paused, and a
-recorder apart judges it."""
+separate recorder judges it."""
 from __future__ import annotations
 
 import random
@@ -21,10 +21,11 @@ from .processes import Process, close_all, family, send_all
 from .recorder import Record, Unit
 from .waiting import wait_until
 
-STABLE_MAX = 12.0  # seconds that the group gets to become stable: who comes again and again is admitted later and later
+# Seconds that the group gets to become stable: a node that comes again and again is admitted later and later.
+STABLE_MAX = 12.0
 BEGIN_MAX = 1.0  # seconds after its end, within which a member is begun again
-SLICE = 0.25  # seconds for which it is waited at once
-PART_MAX = 30.0  # seconds in which a fault has to find whom it can happen to, and is seen
+SLICE = 0.25  # seconds of one wait
+PART_MAX = 30.0  # seconds in which a fault must find processes that it can happen to, and must be seen
 
 # Whom a fault happens to, at one moment.
 WHOM: dict[str, tuple[str, ...]] = {
@@ -38,7 +39,7 @@ _Found = TypeVar('_Found')
 
 
 class Recorded(Work):
-    """What the workers did, as a process apart records it."""
+    """What the workers did, as a separate process records it."""
 
     def __init__(self, folder: Path, partitions: int) -> None:
         super().__init__(folder, partitions)
@@ -66,7 +67,7 @@ class Later(NamedTuple):
 
 
 class Soak:
-    """A group, and what happens to it. Who ends is begun again."""
+    """A group, and what happens to it. Whatever ends is started again."""
 
     def __init__(self, group: Group, servers: Servers | None, choice: random.Random, share: float) -> None:
         """After this share of the faults the group gets time to become stable."""
@@ -85,7 +86,7 @@ class Soak:
     # What happens.
 
     def of_processes(self) -> dict[str, Strike]:
-        """If member and watchdog are both paused for long, nobody is left who ends the worker, and then nothing is
+        """If member and watchdog are both paused for long, no process is left that ends the worker, and then nothing is
         promised."""
         kinds: dict[str, Strike] = {}
         for whom, names in WHOM.items():
@@ -202,7 +203,7 @@ class Soak:
 
     def run(self, seconds: float) -> None:
         """Faults for so long; each kind once at least."""
-        self.group.become_stable('the begin', lambda: self.group.begin_all(self.names))
+        self.group.become_stable('the start', lambda: self.group.begin_all(self.names))
         end, kinds = time.monotonic() + seconds, self.turns()
         while (
             time.monotonic() < end or time.monotonic() < end + PATIENCE and not all(map(self.happened.get, self.kinds))
@@ -280,7 +281,7 @@ Told = tuple[str, int, int, int]  # what a worker says, at a moment: its number,
 
 # What workers say of one partition, and which faults that is.
 CASES: tuple[tuple[str, Sequence[Told], Sequence[str]], ...] = (
-    ('one behind the other', [('begin', 1, 10, 5), ('end', 1, 20, 0), ('begin', 2, 30, 6)], []),
+    ('one after the other', [('begin', 1, 10, 5), ('end', 1, 20, 0), ('begin', 2, 30, 6)], []),
     ('again by one worker', [('begin', 1, 10, 5), ('end', 1, 20, 0), ('begin', 1, 20, 5)], []),
     ('two at once', [('begin', 1, 10, 5), ('begin', 2, 20, 6)], ['overlap']),
     ('two at once by one token', [('begin', 1, 10, 5), ('begin', 2, 20, 5)], ['overlap']),
@@ -290,7 +291,7 @@ CASES: tuple[tuple[str, Sequence[Told], Sequence[str]], ...] = (
         [('begin', 1, 10, 5), ('end', 1, 30, 0), ('gone', 1, 0, 0), ('begin', 2, 20, 6)],
         ['overlap'],
     ),
-    ('behind a worker that ended', [('begin', 1, 10, 5), ('gone', 1, 0, 0), ('begin', 2, 20, 6)], []),
+    ('after a worker that ended', [('begin', 1, 10, 5), ('gone', 1, 0, 0), ('begin', 2, 20, 6)], []),
     ('by an old token', [('begin', 1, 10, 6), ('end', 1, 20, 0), ('begin', 2, 30, 5)], ['old']),
     ('by an old token at once', [('begin', 1, 10, 6), ('begin', 2, 20, 5)], ['old']),
 )
@@ -314,7 +315,7 @@ def see_faults(group: Group) -> None:
     so that nobody ends their worker."""
     for case, told, faults in CASES:
         group.count(faults_of(told) == faults, f'units {case}: {faults_of(told)}, and not {faults}')
-    group.become_stable('the begin', lambda: group.begin_all(NAMES[:2]))
+    group.become_stable('the start', lambda: group.begin_all(NAMES[:2]))
     there = family(group.members['a'].pid)
     paused = [there['member'], there['watchdog']]
     send_all(paused, signal.SIGSTOP)

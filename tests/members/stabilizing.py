@@ -11,8 +11,8 @@ moment
 - no worker that wasn't paused uses an old token, and no token on a partition serves two sessions;
 - no log has more rows than it may have.
 
-Then there is no more trouble: the group has to become stable, and to stay so, by the settings that were requested last
-and with each partition worked on, and the log of each epoch has to be lawful.
+Then there is no more trouble: the group must become stable, and stay so, with the settings that were requested last
+and with each partition worked on, and the log of each epoch must be lawful.
 """
 from __future__ import annotations
 
@@ -33,7 +33,7 @@ from .trouble import STABLE_WITHIN, TROUBLE_FOR, TTL, Trouble
 
 
 class Simulation:
-    """One group, over the store that is told."""
+    """One group, over the store that `store` makes."""
 
     member: type[Member] = Member
 
@@ -231,11 +231,11 @@ class Simulation:
             self.choice.choice(ways)()
 
     def resize(self) -> None:
-        self.request(self.settings())
+        self.request_settings(self.settings())
         if self.happens('a request to resize is taken back', self.trouble.withdrawn):
-            self.after(self.some(0.3), lambda: self.request(None))
+            self.after(self.some(0.3), lambda: self.request_settings(None))
 
-    def request(self, settings: Settings | None) -> None:
+    def request_settings(self, settings: Settings | None) -> None:
         self.store.requested = self.wanted = settings
         self.tell_all()
 
@@ -253,7 +253,7 @@ class Simulation:
         self.often('a cut', trouble.cuts, self.to_some(self.cut))
         self.often('a join', trouble.joins, self.join)
         self.often('a loop', trouble.loops, self.loop)
-        self.often('a request to resize', trouble.requests, self.resize)
+        self.often('a request to resize', trouble.resizes, self.resize)
         self.often('old epochs are taken away', trouble.prunes, self.prune)
         self.live(TROUBLE_FOR * self.ttl)
         self.is_calm = True
@@ -320,7 +320,7 @@ class Simulation:
         return wanted is None or epoch.opening.is_of(wanted)
 
     def judge(self) -> None:
-        """The log of each epoch is lawful, and each of its plans moves no more than it has to, from the table of the
+        """The log of each epoch is lawful, and each of its plans moves no more than it must, from the table of the
         epoch before, too."""
         for epoch in self.store.epochs:
             self.judge_epoch(epoch)

@@ -29,7 +29,7 @@ def live(log: Log) -> dict[str, Holder]:
     return dict(log.snapshot(1, 0).holders)
 
 
-def snapshot_read(log: Log, epoch: int, offset: int) -> object:
+def plain_snapshot(log: Log, epoch: int, offset: int) -> object:
     """What a snapshot finds, as plain values."""
     found = log.snapshot(epoch, offset)
     return found.epoch, list(found.rows), dict(found.holders), found.requested, found.maintenance

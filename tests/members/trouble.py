@@ -31,7 +31,7 @@ class Trouble:
         self.unit = 0.19  # of a ttl, which a unit of work takes at most
         self.loops = some(0.2)  # of one node that comes and goes again and again
         self.ends = some(0.02)  # units after which a worker ends by itself
-        self.requests, self.prunes = some(0.3), some(0.5)
+        self.resizes, self.prunes = some(0.3), some(0.5)  # requests to resize, and old epochs that are removed
         self.drains = self.halts = 0.0  # nodes that are drained, and groups that are paused
         self.room = choice.choice([22, 22, 26, 40, 10_000])  # rows of an epoch, for each node
         self.late = some(0.3)  # by how much of a ttl a lease ends late at most
@@ -48,7 +48,7 @@ class Trouble:
             choice.random() < 0.3
         ):  # all is well but for these, for requests to resize that are taken back, and for slow requests of one kind
             self.deaths, self.joins, self.leaves, self.cuts, self.short = 0.3, 1.0, 0.0, 0.0, choice.choice([0.0, 0.7])
-            self.lost, self.unanswered, self.slow, self.requests, self.withdrawn = (
+            self.lost, self.unanswered, self.slow, self.resizes, self.withdrawn = (
                 0.0, 0.0, 0.1, choice.choice([0.0, 1.5]), 0.9,
             )  # fmt: skip
             self.nodes, self.slowest = choice.choice([1, 2, 3]), choice.choice([Request.ACQUIRE, Request.PROMISE])
@@ -61,7 +61,7 @@ class Epochs(Trouble):
     def __init__(self, choice: random.Random) -> None:
         super().__init__(choice)
         self.room = choice.choice([22, 22, 26])
-        self.requests, self.withdrawn = choice.choice([0.5, 1.5]), choice.choice([0.0, 0.3])
+        self.resizes, self.withdrawn = choice.choice([0.5, 1.5]), choice.choice([0.0, 0.3])
         self.prunes = choice.choice([0.3, 1.0])
 
 
@@ -80,7 +80,7 @@ class SlowAcquires(Trouble):
         super().__init__(choice)
         self.lost = (
             self.unanswered
-        ) = self.slow = self.cuts = self.pauses = self.ends = self.requests = self.renewal_pauses = 0.0
+        ) = self.slow = self.cuts = self.pauses = self.ends = self.resizes = self.renewal_pauses = 0.0
         self.deaths, self.leaves, self.joins, self.short = 0.7, 0.0, 0.7, 0.0
         self.nodes, self.slowest, self.trip, self.patience, self.room = 1, Request.ACQUIRE, 0.002, 3.0, 10_000
 

@@ -6,11 +6,11 @@
 LIBRARY_FOLDER is what `bin/library` wrote. Three members share 12 partitions; while they work the group gets five nodes
 and 24 partitions. These five are killed and come back, and are paused, or their workers, or both, for less and for more
 than the ttl; and the group is resized: its nodes get other numbers. Nodes are drained, and the group is paused while
-one is killed. Each time the group has to become stable. At the end the logs of all epochs have to be lawful, no two
+one is killed. Each time the group must become stable. At the end the logs of all epochs must be lawful, no two
 workers may have worked on one partition at one moment, no token may have fallen, and after each change of the epoch as
-many partitions have to be where they were as can be. It prints how long the group took to become stable, how many rows,
+many partitions as possible must be where they were. It prints how long the group took to become stable, how many rows,
 and what an idle member costs. With `--store etcd` the log is in a server of etcd that it starts. The last line is 'N
-passed, M failed'; the exit status is 0 where M is 0, and else 1.
+passed, M failed'; the exit status is 0 if M is 0, otherwise 1.
 """
 from __future__ import annotations
 
@@ -49,7 +49,7 @@ def words() -> argparse.Namespace:
 
 def grow(group: Group) -> None:
     """The group gets more nodes and partitions while it works, and then members for the new nodes."""
-    group.become_stable('the begin', lambda: group.begin_all(NAMES[:FEW]))
+    group.become_stable('the start', lambda: group.begin_all(NAMES[:FEW]))
     what = f'a resize from {FEW} to {len(NAMES)} nodes, and from {PARTITIONS_OF_FEW} to {PARTITIONS} partitions'
     group.config = group.resize(what, NAMES, PARTITIONS)
     group.become_stable('members for new nodes', lambda: group.begin_all(NAMES[FEW:]))

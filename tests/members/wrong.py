@@ -1,22 +1,22 @@
-"""Plants bugs, one at a time: in the package `bully`, in the proved rules of a member, or in both. Each has to be found.
+"""Plants bugs, one at a time: in the package `bully`, in the proved rules of a member, or in both. Each must be found.
 
     tests/members/run wrong FOLDER [WORDS ..] [--edited FOLDER] [--jobs COUNT]
-                                                plants each bug, or each whose entry has one of these words, and runs what has to find it
-    tests/members/run wrong --fit               sees that each bug fits its file, and has its test, as the gate does
+                                                plants each bug, or each whose entry has one of these words, and runs what must find it
+    tests/members/run wrong --fit               checks that each bug fits its file, and has its test, as the gate does
     tests/members/run wrong --list [WORDS ..]   lists them
 
 The first FOLDER is what `bin/library` wrote. A bug in the rules is an edit of a crate, which takes a library that has this edit and isn't proved.
-It is built in the other FOLDER, in some two minutes, unless it stands there, made of what the sources are now. Without that FOLDER it is left out.
+It is built in the other FOLDER, in some two minutes, unless it is there, made of what the sources are now. Without that FOLDER it is left out.
 
 `wrong-bodies.txt` has the bugs. An entry has these lines:
 
 - `#` and a sentence that says what is wrong;
-- what has to find it, once or more often: `test` and a test of the package; or `run` and the words of a program of `tests/members/run`, then a bar
+- what must find it, once or more often: `test` and a test of the package; or `run` and the words of a program of `tests/members/run`, then a bar
   and a part of what that program says if it finds the bug;
 - `edit` and an edit of a crate; or `file` and a file of the package, with lines after `-` that are there once, and after `+` what replaces them; or
   both.
 
-Without the bug a test or a program has to pass, and with it to fail. A test that doesn't end in a minute fails. The last line is 'N passed, M
+Without the bug a test or a program must pass, and with it it must fail. A test that doesn't end in a minute fails. The last line is 'N passed, M
 failed'; the exit status is 0 if M is 0.
 """
 from __future__ import annotations
@@ -106,11 +106,11 @@ class Bug:
             for name in {change.file for change in self.changes}:
                 shutil.copy(PYTHON / 'bully' / name, folder)
             if not self.plant(Path(folder)):
-                return 'its lines do not stand once in their file'
+                return 'its lines are not in their file once'
         if self.edit and not (ROOT / self.edit).is_file():
             return f'there is no {self.edit}'
         missing = [test for word, test in self.finders if word == 'test' and not is_test(test)]
-        return f'there is no {missing[0]}' if missing else '' if self.finders else 'nothing has to find it'
+        return f'there is no {missing[0]}' if missing else '' if self.finders else 'it names nothing that must find it'
 
 
 def is_test(name: str) -> bool:
@@ -157,7 +157,7 @@ class Room:
             return status, said.read()
 
     def outcome(self, finder: tuple[str, str]) -> str:
-        """What became of what has to find a bug: `passed`, `failed`, or something else."""
+        """The outcome of what must find a bug: `passed`, `failed`, or something else."""
         word, more = finder
         words, _, says = more.partition(' | ')
         if word == 'test':

@@ -67,7 +67,7 @@ static void try_opening(void) {
     ANSWERS(OK, bully_agent_close(&it.agent));
 }
 
-/* A task is kept over a crash if the setup keeps tasks, and else isn't. */
+/* A task is kept over a crash if the setup keeps tasks, otherwise not. */
 static void try_keeping(uint32_t keeps, const char *behind) {
     bully_setup setup = setup_of(1, 2, 100);
     bully_agent agent = BULLY_AGENT_CLOSED;

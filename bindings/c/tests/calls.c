@@ -1,5 +1,5 @@
 /* Tries each function of bully.h: calls FOLDER VERSION HEADER_FOLDER. The folder has the examples, the version is the
- * one that the program tells as its own, and the last folder has bully.h. The last line is 'N passed, M failed'. */
+ * one that the program prints as its own, and the last folder has bully.h. The last line is 'N passed, M failed'. */
 #include "testing.h"
 
 #include <stdio.h>

@@ -190,7 +190,7 @@ static void try_taken(void) {
         bully_status status = bully_replica_open(&replica, taken[at], strlen(taken[at]));
         size_t learned = 77;
         if (status != BULLY_OK) {
-            printf("'%s' has to be taken as a header:\n", taken[at]);
+            printf("'%s' must be taken as a header:\n", taken[at]);
         }
         ANSWERS(OK, status);
         ANSWERS(OK, bully_replica_learn(&replica, "recover,2\n", 10, &learned));
@@ -205,7 +205,7 @@ static void try_refused(void) {
     for (at = 0; at < COUNT(refused); at++) {
         bully_status status = bully_replica_open(&replica, refused[at], strlen(refused[at]));
         if (status != BULLY_BAD_HEADER) {
-            printf("'%s' has to be refused as a header:\n", refused[at]);
+            printf("'%s' must be refused as a header:\n", refused[at]);
         }
         ANSWERS(BAD_HEADER, status);
         EXPECT(replica.held == NULL);

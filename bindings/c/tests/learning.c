@@ -117,7 +117,7 @@ static void try_learned(void) {
         size_t taken = 77;
         bully_status status = bully_replica_learn(&replica, learned[at].rows, strlen(learned[at].rows), &taken);
         if (status != learned[at].status || taken != learned[at].taken) {
-            printf("%s behind %d rows of '%s':\n", bully_status_name(status), (int)taken, learned[at].rows);
+            printf("%s after %d rows of '%s':\n", bully_status_name(status), (int)taken, learned[at].rows);
         }
         count_status(learned[at].status, status, __FILE__, __LINE__, "bully_replica_learn");
         EXPECT(taken == learned[at].taken);
@@ -308,9 +308,9 @@ static void try_example(const char *folder, const char *name) {
     free(wanted);
 }
 
-/* ---- Examples whose every row is what a replica tells before it ---- */
+/* ---- Examples whose every row is what a replica gives before it ---- */
 
-/* Whether the replica tells this row: of an event of a node, or as its next one, which is the callee's if a call
+/* Whether the replica gives this row: of an event of a node, or as its next one, which is the callee's if a call
  * runs. */
 static int is_told(bully_replica *replica, const char *row) {
     static const char *const events[] = {"crash,", "recover,", "check,", "timeout,", "drop,"};

@@ -92,7 +92,7 @@ static bully_agent open_asking(void) {
 }
 
 static void tell_line(const struct line *line) {
-    printf("'%s', which has to be %s:\n", line->text, bully_status_name(line->status));
+    printf("'%s', which must be %s:\n", line->text, bully_status_name(line->status));
 }
 
 static void try_requests(void) {

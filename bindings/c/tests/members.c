@@ -103,7 +103,7 @@ static bully_member_state state_of(bully_member *member, uint64_t now) {
 }
 
 /* It reads a snapshot, and acquires its lease at time 10. */
-static void take(bully_member *member) {
+static void acquire(bully_member *member) {
     EXPECT(asks(member, 0, BULLY_ASK_SNAPSHOT));
     find_nobody(member, 5);
     EXPECT(asks_of(member, 10, BULLY_ASK_ACQUIRE, 1, 0));
@@ -116,7 +116,7 @@ static void take(bully_member *member) {
 static void begin(bully_member *member) {
     char text[ROOM];
     size_t length = 77;
-    take(member);
+    acquire(member);
     EXPECT(asks_of(member, 50, BULLY_ASK_APPEND, 0, 0));
     ANSWERS(OK, bully_member_rebalance(member, text, sizeof text, &length));
     EXPECT(is_shown("rebalance", text, length, REBALANCE));
@@ -320,7 +320,7 @@ static void tell_in_vain(void) {
     bully_member member;
     size_t at;
     open_one(&member);
-    take(&member);
+    acquire(&member);
     find_nobody(&member, 45);
     ANSWERS(OK, bully_member_followed(&member, 45, ONE, strlen(ONE), 8, 1, 22, NULL, 0));
     ANSWERS(OK, bully_member_not_there(&member));

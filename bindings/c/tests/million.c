@@ -1,5 +1,5 @@
-/* Makes a million calls and more in one process: two nodes, of which node 1 looks after node 2 until it has told as
- * many events as the setup bounds. Then all is closed and done again, and a replica learns as many rows as a log may
+/* Makes a million calls and more in one process: two nodes, of which node 1 looks after node 2 until it has had as
+ * many events as the setup allows. Then all is closed and done again, and a replica learns as many rows as a log may
  * have. The memory in use stays as it was. The last line is 'N passed, M failed'. */
 #include "testing.h"
 
@@ -42,8 +42,8 @@ static long look_after(struct pair *pair) {
     return bully_agent_replied(&pair->first, reply, reply_length, &answer) == BULLY_OK && answer == BULLY_YES ? 5 : 4;
 }
 
-/* Until node 1 has told so many events, which is all. Answers how many calls there were, and how much memory they came
- * to. */
+/* Until node 1 has had so many events, which is all. Returns how many calls there were, and how much memory they
+ * took. */
 static long use_up(uint32_t events_max, size_t *grown) {
     struct pair pair = open_pair(events_max, RESTING);
     long calls = look_after(&pair), more;
@@ -98,7 +98,7 @@ static char *many_rows(size_t count, const char *row, const char *last, size_t *
     return rows;
 }
 
-/* After a million rows nothing is told of an event, and nothing is learned. Node 2 is up, and node 1 rests. */
+/* After a million rows no event is given, and nothing is learned. Node 2 is up, and node 1 rests. */
 static void try_full_log(bully_replica *replica) {
     char row[ROOM] = "as it was";
     size_t length = 77;
@@ -169,7 +169,7 @@ int main(void) {
     size_t before, grown;
     int round;
     printf("a million calls in one process\n");
-    /* (what the heap and printing keep for later is there behind these) */
+    /* (what the heap and printing keep for later is there after these) */
     use_up(100, &grown);
     open_often();
     learn_a_million();

@@ -6,7 +6,7 @@
 #include <stdlib.h>
 #include <string.h>
 
-/* Whether this stands in the text, with no digit after it. */
+/* Whether this is in the text, with no digit after it. */
 static int stands_in(const char *text, const char *told) {
     const char *at;
     for (at = strstr(text, told); at != NULL; at = strstr(at + 1, told)) {

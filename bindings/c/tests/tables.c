@@ -1,4 +1,4 @@
-/* Tables: the plans that docs/ALGORITHM.md and the examples tell, and each fault of what one is planned from, in their
+/* Tables: the plans that docs/ALGORITHM.md and the examples have, and each fault of what one is planned from, in their
  * order. */
 #include "testing.h"
 

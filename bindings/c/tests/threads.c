@@ -9,7 +9,7 @@
 #define THREADS 4
 #define ROUNDS 500
 
-/* What a thread does on its own: an election, and calls until all events are told. It counts nothing, since counts are
+/* What a thread does on its own: an election, and calls until there is no event left. It counts nothing, since counts are
  * shared. */
 struct work {
     bully_agent first, second;
@@ -50,13 +50,13 @@ static void *do_work(void *given) {
     return NULL;
 }
 
-/* The same of a replica, which learns what it tells itself: an election of two nodes. */
+/* The same of a replica, which learns the rows that it gives itself: an election of two nodes. */
 struct reading {
     bully_replica replica;
     int held;
 };
 
-/* Learns a row that was told; answers 0 if there is none, or it isn't learned. */
+/* Learns a row that was given; returns 0 if there is none, or it isn't learned. */
 static int learn(bully_replica *replica, bully_status status, const char *row, size_t length) {
     size_t taken = 0;
     return status == BULLY_OK && length > 0 && bully_replica_learn(replica, row, length, &taken) == BULLY_OK && taken == 1;

@@ -70,7 +70,7 @@ if TYPE_CHECKING:
 OK, FAILED, BAD_WORDS, BAD_INPUT, NO_STORE, NO_NODE, NO_RETRY, EXISTS = range(8)
 UNWRITTEN = (errno.ENOSPC, errno.EDQUOT, errno.EFBIG, errno.EIO)  # errors of a write
 NOBODY_READS = 128 + signal.SIGPIPE  # as a shell reports a program that ended by that signal
-SNAPSHOT = 1.0  # seconds for which `status` reads on, if a node isn't idle
+STATUS_WAIT = 1.0  # the longest wait of `status` for nodes that aren't idle, in seconds
 
 SHELLS = ('bash', 'zsh', 'fish')
 
@@ -327,9 +327,9 @@ def status_command(options: argparse.Namespace) -> int:
     store = store_of(options)
     warn_of_readers(store)
     with contextlib.closing(LogView(store.open(reads=True))) as view:
-        end, shown = seconds_of_boot() + SNAPSHOT, view.show()
+        end, shown = seconds_of_boot() + STATUS_WAIT, view.show()
         while shown.behind and seconds_of_boot() < end:
-            time.sleep(SNAPSHOT / 10)
+            time.sleep(STATUS_WAIT / 10)
             shown = view.show()
     print(json.dumps(shown.document(), ensure_ascii=False) if options.json else text_of(shown))
     return OK if shown.is_well else FAILED

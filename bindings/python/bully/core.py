@@ -2,8 +2,8 @@
 
 A `Core` has no clock, store, thread or chance of its own. `next` says what to do now. The driver does that, and reports
 the result by the call that the step names. `docs/REBALANCING.md` has the rules, `docs/DECISIONS.md` the reasons. All
-times are whole nanoseconds of one clock that never goes back. An *offset* in an epoch's log is how many rows there are
-after its header, and each row is an event. (`bully.Member`, which drives a core, is in `member.py`.)
+times are whole nanoseconds of one clock that never goes back. An *offset* in an epoch's log is the number of rows
+before it, without the header; each row is an event. (`bully.Member`, which drives a core, is in `member.py`.)
 """
 from __future__ import annotations
 

@@ -193,11 +193,11 @@ class EtcdLog:
         if not pairs_of(first):
             raise NoLog(f'{self.address}: there is no log; bully-member init makes one')
         if name is None and opening.startswith(OLDER):
-            raise ForeignLog(f'{self.address}: a log of an older version, not of form {FORM}{BY_HISTORY}')
+            raise ForeignLog(f'{self.address}: a log of an older version, not of format {FORM}{BY_HISTORY}')
         is_ours = pairs_of(first)[0].key.startswith((keys.failing, keys.first, keys.logs, keys.holders))
         if name is None and (opening.startswith(BEGIN.encode()) or is_ours):
             raise DamagedLog(f'{self.address}: the log has no name')
-        raise ForeignLog(f'{self.address}: there is something below its prefix that is not a log of form {FORM}')
+        raise ForeignLog(f'{self.address}: there is something below its prefix that is not a log of format {FORM}')
 
     # Epochs.
 
@@ -225,13 +225,13 @@ class EtcdLog:
         *asked, there = self._look(range_at(keys.opening(epoch)), range_at(keys.next), range_at(keys.offset)).ranges
         end, here = self._end_of(there), Promise(epoch, offset)
         see_end(self.address, end, here)
-        found, requested_settings = map(pairs_of, asked)
+        found, at_next = map(pairs_of, asked)
         if not found or end != here:
             return False
-        requested = requested_of(self.address, epoch, requested_settings[0].value if requested_settings else None)
+        requested = requested_of(self.address, epoch, at_next[0].value if at_next else None)
         if opening.bare != opening_of(self.address, epoch, found[0].value).after(requested):
             return False
-        is_same = number_is(keys.next, 'mod_revision', requested_settings[0].modified if requested_settings else 0)
+        is_same = number_is(keys.next, 'mod_revision', at_next[0].modified if at_next else 0)
         return self._add(epoch, offset, [*keys.begin(opening), removed(range_at(keys.next))], is_same)
 
     def ask(self, requested: Opening, epoch: int) -> bool:
@@ -478,10 +478,10 @@ class EtcdLog:
 
     def kept(self) -> Kept:
         self._client.begin()
-        offset = self._look(range_at(self._keys.offset))
-        end, keys = self._end_of(offset.ranges[0]), self._keys
-        page = self._more(keys.page(keys.row(end.epoch, 0), end.epoch), offset.revision)
-        pairs = list(self._pages(end.epoch, page, offset.revision))
+        answer = self._look(range_at(self._keys.offset))
+        end, keys = self._end_of(answer.ranges[0]), self._keys
+        page = self._more(keys.page(keys.row(end.epoch, 0), end.epoch), answer.revision)
+        pairs = list(self._pages(end.epoch, page, answer.revision))
         begins = [pair.key[len(keys.rows(end.epoch)) :] for pair in pairs]
         offsets = [int(begin) if begin.isdigit() and len(begin) == 10 else NOWHERE for begin in begins]
         return Kept(end, list(zip(offsets, (pair.value for pair in pairs))))
@@ -664,7 +664,7 @@ class News:
         return {name: Holder(session, self.promises[name]) for name, session in self.sessions.items()}
 
     def see(self, event: Json) -> None:
-        """Takes in an event. When a session goes its promise goes, too, and a watch may not report that."""
+        """Takes in an event. When a session goes its promise goes, too, and a watch need not report that."""
         pair, is_put = pair_of(event['kv']), event.get('type', 'PUT') == 'PUT'
         if pair.modified <= self.revision:
             return

@@ -22,7 +22,7 @@ class Maintenance:
 
     @staticmethod
     def parse(text: str) -> Maintenance:
-        """The maintenance in this text. Raises ValueError, KeyError, TypeError or AttributeError if it isn't one."""
+        """The maintenance in this text. Raises ValueError, KeyError, TypeError or AttributeError if it has none."""
         document = json.loads(text or '{"drained": []}')
         sessions = {str(name): Session(*map(int, session)) for name, session in document.get('paused', {}).items()}
         return Maintenance(frozenset(map(str, document['drained'])), sessions if 'paused' in document else None)

@@ -321,7 +321,7 @@ class Member:
             self._work = Assignment(token, planner, owned.partitions, self.opening.settings)
             self._show()
             self._to_call.put((False, self._work))
-        elif isinstance(step, Stop):  # since `next` returned it the work isn't shown any more
+        elif isinstance(step, Stop):  # the work was hidden as soon as `next` returned this
             assert self._work is not None
             self._to_call.put((True, self._work))
         elif isinstance(step, BackOff):

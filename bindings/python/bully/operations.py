@@ -108,8 +108,8 @@ def end_epoch(log: Log, opening: Opening, end: float) -> None:
                 names = ', '.join(late or found.holders)
                 raise NotEnded(f'epoch {opening.epoch} has not ended yet; it waits for {names}')
             else:
-                rest = max(0.0, min(EPOCH_WAIT, end - seconds_of_boot()))
-                log.wait(here.epoch, here.offset, found.sessions, Until.NEWS, rest)
+                left = max(0.0, min(EPOCH_WAIT, end - seconds_of_boot()))
+                log.wait(here.epoch, here.offset, found.sessions, Until.NEWS, left)
 
 
 def end_alone(log: Log, session: Session, here: Promise, opening: Opening) -> None:

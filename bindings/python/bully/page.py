@@ -174,9 +174,9 @@ def metrics_of(known: Known, name: str, sure_seconds: float, workers: Workers | 
     tell('bully_store_up', 'Whether the store answered the last read.', [('', known.is_answered)])
     tell('bully_sure_seconds', 'For how many seconds the ownership of this member is sure.', [(mine, sure_seconds)])
     if workers is not None:
-        stopping, rest = [(mine, workers.stopping_seconds)], [(mine, workers.backoff_seconds)]
+        stopping, wait = [(mine, workers.stopping_seconds)], [(mine, workers.backoff_seconds)]
         tell('bully_stopping_seconds', 'How many seconds ago its worker was told to stop, if it has not.', stopping)
-        tell('bully_worker_backoff_seconds', 'For how many seconds its worker still backs off after a failure.', rest)
+        tell('bully_worker_backoff_seconds', 'For how many seconds its worker still backs off after a failure.', wait)
     if known.group is not None:
         tell('bully_group_age_seconds', 'How many seconds ago the metrics of the group were read.', [('', known.age)])
         tell_group(tell, known.group)

@@ -118,8 +118,8 @@ class Standing(NamedTuple):
     maintenance: str
     name: str
     boot: str | None
-    sessions: int
-    promises: int
+    session_changes: int
+    promise_changes: int
 
     @property
     def wanted(self) -> tuple[str | None, str]:
@@ -147,9 +147,9 @@ class SqliteLog:
         self._seen_wanted: tuple[str | None, str] = None, ''
         self._seen_idle: tuple[Promise, frozenset[str]] = (Promise(), frozenset())
         self._has_notes = False  # whether there is a table of nodes whose work fails
-        self._sessions = -1  # the count of changes then
+        self._session_changes = -1  # the count of these changes at that time
         self._earliest = 0  # none of these leases ends before
-        self._version = self._promises = -1  # of what a wait saw last
+        self._version = self._promise_changes = -1  # of what a wait saw last
         self._sleep = SHORTEST_SLEEP  # between two polls of a wait
         with calls(self.path):
             self._file = connection(self.path, patience)
@@ -189,7 +189,7 @@ class SqliteLog:
             if form != FORM:
                 version, more = ('an older', BY_HISTORY) if form < FORM else ('another', '')
                 by = f'{form}, by {version} version'
-                raise ForeignLog(f'{self.path}: a log of form {by}, not of form {FORM}{more}')
+                raise ForeignLog(f'{self.path}: a log of format {by}, not of format {FORM}{more}')
             mode = self._file.execute('pragma journal_mode = wal').fetchone()[0]
             if mode != 'wal':
                 raise ForeignLog(f'{self.path}: SQLite keeps a journal of mode {mode} here, and can not keep a -wal')
@@ -432,7 +432,8 @@ class SqliteLog:
         found = self._file.execute(asked, (self._boot, now)).fetchall()
         holders = {name: holder_of(self.path, name, *told) for name, *told in found}
         self._live = {name: holder.session for name, holder in holders.items()}
-        self._sessions, self._earliest = standing.sessions, min((until for *_, until in found), default=NEVER)
+        self._session_changes = standing.session_changes
+        self._earliest = min((until for *_, until in found), default=NEVER)
         return holders
 
     def _failing(self) -> dict[str, bool]:
@@ -447,7 +448,7 @@ class SqliteLog:
         """After a wait without news the next one polls at the pace that this one had reached; after news it starts fast
         again, because more often follows soon."""
         end = nanoseconds_of_boot() + int(seconds * SECOND)
-        self._version = self._promises = -1
+        self._version = self._promise_changes = -1
         while not self._is_news(Promise(epoch, offset), sessions, until):
             now = nanoseconds_of_boot()
             if now >= end:
@@ -468,12 +469,12 @@ class SqliteLog:
             if version == self._version and not is_end:
                 return False
             self._version, standing = version, self._standing()
-            if standing.sessions != self._sessions or is_end:
+            if standing.session_changes != self._session_changes or is_end:
                 self._look_around(standing)
             end = standing.end
             if end != here or standing.wanted != self._seen_wanted or self._live != sessions:
                 return True
-            is_same, self._promises = standing.promises == self._promises, standing.promises
+            is_same, self._promise_changes = standing.promise_changes == self._promise_changes, standing.promise_changes
             return until is not Until.NEWS and not is_same and self._are_idle(until, here)
 
     def close(self) -> None:

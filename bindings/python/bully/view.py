@@ -89,7 +89,7 @@ class GroupView:
 
     @property
     def is_well(self) -> bool:
-        """Whether each partition may be worked on, and no worker fails."""
+        """Whether the group is stable, each partition may be worked on, and no worker fails."""
         return self.is_stable and None not in self.owners and not any(node.is_failing for node in self.nodes)
 
     @property

@@ -54,7 +54,7 @@ MESSAGE_MAX = 1 << 20  # bytes
 ANSWERS = 3  # the descriptor for the answers of a worker that talks
 STOP, STOPPED = b'{"stop": true}', b'stopped'
 BEATS = 20  # parts of a ttl: a watchdog may be late by one
-LOOKS = 5  # parts of a ttl: one is the time between two checks of a member, and that it may be stopped in a write
+CHECKS = 5  # of a member in a ttl; it may stay stopped in a write from one to the next
 TOLD = 20  # processes in a message, at most
 
 
@@ -71,7 +71,7 @@ class MemberWatchdog:
     """Watches a member, which may not stay stopped in the middle of a write."""
 
     def __init__(self, file: str, ttl: float) -> None:
-        self.member, self.file, self.span = os.getppid(), file, int(ttl / LOOKS * SECOND)
+        self.member, self.file, self.span = os.getppid(), file, int(ttl / CHECKS * SECOND)
         self.stopped_at: int | None = None
 
     def pause(self) -> int | None:

@@ -20,7 +20,7 @@ LONG = 5  # ttls of work after which the failures before don't count any more
 BACKOFF_MAX = 60.0  # the longest back-off of work that fails again and again, in seconds
 AWAY = 12  # ttls for which a node that gave up stays away at first
 AWAY_MAX = 3600.0  # the longest time for which it stays away, in seconds
-LOOKS = 4  # tries to note something, in a ttl
+NOTES = 4  # the most notes in a ttl
 
 
 class Health(enum.Enum):
@@ -140,7 +140,7 @@ class GivingUp:
             return None
         strays = [name for name in found.failing if name not in names] if leads else []
         asked = self._own(found, names, now) or (partial(self._note, strays[0], None) if strays else None)
-        self._next = self._next if asked is None else now + self._failures.ttl / LOOKS
+        self._next = self._next if asked is None else now + self._failures.ttl / NOTES
         return asked
 
     def _own(self, found: Snapshot, names: Collection[str], now: float) -> Callable[[], bool] | None:
@@ -177,8 +177,8 @@ class GivingUp:
         return seconds
 
     def comes_back(self, found: Snapshot, names: Collection[str]) -> bool:
-        """Whether a node that gave up tries again: its time is over; or no other node is live, or has worked well for
-        long; or an operator told it to, by removing the note of it."""
+        """Whether a node that gave up tries again: its time is over; no other node is live; no other node has worked
+        well for `LONG` ttls; or an operator has removed the note of it."""
         self.see(found)
         self._is_noted = self._name in found.failing
         now, others = seconds_of_boot(), self._others(found, names)

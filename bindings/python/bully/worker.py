@@ -150,8 +150,8 @@ class Workers:
         self._assignment = None
 
     def _wait_for_stop(self) -> None:
-        """Waits for that. A member that must leave doesn't wait for processes that were killed, since they do nothing
-        any more."""
+        """Waits for that. A member that must leave doesn't wait for processes that it may kill: they were killed, and
+        do nothing any more."""
         while True:
             with suppress(queue.Empty):
                 return self._stopped.get(timeout=STOP_WAIT)

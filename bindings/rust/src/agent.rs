@@ -12,7 +12,7 @@ use std::fmt;
 ///
 /// Each call that takes `&mut self` is an event of the group, or two if a call failed, which [`Agent::rows`] then has
 /// for the log; or it is refused and changes nothing. The calls that take `&self` change nothing. `docs/NODE.md` has
-/// the loop of a process, and what the program has to keep: the premises below are part of that.
+/// the loop of a process, and what the program must keep: the premises below are part of that.
 ///
 /// An agent may move from thread to thread. Threads can't share one without a lock: even a call that only shows
 /// something may write the handle for its own use.
@@ -48,7 +48,7 @@ impl Agent {
         self.handle.recover().map_err(Refused::told)
     }
 
-    /// The node crashes, or has to stop. Refused as `Full`, `IsDown`.
+    /// The node crashes, or must stop. Refused as `Full`, `IsDown`.
     pub fn crash(&mut self) -> Result<(), Refused> {
         self.handle.crash().map_err(Refused::told)
     }

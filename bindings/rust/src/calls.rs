@@ -1,6 +1,6 @@
 //! The calls of the C interface, made safe. No other module has unsafe code.
 //!
-//! The rules of `bully.h` that a program has to keep and that no test can see are kept here:
+//! A program must keep the rules of `bully.h`. Those that no test can check are kept here:
 //!
 //! - A handle is zeroed at first, and private to an [`AgentHandle`], a [`ReplicaHandle`] or a [`MemberHandle`], which
 //!   can't be copied. So only the library writes it.
@@ -62,9 +62,9 @@ macro_rules! texts {
     ($($text:ident($($argument:ident: $kind:ty),*): $call:ident;)*) => {
         $(pub(crate) fn $text(&self, $($argument: $kind),*) -> Result<String, bully_status> {
             let bytes = filled(|room: &mut [u8], length| {
-                let (offset, size) = (room.as_mut_ptr().cast(), room.len());
+                let (pointer, size) = (room.as_mut_ptr().cast(), room.len());
                 // SAFETY: the handle is open, and no other call of it is under way. The room is as long as is said.
-                unsafe { raw::$call(self.0.get(), $($argument,)* offset, size, length) }
+                unsafe { raw::$call(self.0.get(), $($argument,)* pointer, size, length) }
             })?;
             Ok(text_of(bytes))
         })*
@@ -75,9 +75,9 @@ macro_rules! numbers {
     ($($numbers:ident($($argument:ident: $kind:ty),*): $call:ident;)*) => {
         $(pub(crate) fn $numbers(&self, $($argument: $kind),*) -> Result<Vec<u16>, bully_status> {
             filled(|room: &mut [u16], count| {
-                let (offset, size) = (room.as_mut_ptr(), room.len());
+                let (pointer, size) = (room.as_mut_ptr(), room.len());
                 // SAFETY: the handle is open, and no other call of it is under way. The room is as long as is said.
-                unsafe { raw::$call(self.0.get(), $($argument,)* offset, size, count) }
+                unsafe { raw::$call(self.0.get(), $($argument,)* pointer, size, count) }
             })
         })*
     };
@@ -225,10 +225,10 @@ impl ReplicaHandle {
     /// Learns rows, each with its line end, and returns how many, also beside the status of the first that isn't
     /// learned.
     pub(crate) fn learn(&mut self, rows: &str) -> Result<usize, (bully_status, usize)> {
-        let (offset, mut taken) = (rows.as_ptr().cast(), 0);
+        let (pointer, mut taken) = (rows.as_ptr().cast(), 0);
         // SAFETY: the handle is open, and `&mut` lets no other call of it be under way. The rows are read alone.
         let status =
-            unsafe { raw::bully_replica_learn(self.0.get(), offset, rows.len(), &mut taken) };
+            unsafe { raw::bully_replica_learn(self.0.get(), pointer, rows.len(), &mut taken) };
         match ok(status) {
             Ok(()) => Ok(taken),
             Err(status) => Err((status, taken)),
@@ -348,10 +348,10 @@ impl MemberHandle {
     /// Learns rows, each with its line end, and returns how many, also beside the status of the first that isn't
     /// learned.
     pub(crate) fn learn(&mut self, rows: &str) -> Result<usize, (bully_status, usize)> {
-        let (offset, mut taken) = (rows.as_ptr().cast(), 0);
+        let (pointer, mut taken) = (rows.as_ptr().cast(), 0);
         // SAFETY: the handle is open, and `&mut` lets no other call of it be under way. The rows are read alone.
         let status =
-            unsafe { raw::bully_member_learn(self.0.get(), offset, rows.len(), &mut taken) };
+            unsafe { raw::bully_member_learn(self.0.get(), pointer, rows.len(), &mut taken) };
         match ok(status) {
             Ok(()) => Ok(taken),
             Err(status) => Err((status, taken)),

@@ -80,9 +80,9 @@ impl Opening {
 pub struct Seen {
     /// The current epoch.
     pub epoch: u32,
-    /// Who holds the lease of a node of it, in rising order of the nodes.
+    /// Who holds the lease of a node of that epoch, in rising order of the nodes.
     pub leases: Vec<Lease>,
-    /// Whether an unknown process holds a lease, whose name no node of it has.
+    /// Whether an unknown process holds a lease, one whose name no node of that epoch has.
     pub has_unknown: bool,
     /// Whether other settings are requested.
     pub has_request: bool,
@@ -237,7 +237,7 @@ impl Member {
         Ok(Member { handle })
     }
 
-    /// What it does now: the first of its rules that applies. The member notes that, so the step has to be done. As
+    /// What it does now: the first of its rules that applies. The member notes that, so the step must be done. As
     /// long as a request is awaited it asks for nothing else: it stops its work, or backs off. So if the answer of a
     /// request is lost, call [`Member::answered`] with `Unanswered`.
     pub fn next(&mut self, now: u64) -> Step {
@@ -298,7 +298,7 @@ impl Member {
         self.handle.woke();
     }
 
-    /// The member has to leave in an orderly way.
+    /// The member must leave in an orderly way.
     pub fn leave(&mut self) {
         self.handle.leave();
     }

@@ -33,7 +33,7 @@ pub struct Replica {
 /// drops an orphan by itself.)
 #[derive(Clone, Copy, Debug, PartialEq, Eq, Hash)]
 pub enum ReplicaEvent {
-    /// The node crashes, or has to stop. Refused as `Full`, `IsDown`.
+    /// The node crashes, or must stop. Refused as `Full`, `IsDown`.
     Crash,
     /// The node recovers, and stands for election. Refused as `Full`, `IsUp`.
     Recover,

@@ -8,7 +8,7 @@ use bully::{
     Replica, ReplicaEvent, Request, RowError, Seen, SeenError, ServeError, Setup, Step, TraceFault,
     Want, TTL_MIN,
 };
-use counted::{held, refused_behind, Aside};
+use counted::{held, refused_after, Aside};
 
 #[global_allocator]
 static ALLOCATOR: Aside = Aside;
@@ -235,8 +235,8 @@ fn all_of_members() {
     );
 }
 
-// Takes the call with all its allocations refused but the first none, one, two, .., until none is refused. Before that each call has to
-// tell so, and leaves the agent or the replica as it was. Tells how often one was refused.
+// Makes the call with all its allocations refused but the first none, one, two, .., until none is refused. Until then each call must
+// say so, and leave the agent or the replica as it was. Returns how often one was refused.
 fn refusals<S: Shown, T, E: PartialEq + std::fmt::Debug + Copy>(
     mut handle: S,
     out_of_memory: E,
@@ -244,14 +244,14 @@ fn refusals<S: Shown, T, E: PartialEq + std::fmt::Debug + Copy>(
 ) -> u64 {
     for granted in 0..1000 {
         let before = (held(), handle.shown());
-        let (given, was_refused) = refused_behind(granted, || call(&mut handle).map(drop));
+        let (given, was_refused) = refused_after(granted, || call(&mut handle).map(drop));
         if !was_refused {
             assert_eq!(given, Ok(()));
             return granted;
         }
-        assert_eq!(given, Err(out_of_memory), "behind {granted}");
+        assert_eq!(given, Err(out_of_memory), "after {granted}");
         let after = (held(), handle.shown());
-        assert_eq!(after, before, "behind {granted}");
+        assert_eq!(after, before, "after {granted}");
     }
     panic!("it takes memory without end");
 }
@@ -367,7 +367,7 @@ fn refused_in_mid_way() {
     let mut stopped = 0;
     for granted in 0..1000 {
         let mut replica = learned(0);
-        let (given, was_refused) = refused_behind(granted, || replica.learn(ROWS));
+        let (given, was_refused) = refused_after(granted, || replica.learn(ROWS));
         if !was_refused {
             assert_eq!(given, Ok(ROWS.len()));
             assert!(stopped > 0);
@@ -419,7 +419,7 @@ fn refused_texts() {
 #[test]
 fn shows_take_none() {
     let replica = learned(ROWS.len());
-    let (shown, was_refused) = refused_behind(0, || replica.shown());
+    let (shown, was_refused) = refused_after(0, || replica.shown());
     assert_eq!((shown, was_refused), (replica.shown(), false));
 }
 
@@ -438,10 +438,10 @@ fn events_take_none() {
         agent.start()?;
         agent.crash()
     };
-    let (given, was_refused) = refused_behind(0, events);
+    let (given, was_refused) = refused_after(0, events);
     assert_eq!((given, was_refused), (Ok(()), false));
     let mut agent = readying();
     let line = format!("tell,2,{},yes", agent.state().number);
-    let (given, was_refused) = refused_behind(0, || agent.replied(&line));
+    let (given, was_refused) = refused_after(0, || agent.replied(&line));
     assert!(given.is_ok() && !was_refused);
 }

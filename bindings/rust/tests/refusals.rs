@@ -286,7 +286,7 @@ fn full() {
     assert_eq!(late.recover(), Err(Refused::Full));
 }
 
-/// A call that failed is two events, so there has to be room for both.
+/// A call that failed is two events, so there must be room for both.
 #[test]
 fn no_room_for_a_failure() {
     let mut agent = Agent::open(&Setup::new(3, 3, 3), 1).expect("an agent");

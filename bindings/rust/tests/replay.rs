@@ -1,8 +1,8 @@
-//! Agents do again what the rows of a trace say, and have to say the same: the traces of `examples/`, and those of
+//! Agents do again what the rows of a trace say, and must say the same: the traces of `examples/`, and those of
 //! `crates/bully_workbench`, which `BULLY_SIMULATOR` names, over simulated networks.
 //!
 //! A row says which call on which node's agent is made, and what comes of it: the agent's own row, the line of its request or of its
-//! reply, what it is told, its claim. In version 3 all of it has to be said; in versions 1 and 2 less is compared. Each call that would be
+//! reply, what it is told, its claim. In version 3 all of it must be said; in versions 1 and 2 less is compared. Each call that would be
 //! refused if it came again comes again, and changes nothing. A node that crashed goes on by its agent or by a new one. A trace in which
 //! a premise of `docs/NODE.md` is broken is done again, too: a request may run twice, or late, and a reply may be made up.
 

@@ -154,13 +154,13 @@ const THREE_NODES: &str = "recover,1 recover,2 recover,3 \
     start,3 run,3 return,3 start,3 run,3 return,3 move,3 plan,3,1.1.2.2.2.2.3 \
     start,3 run,3 return,3 start,3 run,3 return,3 move,3";
 
-// Behind these node 3 crashes. Node 2 asks it, asks the higher ones, which is node 3 again, and halts node 1. Its plan is the 50th.
+// After these node 3 crashes. Node 2 asks it, asks the higher ones, which is node 3 again, and halts node 1. Its plan is the 50th.
 const WITHOUT_NODE_3: &str = "crash,3 timeout,2 \
     start,2 lose,2 return,2 start,2 lose,2 return,2 move,2 start,2 run,2 return,2 move,2 \
     start,2 run,2 return,2 move,2 plan,2,1.1.2.2.2.2.1 \
     start,2 run,2 return,2 move,2";
 
-// Behind these node 3 comes back. Its plan is the 71st.
+// After these node 3 comes back. Its plan is the 71st.
 const NODE_3_AGAIN: &str = "recover,3 move,3 \
     start,3 run,3 return,3 start,3 run,3 return,3 move,3 \
     start,3 run,3 return,3 start,3 run,3 return,3 move,3 plan,3,1.1.2.2.2.2.3 \
@@ -619,7 +619,7 @@ fn texts_that_are_not_one_row() {
     }
 }
 
-/// Behind 1,000,000 claims no row is learned, whatever it holds.
+/// After 1,000,000 claims no row is learned, whatever it holds.
 #[test]
 fn too_many_rows() {
     let mut replica = opened("bully,1,1,1");

@@ -39,14 +39,14 @@ abbrev pub names_in : Option Configuration → List (List ℕ)
 names_in None = []
 names_in (Some config) = config.names
 
--- the text below a picture: the line of the row that decided, as in a trace, and more behind it; nothing where none
+-- the text below a picture: the line of the row that decided, as in a trace, and more after it; nothing where none
 -- decided
 abbrev pub IsBelow : Option Row → List ℕ → Type 0
 IsBelow None below = below ≡ []
 IsBelow (Some row) below = Begins below (line_of (row_fields row))
 
--- a picture as text: it begins with the verdict's line, and ends with this text; and it is which rows are shown, all of
--- the lines of those that change something, with how each node stands behind it, and nothing else
+-- a picture as text: it starts with the verdict's line, and ends with this text; and it is which rows are shown, all of
+-- the lines of those that change something, with how each node stands after it, and nothing else
 pub record IsTextOf (finished : FinishedFilm) (text picture : List ℕ) : Type 0 where
   pub verdict : Begins picture (verdict_head finished.verdict)
   pub whole : (window : WindowState) (trace : Trace) (is : IsFilmOf window finished trace)

@@ -24,7 +24,7 @@ abbrev pub sheet_told : Bool → Verdict → List ℕ → List ℕ
 sheet_told false verdict sheet = sheet
 sheet_told true verdict sheet = sheet_line verdict sheet
 
--- the rows of the input have a verdict: its sheet stands on the output, which begins with the row that decided, and how
+-- the rows of the input have a verdict: its sheet stands on the output, which starts with the row that decided, and how
 -- it did
 abbrev pub IsExplainedAnswer : Bool → List ℕ → KnownBytes → KnownBytes → KnownBytes → KnownBytes → ℕ → Type 0
 IsExplainedAnswer is_json bytes output output' errors errors' status =
@@ -33,7 +33,7 @@ IsExplainedAnswer is_json bytes output output' errors errors' status =
     × IsSheetText trace.setup trace.rows w verdict sheet × Appends output output' (sheet_told is_json verdict sheet)
     × Keeps errors errors' × (status ≡ verdict_status verdict)
 
--- a row of the input is faulty: the first such row is told on the errors, with its sheet behind the line, which begins
+-- a row of the input is faulty: the first such row is told on the errors, with its sheet after the line, which starts
 -- with that row and the fault; and nothing stands on the output
 abbrev pub IsUnexplainedAnswer : List ℕ → KnownBytes → KnownBytes → KnownBytes → KnownBytes → ℕ → Type 0
 IsUnexplainedAnswer bytes output output' errors errors' status =
@@ -49,7 +49,7 @@ IsExplainAnswer is_json bytes output output' errors errors' status =
     ⊎ IsStopAnswer bytes output output' errors errors' status
 
 -- the answer to `explain --config` where the file holds these bytes: that they are a configuration stands on the
--- output; or their first refusal is told on the errors, with its sheet behind the line, and nothing stands on the
+-- output; or their first refusal is told on the errors, with its sheet after the line, and nothing stands on the
 -- output. A sheet is lines without controls, and one line unless the text is no TOML document
 abbrev pub IsConfigExplainAnswer : List ℕ → KnownBytes → KnownBytes → KnownBytes → KnownBytes → ℕ → Type 0
 IsConfigExplainAnswer bytes output output' errors errors' status =

@@ -1,4 +1,4 @@
--- What `play` and `table` make of a configuration's bytes and of the words behind its path, or why they do nothing.
+-- What `play` and `table` make of a configuration's bytes and of the words after its path, or why they do nothing.
 use Rattle.std.specs.Prelude.{◌≡◌, ◌⊎◌, ℕ, List, [], ◌∷◌, Option, Some, None, option_and_then, option_map, Result, Ok}
 use Rattle.std.specs.Prelude.{Err}
 use Rattle.std.specs.Str.{IsUtf8}

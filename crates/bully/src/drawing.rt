@@ -364,7 +364,7 @@ fn reason_of(alloc: Global, film: &RuledFilm, row: &Row) -> Result<String, OutOf
     Ok(text)
 }
 
-// Appends what the sheet of the row that decided says behind its line.
+// Appends what the sheet of the row that decided says after its line.
 fn push_why(
     alloc: Global,
     text: &mut String,

@@ -67,7 +67,7 @@ pub fn answer_explain<H: Files + AllocGlobal, R: Read + Drop, W: Write, E: Write
 }
 
 // Explains the verdict on the trace on the input, with its sheet on the output, as text or as JSON, and tells the
-// status, which is that of `check`. The sheet of a fault of form stands on the errors, behind the line of the fault.
+// status, which is that of `check`. The sheet of a fault of form stands on the errors, after the line of the fault.
 fn explain_trace<R: Read + Drop, W: Write, E: Write>(
     alloc: Global,
     is_json: bool,
@@ -138,7 +138,7 @@ pub fn write_sheet<W: Write, E: Write>(
     finish(status, output, errors)
 }
 
-// Tells a fault of a trace's form on the errors, with its sheet behind the line. The status is 3, and 4 where there is
+// Tells a fault of a trace's form on the errors, with its sheet after the line. The status is 3, and 4 where there is
 // no memory for both.
 fn answer_form<E: Write>(alloc: Global, fault: TraceFault, sheet: &str, errors: &mut E) -> u8
     ensures { ((result ≡ 3) × Tells (E.contents errors.old) (E.contents errors.new) (row_line fault ++ sheet.now))
@@ -153,7 +153,7 @@ fn answer_form<E: Write>(alloc: Global, fault: TraceFault, sheet: &str, errors: 
     }
 }
 
-// The line of a fault of form, and its sheet behind it.
+// The line of a fault of form, and its sheet after it.
 fn form_lines(alloc: Global, fault: TraceFault, sheet: &str) -> Result<String, OutOfMemory>
     ensures { IfOk result (λ lines. string_bytes lines ≡ row_line fault ++ sheet.now) }
 {
@@ -162,7 +162,7 @@ fn form_lines(alloc: Global, fault: TraceFault, sheet: &str) -> Result<String, O
     Ok(lines)
 }
 
-/// Explains the first fault of the configuration at the path, on the errors behind its line, and tells the status;
+/// Explains the first fault of the configuration at the path, on the errors after its line, and tells the status;
 /// where it has none, that stands on the output.
 pub fn answer_explain_config<H: Files + AllocGlobal, W: Write, E: Write>(
     rt: &H,
@@ -220,7 +220,7 @@ fn explain_text<W: Write, E: Write>(alloc: Global, text: &str, output: &mut W, e
     }
 }
 
-// Tells the fault of a configuration on the errors, with its sheet behind the line.
+// Tells the fault of a configuration on the errors, with its sheet after the line.
 fn answer_fault_of<E: Write>(alloc: Global, fault: ConfigFault, sheet: &str, errors: &mut E) -> u8
     ensures { ((result ≡ 3)
         × Tells (E.contents errors.old) (E.contents errors.new) (refusal_line (Refusal.Config fault) ++ sheet.now))
@@ -235,7 +235,7 @@ fn answer_fault_of<E: Write>(alloc: Global, fault: ConfigFault, sheet: &str, err
     }
 }
 
-// The line of a configuration's fault, and its sheet behind it.
+// The line of a configuration's fault, and its sheet after it.
 fn fault_lines(alloc: Global, fault: ConfigFault, sheet: &str) -> Result<String, OutOfMemory>
     ensures { IfOk result (λ lines. string_bytes lines ≡ refusal_line (Refusal.Config fault) ++ sheet.now) }
 {

@@ -22,7 +22,7 @@ pub struct Growing<'a, C: Clock, F: Read + OpenFile> {
 }
 
 impl<'a, C: Clock, F: Read + OpenFile> Growing<'a, C, F> {
-    /// The file, of which nothing was read. It grows if it is a regular one.
+    /// The file, before anything of it was read. It grows if it is a regular one.
     pub fn new(clock: &'a C, file: F) -> Growing<'a, C, F>
         ensures { result.file ≡ file }
     {

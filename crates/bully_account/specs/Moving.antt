@@ -14,7 +14,7 @@ abbrev pub holds_no_orphan : Option Pending → Bool
 holds_no_orphan None = true
 holds_no_orphan (Some c) = c.is_live
 
--- whether the event takes its own node to another point; none where that is seen behind it alone
+-- whether the event takes its own node to another point; none where that is seen after it alone
 abbrev pub own_move : World → Event → Option Bool
 own_move w (Event.Recover i) = Some true
 own_move w (Event.Crash i) = Some (not (is_idle (point w i)))

@@ -57,7 +57,7 @@ abbrev pub started_or : Option Call → What
 started_or None = What.Did (EventKind.Node NodeEventKind.Start)
 started_or (Some call) = What.Started call
 
--- what the event did to its node, in whose slot this call is behind it
+-- what the event did to its node, in whose slot this call is after it
 abbrev pub what_with : Event → Option Call → What
 what_with (Event.Start i) call = started_or call
 what_with e call = What.Did (kind_of e)

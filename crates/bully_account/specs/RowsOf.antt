@@ -38,7 +38,7 @@ IsEventAt rows number e = (row : Row) × IsRowAt rows number row × (event_in ro
 abbrev pub IsBehind : Setup → List Row → World → Type 0
 IsBehind setup rows w = (count : ℕ) × IsJudged setup (first_world setup) 0 2 rows (Verdict.Lawful count) w
 
--- ---- what an event did to a node, w is the world behind it
+-- ---- what an event did to a node, w is the world after it
 
 abbrev pub started_as : Option Call → List What
 started_as None = []
@@ -68,7 +68,7 @@ abbrev pub what_in : Note → What
 what_in note = note.what
 
 -- the note is of the row of this number, which led from v to w, and has moved exactly if node i's point is another one
--- behind it
+-- after it
 pub record IsNoteOf (v w : World) (number i : ℕ) (note : Note) : Type 0 where
   pub row : note.row ≡ number
   pub moved : (note.moved ≡ true) ↔ (point w i ≢ point v i)
@@ -78,17 +78,17 @@ pub record AreNotesOf (v w : World) (number i : ℕ) (e : Event) (notes : List N
   pub what : map what_in notes ≡ deeds w i e
   pub each : All (IsNoteOf v w number i) notes
 
--- of the event of a row behind these
+-- of the event of a row after these
 abbrev pub AreNotesBehind : Setup → ℕ → List Row → Row → List Note → Event → Type 0
 AreNotesBehind setup i before row notes e =
     (v : World) × (w : World) × IsBehind setup before v × IsBehind setup (before ++ row ∷ []) w
     × AreNotesOf v w (length before + 2) i e notes
 
--- of a row behind these; none of a claim
+-- of a row after these; none of a claim
 abbrev pub AreNotesAt : Setup → ℕ → List Row → Row → List Note → Type 0
 AreNotesAt setup i before row notes = MatchOption (event_in row) (notes ≡ []) (AreNotesBehind setup i before row notes)
 
--- of all rows behind these, in their order
+-- of all rows after these, in their order
 abbrev pub AreNotesFrom : Setup → ℕ → List Row → List Row → List Note → Type 0
 AreNotesFrom setup i before [] notes = notes ≡ []
 AreNotesFrom setup i before (row ∷ rows) notes =
@@ -113,7 +113,7 @@ IsLastPlan rows i planned =
     (λ table. (last : ℕ) × IsEventAt rows last (Event.Plan i table)
     × ((number : ℕ) (other : List ℕ) → IsEventAt rows number (Event.Plan i other) → number ≤ last))
 
--- what is remembered of node i behind these rows, none of which decides: exactly the last of all its notes, in their
+-- what is remembered of node i after these rows, none of which decides: exactly the last of all its notes, in their
 -- order, the row of its last start, and the table of its last plan
 pub record IsRemembered (setup : Setup) (rows : List Row) (i : ℕ) (memory : Remembered) : Type 0 where
   pub all : List Note

@@ -59,7 +59,7 @@ impl Account {
     ghost use Rattle.bully_trace.specs.Verdict.{IsJudged};
     ghost use Rattle.bully_world.specs.World.{first_world};
 
-    /// An account behind this header, before any row. Refused where an allocation fails.
+    /// An account after this header, before any row. Refused where an allocation fails.
     pub fn new(alloc: Global, header: Header) -> Result<Account, OutOfMemory>
         ensures taken { IfOk result (HasTaken header.setup []) }
         ensures version { IfOk result (λ account. account.judge.version ≡ header.version) }

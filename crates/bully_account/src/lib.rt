@@ -2,11 +2,10 @@
 //! has of each node, which kinds of event are possible there, and what is told of the trace, a verdict or its first
 //! fault of form.
 //!
-//! It stands on bully_trace, whose judge decides, and on the crates below it. bully_explain, which makes the sheet of
-//! all this, relies on the verdict being that of `check`, on what is shown of a node being what the world before the
-//! row has of it, on the kinds of event that are listed as possible being those that nothing refuses, on what is
-//! remembered of a node being its last rows, and on nothing being told where a read fails. That `csv` tells where a row
-//! ends is tested.
+//! It builds on bully_trace, whose judge decides, and on the crates below it. bully_explain, which makes the sheet of
+//! all this, relies on five things. The verdict is that of `check`. What is shown of a node is what the world before
+//! the row has of it. The kinds of event that are listed as possible are those that nothing refuses. What is remembered
+//! of a node is its last rows. And nothing is told if a read fails. That `csv` reports where a row ends is tested.
 #![tactic(auto)]
 
 mod account;

@@ -18,7 +18,7 @@ use bully_world::{Event, World};
 /// and not before.
 #[derive(Clone, Copy)]
 pub struct Moves {
-    /// Its own node; none where that is seen behind it alone: a check or a timeout may leave an idle node idle.
+    /// Its own node; none where that is seen after it alone: a check or a timeout may leave an idle node idle.
     pub own: Option<bool>,
     /// The callee of a Halt that runs.
     pub callee: bool,
@@ -48,7 +48,7 @@ pub fn no_moves() -> Moves
     }
 }
 
-/// Whether the event took its own node to another point, by what was told before it, and the world behind it: where
+/// Whether the event took its own node to another point, by what was told before it, and the world after it: where
 /// none was told, it did if the node isn't idle now.
 pub fn has_moved(own: Option<bool>, world: &World, node: Node) -> bool
     ensures { result ≡ moved_by own (world_of world.now) node }

@@ -46,7 +46,7 @@ impl<R: Read> TailReader<R> {
     ghost use Rattle.std.specs.Prelude.{◌^◌, ◌<◌, ◌≤◌, length};
     ghost use Rattle.bully_account.specs.Tail.{Notes, before_of, end_of, is_at_end, last_of, source_of};
 
-    /// A reader of the same bytes, of which nothing was given yet.
+    /// A reader of the same bytes that hasn't given any of them yet.
     pub fn new(reader: R) -> TailReader<R>
         ensures { source_of result ≡ reader }
     {

@@ -21,10 +21,10 @@ pub struct TraceReport {
     pub nodes: Vec<NodeSheet>,
 }
 
-/// Takes all rows of a text, of which none was read, to the account, which the header makes, and tells the verdict as
-/// `check` does, or the first fault of form. With a verdict the account is there. Refused where there is nothing to
-/// tell: as `Read` where the reader fails, at the row behind those that were read; and as `OutOfMemory`, at row 0,
-/// where the account or what is shown can't be made.
+/// Takes all rows of a text, from the first, to the account, which the header makes, and tells the verdict as `check`
+/// does, or the first fault of form. With a verdict the account is there. Refused where there is nothing to tell: as
+/// `Read` where the reader fails, at the row after those that were read; and as `OutOfMemory`, at row 0, where the
+/// account or what is shown can't be made.
 pub fn tell<R: Read + Drop>(
     alloc: Global,
     rows: &mut RowReader<TailReader<R>>,

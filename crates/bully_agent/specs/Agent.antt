@@ -35,7 +35,7 @@ pub record IsAgentOf (setup : Setup) (i events : ℕ) (m : StoredNode) : Type 0 
 abbrev pub PartOf : AgentState → World → Type 0
 PartOf a w = IsPart a.setup a.node a.node_state w
 
--- in every world of which the agent may be a part, and in which the premise holds, the event leads on with this answer,
+-- in every world that the agent may be a part of, and in which the premise holds, the event leads on with this answer,
 -- and the new agent is a part of the world that comes
 abbrev pub Follows : (World → Type 0) → AgentState → Event → Answer → AgentState → Type 0
 Follows Premise old e answer new = FollowsAt Premise old.setup old.node old.node_state e answer new.node_state
@@ -79,7 +79,7 @@ agent_after e a = record a {
 }
 
 -- the agent took the event, for which there was room: it tells event and answer, is what the event makes of it, and the
--- event leads on in every world of which it may be a part
+-- event leads on in every world that it may be a part of
 pub record IsTaken (old : AgentState) (e : Event) (new : AgentState) (taken : AppliedStep) : Type 0 where
   pub room : old.events < old.setup.events_max
   pub event : taken.event ≡ e

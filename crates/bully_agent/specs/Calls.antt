@@ -54,8 +54,8 @@ pub record IsWaiting (i : ℕ) (w : World) : Type 0 where
   pub is : pending w i ≡ Some call
   pub sent : call.phase ≡ Phase.Sent
 
--- the request that is given out, if any, is one that its callee may serve: in each world of which the agent may be a
--- part, and where its call waits, this is its call
+-- the request that is given out, if any, is one that its callee may serve: in each world that the agent may be a part
+-- of, and where its call waits, this is its call
 abbrev pub GivesOut : AgentState → Option Request → Type 0
 GivesOut a given = IfSome given (λ r. (w : World) → PartOf a w → IsWaiting a.node w → IsRequested r.call.callee r w)
 
@@ -78,7 +78,7 @@ RefusesRequest setup i events m r Refused.CalleeDown = (events < setup.events_ma
 RefusesRequest setup i events m r _ = ⊥
 
 -- the request ran at the agent, where nothing refused it: it tells the event and the reply, is what the call makes of
--- it, and the event leads on in every world of which it may be a part, and in which this is the caller's call
+-- it, and the event leads on in every world that it may be a part of, and in which this is the caller's call
 pub record IsServed (old : AgentState) (request : Request) (new : AgentState) (served : Served) : Type 0 where
   pub can : CanServe old.setup old.node old.events old.node_state request
   pub event : served.event ≡ Event.Run request.caller
@@ -99,8 +99,8 @@ pub record HasRun (i : ℕ) (answer : Answer) (w : World) : Type 0 where
   pub is : pending w i ≡ Some call
   pub ran : call.phase ≡ Phase.Ran answer
 
--- the reply tells what the run comes to: wherever that leads from a world of which the agent may be a part, and in
--- which the request is the caller's call, that call ran with this answer
+-- the reply tells what the run comes to: wherever that leads from a world that the agent may be a part of, and in which
+-- the request is the caller's call, that call ran with this answer
 abbrev pub TellsRun : AgentState → Request → Reply → Type 0
 TellsRun a request reply =
     (w w' : World) (answer : Answer) → PartOf a w → IsRequested a.node request w
@@ -156,7 +156,7 @@ pub record IsAwaited (a : AgentState) (number : ℕ) : Type 0 where
   pub number_is : number ≡ a.number
   pub sent : holds_call is_sent a.node_state.slot ≡ true
 
--- the agent's call, the one of this number, failed, which leads on in every world of which the agent may be a part and
+-- the agent's call, the one of this number, failed, which leads on in every world that the agent may be a part of and
 -- where the callee is Down, and returned, which leads on from there; there was room for both events
 pub record IsFailed (old : AgentState) (number : ℕ) (new : AgentState) (failed : FailedCall) : Type 0 where
   pub room : old.events + 1 < old.setup.events_max

@@ -28,8 +28,8 @@ use std::marker::Model;
 /// One node on its own.
 ///
 /// Each call that changes it is refused and changes nothing, or is an event of the group, which it tells for the log.
-/// Its contract says so of every world of which the agent may be a part; some calls have a premise that the agent can't
-/// see, and that whoever carries requests and replies has to keep: docs/NODE.md.
+/// Its contract says so for every world that the agent may be a part of. Some calls have a premise that the agent can't
+/// see: the program that carries requests and replies must keep it (docs/NODE.md).
 #[derive(Drop, Debug)]
 pub struct Agent {
     setup: Setup,
@@ -64,7 +64,7 @@ pub struct Served {
 pub struct FailedCall {
     /// The loss, for the log.
     pub lost: Event,
-    /// The return, behind it.
+    /// The return, after it.
     pub returned: AppliedStep,
 }
 
@@ -202,8 +202,8 @@ impl Agent {
     }
 
     /// The node takes the event of this kind by itself: any but a Run, which is [`Agent::serve`], a Lose and a Return,
-    /// which are [`Agent::failed`] and [`Agent::replied`]. Of a process that dies nobody takes its Crash: whoever sees
-    /// its death logs that. Once a Start is taken, [`Agent::request`] has what is to be sent. What each does:
+    /// which are [`Agent::failed`] and [`Agent::replied`]. If a process dies, its agent takes no Crash: a process that
+    /// sees the death logs the Crash. Once a Start is taken, [`Agent::request`] has what is to be sent. What each does:
     /// docs/ALGORITHM.md. Refused as
     ///
     /// - `Full`; `IsDown`, but a Recover as `IsUp`;

@@ -1,10 +1,10 @@
 //! One node on its own: what a process keeps of it, without IO, lock, thread or clock. What it does is a step of the
 //! group, whatever the other nodes are.
 //!
-//! It stands on bully_world, bully_agree, bully_calls and the crates below them. Whoever builds on it relies on each
-//! call of an `Agent` being a step in every world of which the agent may be a part, under the premise that its contract
-//! names; on what agents give out meeting the premises of `serve` and `replied`; on the law that such a step leaves all
-//! other agents parts of the same world; and on the law that they agree.
+//! It builds on bully_world, bully_agree, bully_calls and the crates below them. A program that uses it relies on four
+//! things. Each call of an `Agent` is a step in every world that the agent may be a part of, under the premise that its
+//! contract names. What agents give out meets the premises of `serve` and `replied`. Such a step leaves all other
+//! agents parts of the same world (a law). And they agree (a law).
 #![tactic(auto)]
 
 ghost use Rattle.bully_agent.specs.Laws.{GroupGoesOn, KeepsOthers, PartsAgree, RunsStay};

@@ -1,5 +1,5 @@
 -- A setup that is kept without its weights where it is even.
-use Rattle.std.proofs.Common.{◌≡◌, ◌∙◌, ℕ, true, List, [], replicate, ap, arith, ◌==◌, not}
+use Rattle.std.proofs.Common.{◌≡◌, ◌∙◌, ℕ, true, List, replicate, ap, arith, ◌==◌, not}
 use Rattle.std.specs.List.{list_all}
 use Rattle.std.proofs.lemmas.Bool.{and_parts, not-true}
 use Rattle.bully_base.proofs.SetupLemmas.{ones-all}

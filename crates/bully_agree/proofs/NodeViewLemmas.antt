@@ -1,5 +1,5 @@
 -- What is kept of the nodes shows them: all Normal nodes have one task.
-use Rattle.std.proofs.Common.{◌≡◌, ◌<◌, ◌≤◌, ◌+◌, ◌++◌, ℕ, zero, suc, List, [], ◌∷◌, map, take, length, Option, None, add-one, arith, refl, sym, ap, ◌∙◌, subst, slice_index_or}
+use Rattle.std.proofs.Common.{◌≡◌, ◌<◌, ◌≤◌, ◌+◌, ◌++◌, ℕ, zero, suc, List, [], ◌∷◌, map, take, length, Option, None, add-one, arith, refl, sym, ap, subst, slice_index_or}
 use Rattle.bully_base.specs.Places.{at_node}
 use Rattle.bully_base.specs.declared.node.Status.{Status}
 use Rattle.bully_base.specs.declared.node.Status.TheVariants.{Normal}

@@ -37,7 +37,7 @@ pub record GoAlike (w : World) (i : ℕ) (v : World) (j : ℕ) : Type 0 where
   pub coordinator : (vector w i).coordinator ≡ (vector v j).coordinator
   pub task : (vector w i).task ≡ (vector v j).task
 
--- the last plan behind one event more, where there were so many events
+-- the last plan after one event more, where there were so many events
 abbrev pub plan_then : ℕ → Option Planned → Event → Option Planned
 plan_then count last (Event.Plan i table) = Some (record { planner = i; table = table; token = count + 1 })
 plan_then count last e = last

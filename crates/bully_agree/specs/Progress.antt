@@ -15,7 +15,7 @@ may_stand Between e = stands_alone e
 may_stand (Started i) e = settles i e
 may_stand (Over i) e = gives_back i e
 
--- the progress behind it
+-- the progress after it
 abbrev pub progress_after : Progress → Event → Progress
 progress_after Between (Event.Start i) = Started i
 progress_after Between e = Between

@@ -1,7 +1,7 @@
 //! What all nodes of a group agree on, whatever lawful list of events has happened; views of a group, and runs.
 //!
-//! It stands on bully_world and the crates below it. The crates above rely on the law of agreement, on the law
-//! of causes, on every `View` agreeing and being of a world that a lawful list leads to, and on what runs give.
+//! It builds on bully_world and the crates below it. The crates above rely on the law of agreement, on the law of
+//! causes, and on what runs give; and on this: every `View` agrees, and is of a world that a lawful list leads to.
 #![tactic(auto)]
 
 ghost use Rattle.std.specs.Prelude.{◌≡◌, ◌≢◌, ◌<◌, ◌≤◌, ◌↔◌, ◌++◌, ℕ, List, None};
@@ -55,7 +55,7 @@ pub fn plans_alone()
 {}
 
 /// The law of the last plan. Where a lawful list leads to a world and a node is Normal there, the list has a last plan,
-/// of which the node's coordinator is the planner and its task the table. And a list has one last plan.
+/// whose planner is the node's coordinator, and whose table is its task. And a list has one last plan.
 pub fn last_plan()
     ensures goes_by { (setup : Setup) (events : List Event) (answers : List Answer) (w : World) (i : ℕ)
         → IsLawful setup events answers w → (vector w i).status ≡ Normal
@@ -64,9 +64,9 @@ pub fn last_plan()
 {}
 
 /// The law of fencing, of the tokens of last plans. Of two Normal nodes, one in the world of a lawful list and one in
-/// the world of a longer list that begins with it, the later one's token is no lower; and where the tokens are equal,
+/// the world of a longer list that starts with it, the later one's token is no lower; and where the tokens are equal,
 /// both have the same coordinator and the same task. So a resource that keeps the highest token it has seen, and
-/// refuses lower ones, is used by one coordinator and one table under one token, and by no older plan behind a newer
+/// refuses lower ones, is used by one coordinator and one table under one token, and by no older plan after a newer
 /// one.
 pub fn tokens_fence()
     ensures { (setup : Setup) (events more : List Event) (answers others : List Answer) (w v : World) (i j : ℕ)

@@ -84,7 +84,7 @@ fn first_break(events: &[Event]) -> Option<usize>
 }
 
 impl Progress {
-    // The progress behind the event; none where it may not stand here.
+    // The progress after the event; none where it may not stand here.
     fn after(self, event: &Event) -> Option<Progress>
         ensures { result ≡ (if may_stand self event.now then Some (progress_after self event.now) else None) }
     {
@@ -98,7 +98,7 @@ impl Progress {
     }
 }
 
-// The progress behind an event while no call is at hand.
+// The progress after an event while no call is at hand.
 fn after_no_call(event: &Event) -> Option<Progress>
     ensures { result ≡ (if may_stand Progress.Between event.now then Some (progress_after Progress.Between event.now)
         else None) }

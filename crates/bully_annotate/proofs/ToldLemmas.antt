@@ -21,13 +21,11 @@ use Rattle.bully_handlers.specs.Vector.{Vector, is_normal}
 use Rattle.bully_rows.specs.declared.detail.Detail.{Detail}
 use Rattle.bully_rows.specs.declared.detail.DetailedEvent.{DetailedEvent}
 use Rattle.bully_rows.specs.declared.header.Version.{Version}
-use Rattle.bully_rows.specs.declared.trace.Claim.{Claim}
 use Rattle.bully_rows.specs.declared.trace.Row.{Row}
 use Rattle.bully_rows.specs.EventsTold.{answered, event_of_detailed, unanswered}
 use Rattle.bully_rows.specs.ReadBack.{AreOwners, IsAnswerTold, IsDetailTold, IsNamed, IsReply, IsRowTold, IsTold}
 use Rattle.bully_rows.specs.Rows.{IsTraceOf, OfTrace, records_of}
 use Rattle.bully_rows.specs.Trace.{Trace}
-use Rattle.bully_rows.specs.Whole.{Whole}
 use Rattle.bully_rows.proofs.ReadBackLemmas.{written-means}
 use Rattle.bully_rows.proofs.ToldRows.{found, made}
 use Rattle.bully_rows.proofs.SetupTold.{event-told, node-named}

@@ -1,4 +1,4 @@
--- A trace with everything said: of each call what it is and what was answered, and behind each event the vector that it
+-- A trace with everything said: of each call what it is and what was answered, and after each event the vector that it
 -- changed.
 use Rattle.std.specs.Prelude.{ℕ, Bool, List, [], ◌∷◌, ◌++◌, Option, Some, None, ◌&&◌, if◌then◌else◌}
 use Rattle.bully_base.specs.NodeSetEq.{same_set}
@@ -31,7 +31,7 @@ same_vector a b =
 abbrev pub shown_row : World → ℕ → Row
 shown_row w i = Row.Whole (whole_of i (vector w i))
 
--- the vector of a node behind a step, where it isn't the one before it
+-- the vector of a node after a step, where it isn't the one before it
 abbrev pub shown_unless : Bool → World → ℕ → List Row
 shown_unless same w i = if same then [] else shown_row w i ∷ []
 
@@ -42,7 +42,7 @@ shown_change w w' i = shown_unless (same_vector (vector w i) (vector w' i)) w' i
 abbrev pub event_rows : Setup → World → Event → World → List Row
 event_rows setup w e w' = said_row e (said_of setup w e) ∷ shown_change w w' (place_of w e)
 
--- rows that begin in this world, with everything said, up to an event that isn't possible
+-- rows that start in this world, with everything said, up to an event that isn't possible
 abbrev pub rows_said : Setup → World → List Row → List Row
 rows_said setup w [] = []
 rows_said setup w (Row.Event e ∷ rows) = elim (step_of setup w e) [

@@ -1,4 +1,4 @@
--- What is written of one row, and what follows of those behind it.
+-- What is written of one row, and what follows of those after it.
 use Rattle.std.specs.Prelude.{◌≡◌, ℕ, ◌+◌, ◌<◌, ◌≤◌, ◌++◌, Bool, true, false, [], ◌∷◌, List, Option, length}
 use Rattle.std.specs.Io.KnownBytes.{Appends}
 use Rattle.bully_rows.specs.declared.TheConstants.{ROWS_MAX}
@@ -24,7 +24,7 @@ IsLawfulFrom world number rows after w =
 abbrev pub Adds : List ℕ → List ℕ → List ℕ → Type 0
 Adds text text' more = text' ≡ text ++ more
 
--- of this row so many rows were written, and the others go on from the world behind it
+-- of this row so many rows were written, and the others go on from the world after it
 pub record Says (before behind : WorldState) (number : ℕ) (row : Row) (more : List Row) (after : ℕ) (w : World)
     (Writes : List ℕ → Type 0) (count : ℕ) : Type 0 where
   pub rows : List Row

@@ -1,4 +1,4 @@
--- What claims of whole vectors show: behind an event each vector that it changed, and of a node all of its vector.
+-- What claims of whole vectors show: after an event each vector that it changed, and of a node all of its vector.
 use Rattle.std.specs.Prelude.{◌≡◌, ◌↔◌, ◌⊎◌, ℕ, true, List, [], ◌∷◌}
 use Rattle.bully_base.specs.NodeSet.{IsFallingBelow}
 use Rattle.bully_base.specs.Setup.{IsNode, Setup}
@@ -12,7 +12,7 @@ use Rattle.bully_trace.specs.Details.{is_whole}
 use Rattle.bully_annotate.specs.Annotated.{shown_change, shown_row}
 use Rattle.bully_world.specs.Place.{place_of}
 
--- behind each event that is possible after a lawful list the vector of each node that it changed is shown
+-- after each event that is possible after a lawful list the vector of each node that it changed is shown
 abbrev pub ShowsEachChange : Type 0
 ShowsEachChange =
     (setup : Setup) (events : List Event) (answers : List Answer) (w : World) (e : Event) (w' : World) (a : Answer)

@@ -30,7 +30,7 @@ pub enum Annotation {
 
 /// Annotates a lawful trace: reads one of any version, and writes the one of version 3 with the same setup and the same
 /// events, in which everything is said: of each event of a call which call it is and what was answered; each claim with
-/// all of its node's vector; and behind each event such a claim of the node whose vector it changed, if it changed one.
+/// all of its node's vector; and after each event such a claim of the node whose vector it changed, if it changed one.
 /// Where nothing stood before, what is written means that very trace. Where the trace isn't lawful, its verdict is told
 /// and nothing is written, nor where that would have more rows than a trace may. Refused as [`bully_rows::read_trace`]
 /// refuses the trace, and then nothing was written; as `OutOfMemory` where a world or a line can't be made, with

@@ -1,7 +1,7 @@
 //! Traces with everything said.
 //!
-//! It stands on bully_trace and the crates below it. The crates above rely on an annotated trace being as lawful as the
-//! one that was read.
+//! It builds on bully_trace and the crates below it. The crates above rely on this: an annotated trace is as lawful as
+//! the one that was read.
 #![tactic(auto)]
 
 ghost use Rattle.bully_annotate.specs.InFull.{AnnotatedIsInFull, SaysEachCall};
@@ -24,8 +24,8 @@ pub fn calls_said()
     ensures in_full { AnnotatedIsInFull }
 {}
 
-/// The law of what is shown behind an event. In a world that a lawful list leads to, an event that is possible changes
-/// the vector of one node at most, and behind it the vector of each node that it changed is shown, and no other one.
+/// The law of what is shown after an event. In a world that a lawful list leads to, an event that is possible changes
+/// the vector of one node at most, and after it the vector of each node that it changed is shown, and no other one.
 pub fn changes_shown()
     ensures each { ShowsEachChange }
     ensures no_more { ShowsNoMore }

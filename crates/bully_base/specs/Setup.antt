@@ -71,7 +71,7 @@ is_node setup i = nat_lt 0 i && nat_le i setup.nodes
 abbrev pub weight_of : Setup → ℕ → ℕ
 weight_of setup i = slice_index_or setup.weights (i - 1) 0
 
--- a weight for each node that a group may have: these first, and 0 behind them
+-- a weight for each node that a group may have: these first, and 0 after them
 abbrev pub padded : ℕ → List ℕ → List ℕ
 padded nodes weights = weights ++ replicate (NODES_MAX - nodes) 0
 

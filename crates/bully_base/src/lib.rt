@@ -1,7 +1,7 @@
 //! The numbers of an election group: nodes, its setup, and sets of nodes.
 //!
-//! It stands on nothing but std. The crates above see a node as its number, a setup as its numbers and weights,
-//! and a set of nodes as its members in falling order.
+//! It builds on nothing but std. The crates above see a node as its number, a setup as its numbers and weights, and a
+//! set of nodes as its members in falling order.
 #![tactic(auto)]
 
 ghost use Rattle.std.specs.Prelude.{◌≡◌};

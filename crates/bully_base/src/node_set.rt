@@ -167,7 +167,7 @@ fn count_used(words: &[u64]) -> usize
     0
 }
 
-// The highest node of these words, the first of which begins with node 1.
+// The highest node of these words, the first of which starts with node 1.
 fn highest_among(words: &[u64]) -> Option<Node>
     requires { length words.now ≤ WORDS }
     ensures { result ≡ highest_of (members_of words.now) }

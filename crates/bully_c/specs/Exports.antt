@@ -33,7 +33,7 @@ use Rattle.bully_c.specs.declared.held_agent.HeldAgent.{HeldAgent}
 use Rattle.bully_c.specs.declared.held_agent.StepRows.{StepRows}
 use Rattle.bully_c.specs.declared.shown.CState.{CState}
 
--- of what an open handle has this holds, and it stays open; a closed one is told, and stays closed
+-- this holds for what an open handle has, and it stays open; the status reports a closed one, which stays closed
 abbrev pub AtOpenOf : (H : Type 0) → (H → ℕ → H → Type 0) → Option H → ℕ → Option H → Type 0
 AtOpenOf H Holds None status new = (status ≡ CLOSED) × (new ≡ None)
 AtOpenOf H Holds (Some held) status new = (after : H) × (new ≡ Some after) × Holds held status after
@@ -73,7 +73,7 @@ RefusesReplyLine s line status =
 abbrev pub IsRequestLine : Setup → List ℕ → Request → Type 0
 IsRequestLine s line request = IsUtf8 line × (request_of_text s line ≡ Ok request)
 
--- the line of what the node answers it, where it runs
+-- the line of what the node answers the request, if it runs
 abbrev pub answer_line : HeldAgent → Request → List ℕ
 answer_line held request = reply_text (record {
   caller = request.caller;
@@ -81,8 +81,8 @@ answer_line held request = reply_text (record {
   answer = reply request.call.kind held.agent.node_state.vector.vector;
 })
 
--- the request of a line runs, and the line of its reply is written. Nothing happens where there isn't room for that,
--- where the line is no request, or where an allocation failed.
+-- the request of a line runs, and the line of its reply is written. Nothing happens if there isn't room for that, if
+-- the line is no request, or if an allocation failed.
 pub record NothingServed (line : List ℕ) (room count : ℕ) (held : HeldAgent) (status count_after : ℕ) : Type 0 where
   pub why : ((request : Request) × IsRequestLine held.agent.setup line request × (status ≡ SHORT) × (room < count_after)
       × (count_after ≡ length (answer_line held request)))
@@ -137,7 +137,7 @@ abbrev pub callee_in : Option Call → ℕ
 callee_in None = 0
 callee_in (Some call) = call.callee
 
--- of a node with this vector and this slot, of which no number is told
+-- of a node with this vector and this slot, without the number of its last call
 abbrev pub node_shown : Vector → Slot → ℕ → Want → CState
 node_shown v slot generation wants =
     let call = call_in slot in

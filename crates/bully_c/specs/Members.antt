@@ -72,7 +72,7 @@ RefusesOpeningOf text told old status =
     RefusesHeader text status
     ⊎ ((header : Header) × IsHeaderAlone text header × RefusesTermsGiven header.setup told old status)
 
--- the member that begins with this
+-- the member that starts with this
 pub record IsMemberOpened (text : List ℕ) (told : TermsTold) (old : List ℕ) (process ttl : ℕ)
     (held : HeldMember) : Type 0 where
   pub opening : Opening
@@ -80,7 +80,7 @@ pub record IsMemberOpened (text : List ℕ) (told : TermsTold) (old : List ℕ) 
   pub can : member_fault opening.header.setup opening.terms ttl ≡ None
   pub begins : held.member ≡ new_member opening.header opening.terms process ttl
 
--- a member doesn't begin with this: for its first fault, or because an allocation failed
+-- why no member starts with this: its first fault, or that an allocation failed
 pub record RefusesBeginning (text : List ℕ) (told : TermsTold) (old : List ℕ) (ttl status : ℕ) : Type 0 where
   pub opening : Opening
   pub is : IsOpeningOf text told old opening
@@ -110,7 +110,7 @@ IsNextStep now shown held status after =
     (status ≡ OK) × (step : Step) × (shown ≡ step_shown step) × IsDue held.member now step
     × (after.member ≡ noted held.member now step)
 
--- ---- what it is told
+-- ---- what is reported to it
 
 abbrev pub IsAnswerOf : (now : ℕ) → Option StoreAnswer → HeldMember → ℕ → HeldMember → Type 0
 IsAnswerOf now None held status after = (status ≡ BAD_ANSWER) × (after ≡ held)
@@ -137,7 +137,8 @@ pub record LearnsRows (text : List ℕ) (m : MemberState) (status : ℕ) (after 
   pub ends : EndsAs left after.learned told
   pub is : after ≡ after_learning m after.learned told
 
--- ... and so many; nothing of a text without its end; nothing of one that begins with a mark, and then the member ends
+-- ... and they were this many; no row of a text without its end; no row of one that starts with a mark, and then the
+-- member ends
 abbrev pub IsMemberLearning : List ℕ → ℕ → HeldMember → ℕ → HeldMember → Type 0
 IsMemberLearning text taken held status after =
     ((has_end text ≡ false) × (status ≡ ROW_END) × (taken ≡ 0) × (after ≡ held))
@@ -157,7 +158,7 @@ IsSnapshotRead now epoch leases has_unknown has_request held status after =
     × (after.member ≡ snapshot_read held.member now epoch (map lease_given leases) has_unknown has_request))
     ⊎ (RefusesLeases (last_node held.member epoch) leases status × (after ≡ held))
 
--- what an epoch begins with, or why the member doesn't go on there
+-- what an epoch starts with, or why the member doesn't go on there
 abbrev pub IsFollowOf : (now : ℕ) → Opening → HeldMember → ℕ → HeldMember → Type 0
 IsFollowOf now opening held status after =
     ((status ≡ OK) × (terms_fault opening.header.setup opening.terms ≡ None)

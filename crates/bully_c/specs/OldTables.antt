@@ -5,12 +5,12 @@ use Rattle.bully_base.specs.Setup.{Setup}
 use Rattle.bully_base.specs.declared.TheConstants.{NODES_MAX}
 use Rattle.bully_c.specs.declared.status.TheConstants.{OUT_OF_MEMORY, TABLE_LENGTH, TABLE_OWNER}
 
--- an owner, or if it is gone, which 0 says, a node that a group of so many lacks; in the largest group, which lacks
--- none, node 1
+-- the owner; or if it is 0, which is an owner that is gone, a node that a group of this size lacks; in the largest
+-- group, which lacks none, node 1
 abbrev pub owner_before : ℕ → ℕ → ℕ
 owner_before nodes owner = if owner == 0 then (if nat_lt nodes NODES_MAX then nodes + 1 else 1) else owner
 
--- the old table of these owners, if there are any, in a group of so many nodes
+-- the old table of these owners, if there are any, in a group of this many nodes
 abbrev pub old_given : ℕ → List ℕ → Option (List ℕ)
 old_given nodes [] = None
 old_given nodes (owner ∷ owners) = Some (map (owner_before nodes) (owner ∷ owners))

@@ -35,7 +35,7 @@ HasNodes f numbers = All (IsNode f.replica.world.setup) numbers
 abbrev pub rebalancing_given : RowReplicaState → List ℕ → List ℕ → List Event
 rebalancing_given f old set = rebalancing_of f.replica (old_given f.replica.world.setup.nodes old) set
 
--- the log has room for so many more events
+-- the log has room for this many more events
 abbrev pub HasRoom : RowReplicaState → ℕ → Type 0
 HasRoom f count = (f.replica.world.events + count ≤ f.replica.world.setup.events_max) × (f.rows + count ≤ ROWS_MAX)
 

@@ -62,7 +62,7 @@ IsLogOpening text None status new =
 abbrev same_byte : ℕ → ℕ → Bool
 same_byte a b = a == b
 
--- the text begins with a byte-order mark, which a reader of `csv` would drop
+-- the text starts with a byte-order mark, which a reader of `csv` would drop
 abbrev pub has_mark : List ℕ → Bool
 has_mark text = starts_with same_byte text (239 ∷ 187 ∷ 191 ∷ [])
 
@@ -76,11 +76,11 @@ abbrev pub EndsLearning : List Record → RowReplicaState → ℕ → Type 0
 EndsLearning left f status =
     ((status ≡ OK) × (left ≡ [])) ⊎ ((fault : LearnFault) × (status ≡ learn_fault_number fault) × StopsAt left f fault)
 
--- a text that begins with a mark begins with no row, or with one that is too many
+-- a text that starts with a mark starts with no row, or with one that is too many
 abbrev pub mark_number : RowReplicaState → ℕ
 mark_number f = if f.rows == ROWS_MAX then trace_number TraceCause.TooManyRows else trace_number TraceCause.BadRow
 
--- the rows of the text were learned up to that one, so many of them; nothing of a text that begins with a mark, or
+-- this many rows of the text were learned, up to the first that isn't; no row of a text that starts with a mark, or
 -- without its end
 abbrev pub IsLearning : List ℕ → ℕ → RowReplicaState → ℕ → RowReplicaState → Type 0
 IsLearning text taken held status after =
@@ -131,7 +131,7 @@ RefusesEvent f node number status =
     ⊎ (HasNode f node × (event_numbered number node ≡ None) × (status ≡ BAD_EVENT))
     ⊎ (HasNode f node × (e : Event) × (event_numbered number node ≡ Some e) × RefusesRow f e status)
 
--- a text is written into the room, or it is told why there is none, and nothing is
+-- a text is written into the room; or the status says why there is none, and nothing is written
 abbrev pub IsWritten : (List ℕ → Type 0) → (ℕ → Type 0) → List ℕ → ℕ → ℕ → List ℕ → ℕ → Type 0
 IsWritten Is Refuses before count_before status after count =
     ((text : List ℕ) × Is text × IsCopied text before status after count)
@@ -150,7 +150,7 @@ RefusesHeaderRow s status = IsSetupRefusal s status ⊎ (IsSetup s × (status �
 abbrev pub agent_in : WorldState → ℕ → AgentState
 agent_in w i = record { setup = w.setup; node = i; events = w.events; number = 0; node_state = state_at w i }
 
--- of a node this is shown; of another number it is told that there is no such node, and nothing is written
+-- this is shown of a node; for another number the status says that there is no such node, and nothing is written
 abbrev pub ShowsNode : Setup → ℕ → ℕ → Type 0 → Type 0 → Type 0
 ShowsNode s node status Shown Same = (IsNode s node × Shown) ⊎ ((status ≡ BAD_NODE) × (¬ IsNode s node) × Same)
 

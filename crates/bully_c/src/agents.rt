@@ -144,7 +144,7 @@ pub extern "C" fn bully_c_agent_crash(alloc: Global, agent: &mut AgentHandle) ->
     apply(alloc, agent, NodeEventKind::Crash)
 }
 
-/// The idle node begins to check.
+/// The idle node starts to check.
 #[unsafe(no_mangle)]
 pub extern "C" fn bully_c_agent_check(alloc: Global, agent: &mut AgentHandle) -> u32
     ensures { AtOpen (IsOwn KindState.Check) agent.old.value result agent.new.value }
@@ -232,7 +232,7 @@ pub extern "C" fn bully_c_agent_prepare(
     status
 }
 
-// The table that the agent prepares, which has so many owners.
+// The table that the agent prepares, which has this many owners.
 fn prepared(alloc: Global, agent: &Agent, old: &[u16], count: usize) -> Result<Table, u32>
     ensures ok { IfOk result (IsPreparedTable agent.now old.now) }
     ensures count { IfOk result (λ table. length table ≡ count) }

@@ -84,7 +84,7 @@ fn push_name(text: &mut String, name: &str) -> Result<(), OutOfMemory>
     write!(text, "{length}:{name}\n")
 }
 
-// Writes the fault, as the program tells it.
+// Writes the fault, in the program's words.
 fn write_fault(alloc: Global, fault: ConfigFault, told: &mut [u8], length: &mut usize) -> u32
     ensures { IsFaultTold (fault_text fault) told.old length.old result told.new length.new }
 {

@@ -17,7 +17,7 @@ use bully_rows::{Detail, DetailedEvent, push_detailed, push_event};
 use bully_table::Table;
 use bully_world::{Event, Refused};
 
-/// The rows that the last step of an agent tells.
+/// The rows of an agent's last step.
 #[derive(Drop)]
 pub enum StepRows {
     /// It took none.
@@ -30,7 +30,7 @@ pub enum StepRows {
     Failure(Node, Call, Answer),
 }
 
-/// The agent, and what its last step told.
+/// The agent, and the rows of its last step.
 #[derive(Drop)]
 pub struct HeldAgent {
     pub agent: Agent,
@@ -116,7 +116,7 @@ impl HeldAgent {
     }
 }
 
-// What is told of an event that the node takes by itself, with these calls in its slot before and after it.
+// The rows of an event that the node takes by itself, with these calls in its slot before and after it.
 fn own_told(kind: NodeEventKind, node: Node, before: Option<Call>, after: Option<Call>) -> StepRows
     ensures { result ≡ own_told kind node before after }
 {
@@ -127,7 +127,7 @@ fn own_told(kind: NodeEventKind, node: Node, before: Option<Call>, after: Option
     }
 }
 
-// What is told of an event of a call of this node.
+// The row of an event of a call of this node.
 fn told_of(node: Node, detail: Option<Detail>) -> StepRows
     ensures { result ≡ detail_told node detail }
 {
@@ -137,7 +137,7 @@ fn told_of(node: Node, detail: Option<Detail>) -> StepRows
     }
 }
 
-// What is told of the failure of the node's call.
+// The rows of the failure of the node's call.
 fn failure_of(node: Node, call: Option<Call>, answer: Answer) -> StepRows
     ensures { result ≡ failure_told node answer call }
 {

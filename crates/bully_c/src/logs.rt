@@ -100,7 +100,7 @@ fn learn_rows(alloc: Global, learned: &mut RowReplica, text: &[u8]) -> u32
     }
 }
 
-/// Why no row is learned of a text that begins with a byte-order mark.
+/// Why no row is learned of a text that starts with a byte-order mark.
 pub fn status_of_mark(learned: &RowReplica) -> u32
     ensures { result ≡ mark_number learned.now }
 {
@@ -119,7 +119,7 @@ pub fn has_end(text: &[u8]) -> bool
     text.is_empty() || text.ends_with(b"\n")
 }
 
-/// Whether it begins with a byte-order mark.
+/// Whether it starts with a byte-order mark.
 pub fn has_mark(text: &[u8]) -> bool
     ensures { result ≡ has_mark text.now }
 {

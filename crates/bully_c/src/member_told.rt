@@ -1,5 +1,5 @@
-//! What a member does next, and what it is told: the rows of its log, who holds a lease, and what its next epoch begins
-//! with.
+//! What a member does next, and what is reported to it: the rows of its log, who holds a lease, and what its next epoch
+//! starts with.
 ghost use Rattle.std.specs.Prelude.{◌≡◌, ◌≤◌};
 ghost use Rattle.bully_c.specs.MemberNumbers.{answer_numbered};
 ghost use Rattle.bully_c.specs.Members.{IsAnswer, IsFollow, IsFollowOf, IsSnapshotRead, IsMemberLearning, IsNextStep};
@@ -24,7 +24,7 @@ pub fn tell_next(held: &mut HeldMember, now: u64, step: &mut CStep) -> u32
     OK
 }
 
-/// Tells the member the answer of this number.
+/// Reports the answer of this number to the member.
 pub fn tell_answer(held: &mut HeldMember, now: u64, number: u32) -> u32
     ensures { IsAnswer now number held.old result held.new }
 {
@@ -50,7 +50,7 @@ fn answer_of(number: u32) -> Option<StoreAnswer>
 }
 
 /// Has the member learn the rows of the text. Writes how many it learned, and returns why it didn't learn the next one.
-/// The member ends if the text begins with a byte-order mark, and learns nothing if the text lacks its last line end.
+/// The member ends if the text starts with a byte-order mark, and learns nothing if the text lacks its last line end.
 pub fn learn(alloc: Global, held: &mut HeldMember, text: &[u8], taken: &mut usize) -> u32
     ensures { IsMemberLearning text.now taken.new held.old result held.new }
 {
@@ -81,7 +81,7 @@ fn learn_rows(alloc: Global, member: &mut Member, text: &[u8]) -> u32
     }
 }
 
-/// Tells the member what a snapshot found.
+/// Reports to the member what a snapshot found.
 pub fn tell_snapshot(
     alloc: Global,
     held: &mut HeldMember,
@@ -115,7 +115,7 @@ fn last_node(member: &Member, epoch: u32) -> u16
     }
 }
 
-/// Tells the member what the current epoch began with.
+/// Reports to the member what the current epoch starts with.
 pub fn tell_follow(
     alloc: Global,
     held: &mut HeldMember,
@@ -132,7 +132,7 @@ pub fn tell_follow(
     }
 }
 
-// The same, of what it began with.
+// The same, of what it starts with.
 fn follow(alloc: Global, held: &mut HeldMember, now: u64, opening: Opening) -> u32
     ensures { IsFollowOf now opening held.old result held.new }
 {

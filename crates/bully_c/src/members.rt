@@ -174,7 +174,7 @@ pub extern "C" fn bully_c_member_passed(alloc: Global, member: &mut MemberHandle
     OK
 }
 
-/// What the current epoch began with: [`Member::followed`].
+/// What the current epoch starts with: [`Member::followed`].
 #[unsafe(no_mangle)]
 pub extern "C" fn bully_c_member_followed(
     alloc: Global,
@@ -228,7 +228,7 @@ pub extern "C" fn bully_c_member_woke(alloc: Global, member: &mut MemberHandle) 
     OK
 }
 
-/// The member has to leave in an orderly way: [`Member::leave`].
+/// The member must leave in an orderly way: [`Member::leave`].
 #[unsafe(no_mangle)]
 pub extern "C" fn bully_c_member_leave(alloc: Global, member: &mut MemberHandle) -> u32
     ensures { AtMember (Becomes (λ m. end_for m Ending.Left m.ending)) member.old.value result member.new.value }
@@ -241,7 +241,7 @@ pub extern "C" fn bully_c_member_leave(alloc: Global, member: &mut MemberHandle)
     OK
 }
 
-/// The work that was begun by this token has ended outside the member: [`Member::lost`].
+/// The work that was started by this token has ended outside the member: [`Member::lost`].
 #[unsafe(no_mangle)]
 pub extern "C" fn bully_c_member_lost(alloc: Global, member: &mut MemberHandle, token: u32) -> u32
     ensures { AtMember (Becomes (λ m. record m { work = lost_by m.work token })) member.old.value result

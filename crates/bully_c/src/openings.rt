@@ -1,4 +1,4 @@
-//! What is kept of a member behind a handle, and what it begins with.
+//! What a handle of a member keeps, and what the member starts with.
 ghost use Rattle.std.specs.Prelude.{◌≡◌, IfErr, IfOk, IfSome, length};
 ghost use Rattle.bully_c.specs.Members.{AreTerms, IsMemberOpened, IsOpeningOf, RefusesMemberOpening, RefusesOpeningOf};
 ghost use Rattle.bully_c.specs.Members.{RefusesTermsGiven, terms_given};
@@ -27,14 +27,14 @@ pub struct TermsTold {
     pub rows_max: u32,
 }
 
-/// What an epoch begins with, for a member.
+/// What an epoch starts with, for a member.
 #[derive(Drop)]
 pub struct Opening {
     pub header: Header,
     pub terms: Terms,
 }
 
-/// What an epoch begins with that has this header and this old table.
+/// What an epoch with this header and this old table starts with.
 pub fn opening_of(alloc: Global, text: &[u8], told: TermsTold, old: &[u16]) -> Result<Opening, u32>
     ensures ok { IfOk result (IsOpeningOf text.now told old.now) }
     ensures err { IfErr result (RefusesOpeningOf text.now told old.now) }
@@ -60,7 +60,7 @@ fn terms_of(alloc: Global, setup: &Setup, told: TermsTold, old: &[u16]) -> Resul
     })
 }
 
-/// The member that begins with this, on the heap.
+/// The member that starts with this, on the heap.
 pub fn opened_member(
     alloc: Global,
     text: &[u8],
@@ -89,7 +89,7 @@ fn boxed(alloc: Global, member: Member) -> Result<Box<HeldMember>, OutOfMemory>
     Ok(Box::new(alloc, HeldMember { member })?)
 }
 
-/// The status of a member that doesn't begin.
+/// The status of a member that doesn't start.
 pub fn status_of_member(fault: MemberFault) -> u32
     ensures { result ≡ member_number fault }
 {

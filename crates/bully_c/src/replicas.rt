@@ -272,7 +272,7 @@ pub extern "C" fn bully_c_replica_group(
     OK
 }
 
-/// The state of the group of which this was learned.
+/// The state of the group whose log was learned so far.
 pub fn group_of(learned: &RowReplica) -> CGroup
     ensures { result ≡ group_shown learned.now }
 {

@@ -167,7 +167,7 @@ fn first_of(items: &[u16], count: usize) -> &[u16]
     }
 }
 
-/// Writes the table's owners at the front of the room, which has that of each.
+/// Writes the table's owners at the front of the room, which has room for each.
 pub fn put_owners(table: &Table, room: &mut [u16])
     requires { length table.now ≤ length room.old }
     ensures { room.new ≡ table.now ++ drop (length table.now) room.old }

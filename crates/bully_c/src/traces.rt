@@ -86,7 +86,7 @@ pub extern "C" fn bully_c_table(
     }
 }
 
-// The table of these arguments, which has so many owners.
+// The table of these arguments, which has this many owners.
 fn planned(
     alloc: Global,
     setup: &CSetup,

@@ -2,7 +2,7 @@
 //! group, what is so of each kind of them, and why one is refused; and the requests and replies that nodes on their own
 //! tell each other, as plain data.
 //!
-//! It stands on bully_base and bully_table. The crates above see a slot as the call in it, if any, with its phase and
+//! It builds on bully_base and bully_table. The crates above see a slot as the call in it, if any, with its phase and
 //! with the caller's generation at its start, and the callers that wait as a set for each callee. bully_world, which
 //! says what each event does and which cause refuses it, has the names of events, too.
 #![tactic(auto)]

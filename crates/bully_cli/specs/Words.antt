@@ -175,7 +175,7 @@ drawn_in rows = record {
   without_claims = first_of (codes "without-claims") rows;
 }
 
--- what a command asks for with what clap found behind it
+-- what a command asks for with what clap found after it
 abbrev pub asked_by : Text → List Row → Option Asked
 asked_by name rows =
     if bytes_eq name (codes "check") then Some (checking (first_of (codes "FILE") rows) (first_of (codes "json") rows))

@@ -127,7 +127,7 @@ fn chosen<'a>(alloc: Global, matches: &ArgMatches<'a>) -> Result<Option<Action<'
     }
 }
 
-// The command of this name, with the words that were found behind it.
+// The command of this name, with the words that were found after it.
 fn named<'a>(
     alloc: Global,
     name: &str,

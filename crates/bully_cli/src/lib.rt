@@ -1,6 +1,6 @@
 //! The words of the program `bully`: what they ask for, as `clap` reads them.
 //!
-//! It stands on clap alone. The program relies on what `action_of` gives being what clap finds in the words.
+//! It builds on clap alone. The program relies on this: what `action_of` gives is what clap finds in the words.
 #![tactic(auto)]
 
 mod action;

@@ -34,7 +34,7 @@ const SHELLS: &str = "bash zsh fish";
 /// The same as zsh takes them.
 const SHELL_CHOICE: &str = "(bash zsh fish)";
 
-/// What the shell reads to complete the program's commands and options, and the paths behind them. Refused where an
+/// What the shell reads to complete the program's commands and options, and the paths after them. Refused where an
 /// allocation fails.
 pub fn completion(alloc: Global, shell: Shell) -> Result<String, AllocError> {
     let command = command_line(alloc)?;
@@ -78,12 +78,12 @@ fn is_path(arg: &Arg<'_>) -> bool {
     }
 }
 
-// Whether the argument stands behind its name, as `--rows 2-50` does.
+// Whether the argument comes after its name, as `--rows 2-50` does.
 fn has_value(arg: &Arg<'_>) -> bool {
     !arg.is_positional() && arg.get_action() != ArgAction::SetTrue
 }
 
-// Appends the names of the commands, each behind a space.
+// Appends the names of the commands, each after a space.
 fn push_names(text: &mut String, commands: &[Command<'_>]) -> Result<(), AllocError> {
     for command in commands {
         text.push_str(" ")?;
@@ -129,7 +129,7 @@ fn push_bash_names(text: &mut String, commands: &[Command<'_>]) -> Result<(), Al
     Ok(())
 }
 
-// Appends which words may stand behind a command, and which of its options have a path behind them, or another value.
+// Appends which words may come after a command, and which of its options have a path after them, or another value.
 fn push_bash_command(text: &mut String, command: &Command<'_>) -> Result<(), AllocError> {
     text.push_str("        ")?;
     text.push_str(command.get_name())?;
@@ -152,7 +152,7 @@ fn push_bash_command(text: &mut String, command: &Command<'_>) -> Result<(), All
     text.push_str(" ;;\n")
 }
 
-// Appends the words that an argument has at its place, each behind a space; none of a path.
+// Appends the words that an argument has at its place, each after a space; none of a path.
 fn push_bash_word(text: &mut String, arg: &Arg<'_>) -> Result<(), AllocError> {
     match arg.get_long() {
         Some(name) => write!(text, " --{name}"),
@@ -208,7 +208,7 @@ fn push_zsh_name(text: &mut String, command: &Command<'_>) -> Result<(), AllocEr
     text.push_str("'\n")
 }
 
-// Appends which words may stand behind a command.
+// Appends which words may come after a command.
 fn push_zsh_command(text: &mut String, command: &Command<'_>) -> Result<(), AllocError> {
     text.push_str("        ")?;
     text.push_str(command.get_name())?;
@@ -269,7 +269,7 @@ fn push_fish(text: &mut String, commands: &[Command<'_>]) -> Result<(), AllocErr
     text.push_str("'\n")
 }
 
-// Appends a command, and which words may stand behind it.
+// Appends a command, and which words may come after it.
 fn push_fish_command(text: &mut String, command: &Command<'_>) -> Result<(), AllocError> {
     let name = command.get_name();
     let about = command.get_about().unwrap_or("");

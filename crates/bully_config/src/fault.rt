@@ -117,7 +117,7 @@ impl ConfigFault {
     }
 }
 
-/// The fault's name, and its key behind a space where it has one.
+/// The fault's name, and its key after a space where it has one.
 impl fmt::Display for ConfigFault {
     ghost use Rattle.std.specs.Prelude.{Some};
     ghost use Rattle.bully_config.specs.Keys.{fault_text};

@@ -1,8 +1,8 @@
 //! Configurations of a group: what a TOML document says of its setup, its turns, its period, its names and its
 //! faults.
 //!
-//! It stands on bully_base, toml and indexmap. The crates above rely on a configuration being within its limits
-//! and on the answer to a document being its first refusal in the written order, else its values.
+//! It builds on bully_base, toml and indexmap. The crates above rely on two things: a configuration is within its
+//! limits, and the answer to a document is its first refusal in the written order, or else its values.
 #![tactic(auto)]
 
 ghost use Rattle.std.specs.Prelude.{◌≡◌};

@@ -25,7 +25,7 @@ use toml::{Table, Value};
 
 impl Config {
     /// Reads a configuration. Refused by the first of [`ConfigFault`] that the text has; only want of memory is
-    /// answered at once, whatever stands behind. The rule: docs/FORMATS.md.
+    /// answered at once, whatever comes after. The rule: docs/FORMATS.md.
     pub fn read(alloc: Global, text: &str) -> Result<Config, ConfigFault>
         ensures ok { IfOk result (λ config. answer_of text.now ≡ Ok config) }
         ensures whole { IfOk result (TellsEachFault text.now) }
@@ -70,7 +70,7 @@ fn setup_of(document: &Table) -> Setup
     Setup::weighted(nodes as u16, partitions as u16, events_max, weights, keeps).unwrap()
 }
 
-// The weights that the items tell, and 1 at each place behind them.
+// The weights that the items tell, and 1 at each place after them.
 fn read_weights(items: &[Value]) -> [u16; NODES_MAX as usize]
     requires { length items.now ≤ NODES_MAX }
     ensures { result ≡ map weight_told (map view items.now) ++ drop (length items.now) (replicate NODES_MAX 1) }

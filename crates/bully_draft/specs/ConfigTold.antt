@@ -11,12 +11,12 @@ abbrev pub IsConfigTold : List ℕ → Option ConfigFault → Type 0
 IsConfigTold text None = (config : Configuration) × (answer_of text ≡ Ok config)
 IsConfigTold text (Some fault) = answer_of text ≡ Err fault
 
--- how the line of a document begins: with its first refusal, or that it has none
+-- how the line of a document starts: with its first refusal, or that it has none
 abbrev pub document_head : Option ConfigFault → List ℕ
 document_head None = codes "the configuration has no fault"
 document_head (Some fault) = fault_text fault ++ codes ": "
 
--- the text of a sheet: such lines, and one alone where this is told of a document, which begins so
+-- the text of a sheet: such lines, and one alone where this is told of a document, which starts so
 pub record IsConfigText (told : Option ConfigFault) (text : List ℕ) : Type 0 where
   pub lines : List (List ℕ)
   pub plain : ArePlain lines

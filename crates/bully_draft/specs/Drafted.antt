@@ -23,6 +23,6 @@ pub record AppendsLines (old new : Drafted) : Type 0 where
   pub text : new.has_failed ≡ false → (lines : List (List ℕ)) × ArePlain lines
       × (new.text ≡ old.text ++ lines_text lines)
 
--- how many things of a kind there are: its word with an `s` behind it, but for one of them
+-- how many things of a kind there are: its word with an `s` after it, but for one of them
 abbrev pub count_text : ℕ → List ℕ → List ℕ
 count_text count kind = decimal count ++ codes " " ++ kind ++ (if count == 1 then [] else codes "s")

@@ -30,7 +30,7 @@ abbrev pub ArePlain : List (List ℕ) → Type 0
 ArePlain [] = ⊤
 ArePlain (line ∷ lines) = AllPlain (chars line) × ArePlain lines
 
--- their text, with a line feed behind each
+-- their text, with a line feed after each
 abbrev pub lines_text : List (List ℕ) → List ℕ
 lines_text [] = []
 lines_text (line ∷ lines) = line ++ (codes "\n" ++ lines_text lines)
@@ -52,7 +52,7 @@ AllPrinted (byte ∷ bytes) = (is_printed byte ≡ true) × AllPrinted bytes
 abbrev pub cut_shown : ℕ → List ℕ → List ℕ
 cut_shown most bytes = map shown_byte (take most bytes) ++ (if nat_lt most (length bytes) then codes ".." else [])
 
--- a field of a row, counted from 0, as it stands there: behind a comma, but for the first
+-- a field of a row, counted from 0, as it stands there: after a comma, but for the first
 abbrev pub parted : ℕ → List ℕ → List ℕ
 parted zero field = field
 parted (suc place) field = 44 ∷ field

@@ -76,7 +76,7 @@ fn document_sheet(alloc: Global, document: &Table) -> Result<ConfigSheet, OutOfM
     Ok(ConfigSheet { told, text })
 }
 
-// Appends how the line of a document begins: with its first fault, or that it has none.
+// Appends how the line of a document starts: with its first fault, or that it has none.
 fn push_document_head(text: &mut Draft, told: Option<ConfigFault>)
     ensures { Appends text.old text.new (document_head told) }
 {
@@ -86,7 +86,7 @@ fn push_document_head(text: &mut Draft, told: Option<ConfigFault>)
     }
 }
 
-// What stands behind that.
+// What comes after that.
 fn document_rest(
     alloc: Global,
     document: &Table,

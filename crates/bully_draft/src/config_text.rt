@@ -8,7 +8,7 @@ use bully_config::{
 };
 use toml::{Table, Value};
 
-/// Appends what stands behind the name of the document's first fault: what is wrong with it, without the line's end.
+/// Appends what comes after the name of the document's first fault: what is wrong with it, without the line's end.
 pub fn push_fault(text: &mut Draft, document: &Table, fault: ConfigFault) {
     match fault.key() {
         Some(key) => push_key_fault(text, document, fault, key),
@@ -108,7 +108,7 @@ fn push_value(text: &mut Draft, value: &Value) {
     }
 }
 
-// Appends the text of a document in quotes, behind these words.
+// Appends the text of a document in quotes, after these words.
 fn push_quoted(text: &mut Draft, before: &'static str, word: &str) {
     text.push_str(before);
     text.push_str("\"");
@@ -189,7 +189,7 @@ fn same_behind(one: &[u8], other: &[u8]) -> usize {
     one.len()
 }
 
-// The byte that has so many bytes behind it.
+// The byte that has so many bytes after it.
 fn byte_before_end(bytes: &[u8], count: usize) -> Option<u8> {
     if count >= bytes.len() {
         return None;
@@ -228,7 +228,7 @@ fn push_double(text: &mut Draft, names: &[Value]) {
     }
 }
 
-// The place of the first name that is the word; that behind all names where none is.
+// The place of the first name that is the word; that after all names where none is.
 fn first_place(names: &[Value], word: &str) -> usize {
     for (place, name) in names.iter().enumerate() {
         if text_of(name) == word {

@@ -133,7 +133,7 @@ impl Draft {
         self.note(written);
     }
 
-    /// Appends the value behind these words.
+    /// Appends the value after these words.
     pub fn push_behind<P: Plain>(&mut self, before: &'static str, value: P)
         ensures { IfSome (P.output value) (λ text. Appends self.old self.new (before.now ++ text)) }
     {
@@ -149,7 +149,7 @@ impl Draft {
         self.push_str(behind);
     }
 
-    /// Appends how many things of a kind there are: its word with an `s` behind it, but for one of them.
+    /// Appends how many things of a kind there are: its word with an `s` after it, but for one of them.
     pub fn push_count(&mut self, count: usize, kind: &'static str)
         ensures { Appends self.old self.new (count_text count kind.now) }
     {
@@ -201,7 +201,7 @@ impl Draft {
         self.note(written);
     }
 
-    // Notes how a write went: behind what stood before it, this part.
+    // Notes how a write went: after what stood before it, this part.
     fn note(&mut self, written: Result<(), OutOfMemory>)
         ensures { (before : Drafted) (part : List ℕ) → before.has_failed ≡ self.old.has_failed
             → OnOk written (self.old.text ≡ before.text ++ part) → Appends before self.new part }

@@ -71,7 +71,7 @@ pub struct Misfit {
     pub expected: Expected,
 }
 
-/// Where a row behind the header of a trace of this version and setup, which has no form, breaks it.
+/// Where a row after the header of a trace of this version and setup, which has no form, breaks it.
 pub fn misfit_of_row(version: Version, setup: &Setup, fields: &ByteRecord) -> Misfit {
     let word = field_at(fields, 0);
     let Some(counts) = counts_wanted(version, word) else {
@@ -137,7 +137,7 @@ fn are_wanted(counts: &FieldCounts, count: usize) -> bool {
     count == counts.few || counts.more == Some(count)
 }
 
-// Where a claim of a node, which has a right number of fields, breaks its form behind that node.
+// Where a claim of a node, which has a right number of fields, breaks its form after that node.
 fn misfit_of_claim(version: Version, setup: &Setup, fields: &ByteRecord) -> Misfit {
     let highest = version.nodes_max();
     if status_named(field_at(fields, 2)).is_none() {
@@ -161,7 +161,7 @@ fn ownership_in(setup: &Setup) -> Ownership {
     }
 }
 
-// Where an event of a node, which says more and has a right number of fields, breaks its form behind that node.
+// Where an event of a node, which says more and has a right number of fields, breaks its form after that node.
 fn misfit_of_detail(version: Version, fields: &ByteRecord) -> Misfit {
     if call_named(field_at(fields, 2)).is_none() {
         breaks_at(3, Expected::Call)

@@ -24,7 +24,7 @@ pub fn push_header_misfit(text: &mut Draft, fields: &ByteRecord) {
     push_misfit(text, fields, misfit_of_header(fields));
 }
 
-/// Appends the field at which a row behind the header of a trace of this version and setup, which has no form, breaks
+/// Appends the field at which a row after the header of a trace of this version and setup, which has no form, breaks
 /// it, and what may stand there.
 pub fn push_row_misfit(text: &mut Draft, fields: &ByteRecord, version: Version, setup: &Setup) {
     push_misfit(text, fields, misfit_of_row(version, setup, fields));
@@ -77,7 +77,7 @@ fn push_expected(text: &mut Draft, expected: Expected) {
     }
 }
 
-// Appends the words that a row may begin with.
+// Appends the words that a row may start with.
 fn push_row_words(text: &mut Draft) {
     for (place, event_kind) in EVERY_EVENT_KIND.iter().enumerate() {
         if place > 0 {

@@ -2,11 +2,11 @@
 //! Where a row breaks its form, in words. And the sheet that explains the first fault of a configuration, which needs
 //! no account of a trace.
 //!
-//! It stands on bully_config, whose refusals are told, on bully_rows, in whose form rows and their parts are written,
-//! and on the crates below these. bully_explain and the program rely on a draft having exactly what was appended, on
-//! what comes from outside ending no line, on a row being shown as defined, in printed ASCII characters, on the first
-//! refusal of a configuration being the one that is told, and on its sheet being lines without controls, one where
-//! there is a document. The sentences are tested.
+//! It builds on bully_config, whose refusals it explains, on bully_rows, in whose form it writes rows and their parts,
+//! and on the crates below these. bully_explain and the program rely on five things. A draft has exactly what was
+//! appended. What comes from outside ends no line. A row is shown as defined, in printed ASCII characters. The first
+//! refusal of a configuration is the one that is told. And its sheet is lines without controls, one if there is a
+//! document. The sentences are tested.
 #![tactic(auto)]
 
 mod config;

@@ -26,7 +26,7 @@ pub fn push_row_shown(text: &mut Draft, fields: &ByteRecord)
     }
 }
 
-// Appends the field at this place, behind a comma if there is one before it, up to so many bytes; and tells how many
+// Appends the field at this place, after a comma if there is one before it, up to so many bytes; and tells how many
 // may follow, or none if it isn't all there.
 fn push_field(text: &mut Draft, place: usize, field: &[u8], room: usize) -> Option<usize>
     ensures shown { Appends text.old text.new (map shown_byte (take room (parted place field.now))) }

@@ -22,7 +22,7 @@ use Rattle.bully_trace.specs.declared.verdict.Verdict.{Verdict}
 abbrev pub padded : ℕ → List ℕ → List ℕ
 padded width word = word ++ replicate (width - length word) 32
 
--- the spaces behind so many bytes in the first column, two at least
+-- the spaces after so many bytes in the first column, two at least
 abbrev pub gap : ℕ → List ℕ
 gap taken = replicate (max (16 - taken) 2) 32
 
@@ -38,7 +38,7 @@ words_beside part said shown = part_name part ++ padded 16 said ++ shown ++ code
 abbrev pub sides : List ℕ → List ℕ → List ℕ → List ℕ
 sides part said shown = part_name part ++ (said ++ (gap (length said) ++ (shown ++ codes "\n")))
 
--- the heads of the columns, behind a blank line
+-- the heads of the columns, after a blank line
 abbrev pub heads : List ℕ → List ℕ
 heads head = codes "\n" ++ replicate 16 32 ++ padded 16 head ++ codes "shown\n"
 

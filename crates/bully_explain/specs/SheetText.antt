@@ -1,4 +1,4 @@
--- How the text of a sheet begins.
+-- How the text of a sheet starts.
 use Rattle.std.specs.Prelude.{◌≡◌, ◌⊎◌, ℕ, false, List, [], ◌++◌, Option, Some, None, Result, MatchResult, codes}
 use Rattle.std.specs.Fmt.{decimal}
 use Rattle.bully_base.specs.Setup.{Setup}
@@ -23,7 +23,7 @@ use Rattle.bully_explain.specs.Differing.{decided_text}
 use Rattle.bully_draft.specs.Drafted.{Drafted}
 use Rattle.bully_draft.specs.Shown.{row_shown}
 
--- the text begins with this part
+-- the text starts with this part
 abbrev pub Begins : List ℕ → List ℕ → Type 0
 Begins text part = (behind : List ℕ) × (text ≡ part ++ behind)
 
@@ -31,7 +31,7 @@ Begins text part = (behind : List ℕ) × (text ≡ part ++ behind)
 abbrev pub place_text : ℕ → ℕ → List ℕ
 place_text number line = codes "row " ++ decimal number ++ codes " (line " ++ decimal line ++ codes "): "
 
--- the head of the sheet of these rows, behind which the group is so: the line of a lawful verdict; else the line of the
+-- the head of the sheet of these rows, after which the group is so: the line of a lawful verdict; else the line of the
 -- row that decided, with its place, and how it decided
 abbrev pub IsDecided : Setup → List Row → World → Verdict → ℕ → List ℕ → Type 0
 IsDecided setup rows w verdict number text =
@@ -88,7 +88,7 @@ head_text setup w (Verdict.Lawful count) stop = verdict_head (Verdict.Lawful cou
 head_text setup w (Verdict.Refused number why) stop = stop_text setup w (Verdict.Refused number why) stop
 head_text setup w (Verdict.Differs number) stop = stop_text setup w (Verdict.Differs number) stop
 
--- the text begins with the head of what the account came to
+-- the text starts with the head of what the account came to
 pub record BeginsSheet (account : AccountState) (text : List ℕ) : Type 0 where
   pub verdict : Verdict
   pub judged : (setup : Setup) (rows : List Row) → HasJudged setup rows account.judge

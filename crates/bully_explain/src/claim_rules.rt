@@ -215,7 +215,7 @@ fn push_state(text: &mut Draft, context: &DecisionContext, part: &'static str, n
     push_number(text, node);
 }
 
-// Appends the number of the node behind a space, or that there is none.
+// Appends the number of the node after a space, or that there is none.
 fn push_number(text: &mut Draft, node: Option<Node>) {
     match node {
         Some(node) => text.push_behind(" ", node.number()),

@@ -18,7 +18,7 @@ pub struct DecisionContext<'a> {
     pub plan: Option<&'a Table>,
 }
 
-/// A call that ran and didn't return yet: its caller, of which kind it is, and the row in which it ran.
+/// A call that ran and didn't return yet: its caller, its kind, and the row in which it ran.
 #[derive(Clone, Copy)]
 pub struct Run {
     pub caller: Node,
@@ -50,7 +50,7 @@ impl<'a> DecisionContext<'a> {
         self.account.memory(self.node)?.started()
     }
 
-    /// The call of this kind that ran last at the row's node, where no row of that node came behind it.
+    /// The call of this kind that ran last at the row's node, where no row of that node came after it.
     pub fn last_run(&self, kind: CallKind) -> Option<Run> {
         let run = self.last_of_runs()?;
         let is_last = match self.notes(self.node).last() {
@@ -102,7 +102,7 @@ pub fn node_at(place: usize) -> Option<Node> {
     }
 }
 
-// Whether the second of two runs is there, and came behind the first, if that is there.
+// Whether the second of two runs is there, and came after the first, if that is there.
 fn is_later(last: &Option<Run>, run: &Option<Run>) -> bool {
     match (last, run) {
         (_, None) => false,
@@ -133,7 +133,7 @@ pub fn last_halt(notes: &[Note]) -> Option<(Node, u32)> {
     last
 }
 
-/// The first of these rows behind the one of this number that was a Halt, and the node that called it.
+/// The first of these rows after the one of this number that was a Halt, and the node that called it.
 pub fn first_halt_behind(notes: &[Note], number: u32) -> Option<(Node, u32)> {
     for note in notes {
         match note.what {

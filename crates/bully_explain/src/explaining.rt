@@ -27,7 +27,7 @@ pub struct Sheet {
 /// Judges a trace as `check` does, and makes the sheet that explains the verdict, or a fault of form. Each row is
 /// judged as it is read, and none is kept but the one that decides; of each node its last rows are remembered, and
 /// where its call was started. Refused where there is nothing to explain: as `Read` where the reader fails, at the row
-/// behind those that were read; and as `OutOfMemory`, at row 0, where the account or the sheet can't be made. The rule:
+/// after those that were read; and as `OutOfMemory`, at row 0, where the account or the sheet can't be made. The rule:
 /// docs/FORMATS.md.
 pub fn explain<R: Read + Drop>(alloc: Global, reader: BoundedRows<R>) -> Result<Sheet, TraceFault>
     ensures told { IfOk result (λ sheet.

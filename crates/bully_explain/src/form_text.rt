@@ -27,7 +27,7 @@ pub fn form_text<R: Read + Drop>(
     Ok(text)
 }
 
-// How the sheet begins: with the row and its place, or that there is none, and the fault.
+// How the sheet starts: with the row and its place, or that there is none, and the fault.
 #[tactic(auto, using(crate::proofs::SheetLemmas::form_whole))]
 fn form_head<R: Read + Drop>(
     alloc: Global,
@@ -73,7 +73,7 @@ fn push_faulty_row(text: &mut Draft, line: u64, fields: &ByteRecord, fault: Trac
     text.push_between("\n", fault.cause, ": ");
 }
 
-// What stands behind the head of the sheet: why the row at the fault, or the lack of one, makes no trace.
+// What comes after the head of the sheet: why the row at the fault, or the lack of one, makes no trace.
 fn form_rest<R: Read + Drop>(
     alloc: Global,
     rows: &RowReader<TailReader<BoundedRows<R>>>,

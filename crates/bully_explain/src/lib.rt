@@ -1,10 +1,10 @@
 //! What a verdict saw: the sheet that explains a refused row, one that says something else than the group shows, a
 //! fault of form, or a lawful trace.
 //!
-//! It stands on bully_account, which takes the rows and tells what they came to, on bully_draft, in which a sheet is
-//! written, and on the crates below these. The program relies on what is explained being what bully_account tells of
-//! the trace, and on its sheet beginning with the row that decided and how it did. The sentences and the rules of a
-//! sheet are tested.
+//! It builds on bully_account, which takes the rows and reports what they came to, on bully_draft, in which a sheet is
+//! written, and on the crates below these. The program relies on two things: what is explained is what bully_account
+//! reports of the trace, and its sheet starts with the row that decided and how it did. The sentences and the rules of
+//! a sheet are tested.
 #![tactic(auto)]
 
 mod claim_rules;

@@ -54,13 +54,13 @@ pub fn push_needs_recover(text: &mut Draft, context: &DecisionContext) {
     );
 }
 
-/// Appends that the node, which is up, has to crash first.
+/// Appends that the node, which is up, must crash first.
 pub fn push_needs_crash(text: &mut Draft, context: &DecisionContext) {
     push_up(text, context);
     text.push_between(", and needs a crash,", context.number(), " before this row");
 }
 
-/// Appends that the procedure which runs at the node has to end before the event.
+/// Appends that the procedure that runs at the node must end before the event.
 pub fn push_one_procedure(text: &mut Draft, context: &DecisionContext, event: &Event) {
     text.push_str("a node runs one procedure at a time: a ");
     text.push_str(event.kind().word());
@@ -89,7 +89,7 @@ pub fn push_steps(text: &mut Draft, context: &DecisionContext, event: &Event) {
     }
 }
 
-/// Appends that the call in the slot has to leave it first.
+/// Appends that the call in the slot must leave it first.
 pub fn push_one_call(text: &mut Draft, context: &DecisionContext) {
     text.push_str("a node has one call under way at most: ");
     if let Some(held) = context.shown.call {
@@ -144,7 +144,7 @@ fn push_no_call(text: &mut Draft, context: &DecisionContext) {
     }
 }
 
-// The last of these rows behind which no call was under way, behind words that say what it was.
+// The last of these rows after which no call was under way, after words that say what it was.
 fn last_end(notes: &[Note]) -> Option<(&'static str, u32)> {
     let mut last = None;
     for note in notes {

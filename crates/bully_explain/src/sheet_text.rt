@@ -43,7 +43,7 @@ pub fn sheet_text(
     Ok(text)
 }
 
-// How the sheet begins: with the verdict, where it is lawful; else with the row that decided, and how it did.
+// How the sheet starts: with the verdict, where it is lawful; else with the row that decided, and how it did.
 fn sheet_head(alloc: Global, account: &Account) -> Result<String, OutOfMemory>
     ensures { IfOk result (λ text. BeginsSheet account.now (string_bytes text)) }
 {
@@ -101,7 +101,7 @@ fn push_decided(text: &mut Draft, world: &World, verdict: Verdict, row: &Row)
     }
 }
 
-// What stands behind the head of the sheet.
+// What comes after the head of the sheet.
 fn sheet_rest(
     alloc: Global,
     account: &Account,
@@ -135,7 +135,7 @@ fn plan_of(alloc: Global, account: &Account, node: Node) -> Result<Option<Table>
     copied(procedure.table())
 }
 
-// Appends what stands behind the head of the sheet of the row that decided: why and by which rules it did, its node,
+// Appends what comes after the head of the sheet of the row that decided: why and by which rules it did, its node,
 // and the others. Where a plan was refused for its table, this is one that can be planned.
 fn push_stopped(
     text: &mut Draft,
@@ -268,7 +268,7 @@ pub fn reason(
     Ok(text)
 }
 
-// How that begins: with the row, and how it decided.
+// How that starts: with the row, and how it decided.
 fn reason_head(
     alloc: Global,
     world: &World,
@@ -283,7 +283,7 @@ fn reason_head(
     text.finish()
 }
 
-// What stands behind that.
+// What comes after that.
 fn reason_rest(
     alloc: Global,
     world: &World,
@@ -301,7 +301,7 @@ fn reason_rest(
     text.finish()
 }
 
-// Appends what stands behind the head of the sheet of a lawful trace: each node as the group stands at the end, and
+// Appends what comes after the head of the sheet of a lawful trace: each node as the group stands at the end, and
 // which of them aren't at rest.
 fn push_lawful(text: &mut Draft, account: &Account, nodes: &[NodeSheet]) {
     for (place, sheet) in nodes.iter().enumerate() {
@@ -458,7 +458,7 @@ fn push_notes(text: &mut Draft, memory: &Memory) {
     }
 }
 
-// Appends a line for each node but this one, behind a title; nothing where there is no other one.
+// Appends a line for each node but this one, after a title; nothing where there is no other one.
 fn push_others(text: &mut Draft, nodes: &[NodeSheet], node: Node) {
     let own = usize::from(node.number());
     if nodes.len() > 1 || own > nodes.len() {

@@ -12,7 +12,7 @@ use bully_table::Table;
 /// How wide the column of what a row says is, in bytes, and that of the parts' names before it.
 const COLUMN: usize = 16;
 
-/// Appends the heads of the two columns, of which the first has this one, behind a blank line.
+/// Appends the heads of the two columns, this one over the first, after a blank line.
 pub fn push_heads(text: &mut Draft, head: &'static str)
     ensures { Appends text.old text.new (heads head.now) }
 {
@@ -66,7 +66,7 @@ pub fn push_tasks(text: &mut Draft, part: &'static str, said: Option<&Table>, sh
     text.push_str("\n");
 }
 
-// Appends the name of a part, and tells at which length of the text its first column begins.
+// Appends the name of a part, and tells at which length of the text its first column starts.
 fn push_part(text: &mut Draft, part: &'static str) -> usize
     ensures name { Appends text.old text.new (part_name part.now) }
     ensures start { result ≡ length text.new.text }
@@ -84,7 +84,7 @@ fn push_padded(text: &mut Draft, word: &'static str, width: usize)
     text.push_spaces(width.saturating_sub(word.len()));
 }
 
-// Fills up the column that began at this length, with two spaces at least.
+// Fills up the column that started at this length, with two spaces at least.
 fn push_gap(text: &mut Draft, start: usize)
     ensures { Appends text.old text.new (gap (length text.old.text - start)) }
 {

@@ -17,7 +17,7 @@ pub fn push_row_place(text: &mut Draft, number: u32, line: u64)
     text.push_between("", line, "): ");
 }
 
-/// Appends the members in rising number, each behind a space; `of nobody` where there is none.
+/// Appends the members in rising number, each after a space; `of nobody` where there is none.
 pub fn push_members(text: &mut Draft, set: &NodeSet) {
     if set.is_empty() {
         return text.push_str(" of nobody");
@@ -27,7 +27,7 @@ pub fn push_members(text: &mut Draft, set: &NodeSet) {
     }
 }
 
-// Appends the number behind a space, where it is that of a member.
+// Appends the number after a space, where it is that of a member.
 fn push_member(text: &mut Draft, set: &NodeSet, number: u16) {
     match Node::new(number) {
         Some(node) if set.has(node) => text.push_behind(" ", number),
@@ -125,7 +125,7 @@ pub fn push_vector(text: &mut Draft, shown: &NodeSummary) {
     }
 }
 
-// Appends the node behind the part that it has, where there is one.
+// Appends the node after the part that it has, where there is one.
 fn push_named(text: &mut Draft, part: &'static str, node: Option<Node>) {
     if let Some(node) = node {
         text.push_behind(part, node.number());
@@ -148,7 +148,7 @@ pub fn push_what(text: &mut Draft, memory: &Memory, what: &What) {
     }
 }
 
-// Appends the owners behind a plan. Between two plans of a node there are as many rows as it remembers, or more, so the
+// Appends the owners after a plan. Between two plans of a node there are as many rows as it remembers, or more, so the
 // table of its last plan is that of the plan among them.
 fn push_planned(text: &mut Draft, memory: &Memory, event_kind: EventKind) {
     let planned = memory.planned();

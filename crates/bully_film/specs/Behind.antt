@@ -1,4 +1,4 @@
--- The world behind the rows of a trace: each row that doesn't decide takes the world on, and none behind the one that
+-- The world after the rows of a trace: each row that doesn't decide takes the world on, and none after the one that
 -- decides.
 use Rattle.std.specs.Prelude.{◌≡◌, ℕ, ◌+◌, Bool, List, [], ◌∷◌, Some, None, ◌||◌, not, is_some, if◌then◌else◌}
 use Rattle.bully_base.specs.Setup.{Setup}
@@ -19,11 +19,11 @@ decides setup w count (Row.Detailed d) = is_some (cause setup w count (event_of_
 decides setup w count (Row.Claim claim) = not (is_true setup w claim)
 decides setup w count (Row.Whole whole) = not (is_whole setup w whole)
 
--- the world behind an event; the same one where it isn't possible
+-- the world after an event; the same one where it isn't possible
 abbrev pub stepped : Setup → World → Event → World
 stepped setup w e = elim (step_of setup w e) as (λ _. World) [ None ↦ w | Some r ↦ r.0 ]
 
--- the world behind a row that doesn't decide
+-- the world after a row that doesn't decide
 abbrev pub next_world : Setup → World → Row → World
 next_world setup w (Row.Event e) = stepped setup w e
 next_world setup w (Row.Detailed d) = stepped setup w (event_of_detailed d)
@@ -42,11 +42,11 @@ taken setup w count [] = w
 taken setup w count (row ∷ rows) = if decides setup w count row then w else
     taken setup (next_world setup w row) (next_count count row) rows
 
--- the world behind the first rows of a trace
+-- the world after the first rows of a trace
 abbrev pub world_behind : Setup → List Row → World
 world_behind setup rows = taken setup (first_world setup) 0 rows
 
--- rows that are judged lead to the world behind them
+-- rows that are judged lead to the world after them
 abbrev pub LeadsBehind : Type 0
 LeadsBehind = (setup : Setup) (rows : List Row) (verdict : Verdict) (w : World)
     → IsJudged setup (first_world setup) 0 2 rows verdict w → w ≡ world_behind setup rows

@@ -1,4 +1,4 @@
--- What is kept of the rows of a trace: those of a window, each with what it shows, and how the nodes stand behind the
+-- What is kept of the rows of a trace: those of a window, each with what it shows, and how the nodes stand after the
 -- last of them.
 use Rattle.std.specs.Prelude.{◌≡◌, ◌⊎◌, ℕ, ◌+◌, ◌-◌, ◌<◌, ◌≤◌, ◌++◌, List, [], ◌∷◌, length, drop, min, nat_lt, nat_le}
 use Rattle.std.specs.Prelude.{◌==◌, true, false, is_none, is_some, slice_get, if◌then◌else◌, Option, Some, None}
@@ -24,7 +24,7 @@ use Rattle.bully_film.specs.Scene.{IsSceneStart, event_kind_in, node_in, said_in
 use Rattle.bully_film.specs.Window.{IsWindow, WindowState}
 
 -- a film: the judge that takes the rows, the window, what each row that is kept shows, the row that decided, and, once
--- the window's last row was taken, how the nodes stand behind it
+-- the window's last row was taken, how the nodes stand after it
 pub record FilmState : Type 0 where
   pub judge : JudgeState
   pub window : WindowState
@@ -42,7 +42,7 @@ deciding (Verdict.Differs number) = Some number
 abbrev pub decided : Option Verdict → Option ℕ
 decided stopped = option_and_then deciding stopped
 
--- the row of this number, of those behind the header; none where there is no number
+-- the row of this number, of those after the header; none where there is no number
 abbrev pub IsRowAt : List Row → Option ℕ → Option Row → Type 0
 IsRowAt rows None stop = stop ≡ None
 IsRowAt rows (Some number) stop = (row : Row) × (stop ≡ Some row) × (slice_get rows (number - 2) ≡ Some row)
@@ -84,7 +84,7 @@ IsNoted number row film after =
 abbrev pub noted : Row → FilmState → FilmState
 noted row film = if is_some film.judge.stopped then record film { stop = Some row } else film
 
--- behind a row of this number that was judged, of which this was seen before it, and which says this, what it shows is
+-- after a row of this number that was judged, of which this was seen before it, and which says this, what it shows is
 -- kept, and how the nodes stand at the window's last row; nothing of a row of which nothing was seen
 abbrev pub GoesOn : ℕ → Option Row → Option SceneStart → FilmState → FilmState → Type 0
 GoesOn number said None film after = after ≡ film
@@ -96,7 +96,7 @@ GoesOn number said (Some scene_start) film after = (w : World) (row : Row) → s
     })
     × (after ≡ (if number == shot.window.to then closed shot else shot))
 
--- of the rows before and behind them these are those of the window: they begin where it does; or there are none, since
+-- of the rows before and after them these are those of the window: they start where it does; or there are none, since
 -- the rows end before it; or they are the last ones, as many as are kept
 abbrev pub IsInWindow : WindowState → List Row → List Row → Type 0
 IsInWindow window before shown =
@@ -104,7 +104,7 @@ IsInWindow window before shown =
     ⊎ ((length before + 2 < window.from) × (shown ≡ []))
     ⊎ ((window.from < length before + 2) × (length shown ≡ window.most))
 
--- how the nodes stand behind the rows before and those shown is kept, and the last of these has this number; or it
+-- how the nodes stand after the rows before and those shown is kept, and the last of these has this number; or it
 -- isn't kept yet: the judge took just these rows, P holds of the last one's number, and no row is beyond them unless
 -- one decided
 abbrev pub IsAtEnd : Setup → List Row → List Row → List Row → JudgeState → ℕ → (ℕ → Type 0) → Option (List NodeSnapshot)
@@ -135,13 +135,13 @@ pub record HasFilmedUp (setup : Setup) (rows : List Row) (film : FilmState) (P :
 abbrev pub HasFilmed : Setup → List Row → FilmState → Type 0
 HasFilmed setup rows film = HasFilmedUp setup rows film (λ last. last < film.window.to)
 
--- the same behind the row that was taken last, which may be the window's last one
+-- the same after the row that was taken last, which may be the window's last one
 abbrev pub HasShot : Setup → List Row → FilmState → Type 0
 HasShot setup rows film = HasFilmedUp setup rows film (λ last. (last ≡ length rows + 1) × (last ≤ film.window.to))
 
 -- what a film shows is that of the rows of a trace in a window: the verdict is the trace's, the judge took all of its
 -- rows, and the row that decided is kept, none exactly of a lawful trace. Of each row in the window the film has what
--- it shows, and how the nodes stand behind the last of them. They end with the window, or else with the row that
+-- it shows, and how the nodes stand after the last of them. They end with the window, or else with the row that
 -- decided, or with the last one of a lawful trace
 pub record IsFilmOf (asked : WindowState) (finished : FinishedFilm) (trace : Trace) : Type 0 where
   pub same : finished.setup ≡ trace.setup

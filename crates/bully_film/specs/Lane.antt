@@ -17,21 +17,21 @@ use Rattle.bully_film.specs.declared.stretches.Stretch.{Stretch}
 abbrev pub snapshot_before : ℕ → NodeSnapshot → Scene → NodeSnapshot
 snapshot_before j now s = if s.own.node == j then s.own.before else (if s.other.node == j then s.other.before else now)
 
--- and behind it
+-- and after it
 abbrev pub snapshot_after : ℕ → NodeSnapshot → Scene → NodeSnapshot
 snapshot_after j now s = if s.own.node == j then s.own.after else (if s.other.node == j then s.other.after else now)
 
--- node j before these rows, behind which it is so
+-- node j before these rows, after which it is so
 abbrev pub start_snapshot : ℕ → List Scene → NodeSnapshot → NodeSnapshot
 start_snapshot j [] at_end = at_end
 start_snapshot j (s ∷ scenes) at_end = snapshot_before j (start_snapshot j scenes at_end) s
 
--- and behind each of them, before which it is so
+-- and after each of them, before which it is so
 abbrev pub snapshots_after : ℕ → NodeSnapshot → List Scene → List NodeSnapshot
 snapshots_after j now [] = []
 snapshots_after j now (s ∷ scenes) = snapshot_after j now s ∷ snapshots_after j (snapshot_after j now s) scenes
 
--- node j before these rows, and behind each of them
+-- node j before these rows, and after each of them
 abbrev pub lane_in : ℕ → List Scene → NodeSnapshot → List NodeSnapshot
 lane_in j scenes at_end = start_snapshot j scenes at_end ∷ snapshots_after j (start_snapshot j scenes at_end) scenes
 
@@ -58,7 +58,7 @@ abbrev pub AreJoined : {T : Type 0} → ℕ → List (Stretch T) → ℕ → Typ
 AreJoined first [] end = first ≡ end
 AreJoined first (one ∷ others) end = (one.first ≡ first) × (first ≤ one.last) × AreJoined (one.last + 1) others end
 
--- behind this something else is seen, if anything
+-- after this something else is seen, if anything
 abbrev pub EndsBefore : {T : Type 0} → T → List (Stretch T) → Type 0
 EndsBefore value [] = Unit {0}
 EndsBefore value (one ∷ others) = value ≢ one.seen
@@ -68,19 +68,19 @@ abbrev pub AreApart : {T : Type 0} → List (Stretch T) → Type 0
 AreApart [] = Unit {0}
 AreApart (one ∷ others) = EndsBefore one.seen others × AreApart others
 
--- how a call ends behind which the slot holds another one, or the same in another phase
+-- how a call ends after which the slot holds another one, or the same in another phase
 abbrev pub IsEndBy : HeldCall → Call → End → Type 0
 IsEndBy next call End.Ran = (next.call ≡ call) × ((answer : Answer) × (next.phase ≡ Phase.Ran answer))
 IsEndBy next call End.Failed = (next.call ≡ call) × (next.phase ≡ Phase.Failed)
 IsEndBy next call End.GivenUp = next.call ≡ call → next.phase ≡ Phase.Sent
 IsEndBy next call End.UnderWay = ⊥
 
--- the same where the slot may be empty behind it
+-- the same where the slot may be empty after it
 abbrev pub IsEndBefore : Option HeldCall → Call → End → Type 0
 IsEndBefore None call end = end ≡ End.GivenUp
 IsEndBefore (Some next) call end = IsEndBy next call end
 
--- the same of the stretches behind it, of which there may be none
+-- the same of the stretches after it, of which there may be none
 abbrev pub IsEndIn : List Holding → Call → End → Type 0
 IsEndIn [] call end = end ≡ End.UnderWay
 IsEndIn (holding ∷ holdings) call end = IsEndBefore holding.seen call end
@@ -94,7 +94,7 @@ row_before (s ∷ scenes) = s.number - 1
 abbrev pub is_orphan : NodeSnapshot → Bool
 is_orphan snapshot = elim snapshot.call as (λ _. Bool) [ None ↦ false | Some held ↦ not held.is_live ]
 
--- the lane of node i, which stood so behind each row from this one on
+-- the lane of node i, which stood so after each row from this one on
 pub record IsLane (i first : ℕ) (snapshots : List NodeSnapshot) (lane : Lane) : Type 0 where
   pub node : lane.node ≡ i
   pub bars : spread lane.bars.items ≡ map stand_of snapshots

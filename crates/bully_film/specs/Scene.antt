@@ -1,4 +1,4 @@
--- What a row of a trace shows: which nodes it speaks of, and how they were before it and behind it.
+-- What a row of a trace shows: which nodes it speaks of, and how they were before it and after it.
 use Rattle.std.specs.Prelude.{◌≡◌, ℕ, zero, suc, ◌+◌, Bool, true, false, List, [], ◌∷◌, ◌++◌, Option, Some, None}
 use Rattle.std.specs.Prelude.{option_map, length, nat_le, not, ◌&&◌, if◌then◌else◌}
 use Rattle.bully_base.specs.declared.node.Status.{Status}
@@ -127,23 +127,23 @@ scene_of setup w w' number row =
       said = said_in row;
     }
 
--- the row behind these first rows of a trace
+-- the row after these first rows of a trace
 abbrev pub scene_at : Setup → List Row → Row → Scene
 scene_at setup before row =
     scene_of setup (world_behind setup before) (world_behind setup (before ++ row ∷ [])) (length before + 2) row
 
--- rows behind these first rows of a trace
+-- rows after these first rows of a trace
 abbrev pub scenes_from : Setup → List Row → List Row → List Scene
 scenes_from setup before [] = []
 scenes_from setup before (row ∷ rows) = scene_at setup before row ∷ scenes_from setup (before ++ row ∷ []) rows
 
--- node i behind each of these rows
+-- node i after each of these rows
 abbrev pub snapshots_from : Setup → List Row → ℕ → List Row → List NodeSnapshot
 snapshots_from setup before i [] = []
 snapshots_from setup before i (row ∷ rows) =
     snapshot (world_behind setup (before ++ row ∷ [])) i ∷ snapshots_from setup (before ++ row ∷ []) i rows
 
--- node i before these rows, and behind each of them
+-- node i before these rows, and after each of them
 abbrev pub lane_of : Setup → List Row → ℕ → List Row → List NodeSnapshot
 lane_of setup before i rows = snapshot (world_behind setup before) i ∷ snapshots_from setup before i rows
 

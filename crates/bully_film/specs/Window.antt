@@ -18,7 +18,7 @@ pub record IsWindow (window : WindowState) : Type 0 where
   pub some : 0 < window.most
   pub last : window.from ≤ window.to + 1
 
--- rows from one to another can be asked for: the first is one, it isn't behind the last, and they aren't too many
+-- rows from one to another can be asked for: the first is one, it isn't after the last, and they aren't too many
 abbrev pub can_be_shown : ℕ → ℕ → Bool
 can_be_shown from to = nat_lt 0 from && nat_le from to && nat_lt to (from + WINDOW_MAX)
 
@@ -26,7 +26,7 @@ can_be_shown from to = nat_lt 0 from && nat_le from to && nat_lt to (from + WIND
 abbrev pub row_or_beyond : ℕ → ℕ
 row_or_beyond row = min row BEYOND
 
--- the row, or the one behind the header in place of that
+-- the row, or the one after the header in place of that
 abbrev pub behind_header : ℕ → ℕ
 behind_header row = if nat_lt row 2 then 2 else row
 
@@ -44,7 +44,7 @@ window_between from to = if can_be_shown from to then Some (asked from to) else 
 abbrev pub is_dash : ℕ → Bool
 is_dash b = b == 45
 
--- the window that a text asks for: of two numbers, before and behind its first dash; none where there aren't two, or
+-- the window that a text asks for: of two numbers, before and after its first dash; none where there aren't two, or
 -- where their rows can't be asked for
 abbrev pub window_in : List ℕ → Option WindowState
 window_in text =

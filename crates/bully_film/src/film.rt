@@ -17,7 +17,7 @@ use std::collections::VecDeque;
 use std::marker::Model;
 
 /// What a film shows: the judge that took all rows of the trace, the setup and the verdict of it, the row that decided,
-/// none where the verdict is lawful, what each row of the window shows, and how the nodes stand behind the last of
+/// none where the verdict is lawful, what each row of the window shows, and how the nodes stand after the last of
 /// them, from node 1 on.
 #[derive(Drop)]
 pub struct FinishedFilm {
@@ -38,7 +38,7 @@ pub struct Film {
     scenes: VecDeque<Scene>,
     // The row that decided.
     stop: Option<Row>,
-    // How the nodes stand behind the window's last row, once that was taken.
+    // How the nodes stand after the window's last row, once that was taken.
     at_end: Option<Vec<NodeSnapshot>>,
 }
 
@@ -70,7 +70,7 @@ impl Film {
     ghost use Rattle.bully_rows.specs.declared.trace.Row.{Row as RowState};
     ghost use Rattle.bully_world.specs.State.{world_of};
 
-    /// A film behind this header, before any row. Refused where an allocation fails.
+    /// A film after this header, before any row. Refused where an allocation fails.
     pub fn new(alloc: Global, header: Header, window: Window) -> Result<Film, OutOfMemory>
         ensures filmed { IfOk result (HasFilmed header.setup []) }
         ensures window { IfOk result (λ film. film.window ≡ window) }
@@ -142,7 +142,7 @@ impl Film {
         self.judge.stopped().is_some()
     }
 
-    // What is seen of a row before it is taken, whose event is this and which names this node; nothing behind the
+    // What is seen of a row before it is taken, whose event is this and which names this node; nothing after the
     // window.
     #[inline(always)]
     fn look(&self, event_kind: Option<EventKind>, node: Node) -> Option<SceneStart>
@@ -196,7 +196,7 @@ impl Film {
         self.stop = Some(Row::Event(NodeEvent { kind, node }.event()));
     }
 
-    // Goes on behind a row that was judged, of which this was seen before, and which says no more than its event's word
+    // Goes on after a row that was judged, of which this was seen before, and which says no more than its event's word
     // and a node: keeps what it shows, and how the nodes stand, where it was the window's last row.
     #[inline(always)]
     fn keep_shown(
@@ -215,7 +215,7 @@ impl Film {
         Ok(())
     }
 
-    // The same behind any row.
+    // The same after any row.
     fn keep_said(
         &mut self,
         alloc: Global,

@@ -13,7 +13,7 @@ use crate::snapshot::{NodeSnapshot, unseen};
 use bully_base::{Node, OutOfMemory};
 use std::alloc::Global;
 
-/// How the node stood before the rows that the finished film shows, and behind each of them. The node is at most the
+/// How the node stood before the rows that the finished film shows, and after each of them. The node is at most the
 /// setup's last. Refused where an allocation fails.
 pub fn lane_of(
     alloc: Global,
@@ -28,7 +28,7 @@ pub fn lane_of(
     lane_in(alloc, finished.scenes.as_slice(), node, &at_end)
 }
 
-// How the node stands behind the last row.
+// How the node stands after the last row.
 fn snapshot_at_end(finished: &FinishedFilm, node: Node) -> NodeSnapshot
     requires { node ≤ finished.now.setup.nodes }
     ensures { (window : WindowState) (trace : Trace) (is : IsFilmOf window finished.now trace)
@@ -47,7 +47,7 @@ fn snapshot_at(at_end: &[NodeSnapshot], place: usize) -> NodeSnapshot
     }
 }
 
-// How the node stood before these rows, and behind each of them, where it stands so at their end.
+// How the node stood before these rows, and after each of them, where it stands so at their end.
 fn lane_in(
     alloc: Global,
     scenes: &[Scene],
@@ -66,7 +66,7 @@ fn lane_in(
     Ok(snapshots)
 }
 
-// Appends how the node stood, first so, and then behind each of these rows.
+// Appends how the node stood, first so, and then after each of these rows.
 fn push_lane(
     snapshots: &mut Vec<NodeSnapshot>,
     scenes: &[Scene],
@@ -110,7 +110,7 @@ fn snapshot_before(node: Node, now: &NodeSnapshot, scene: &Scene) -> NodeSnapsho
     }
 }
 
-// How the node is behind the row; this, where the row doesn't speak of it.
+// How the node is after the row; this, where the row doesn't speak of it.
 fn snapshot_after(node: Node, now: &NodeSnapshot, scene: &Scene) -> NodeSnapshot
     ensures { result ≡ snapshot_after node now.now scene.now }
 {

@@ -1,9 +1,9 @@
-//! Traces as films: of each row in a window what it shows, and of each node how it stood behind each of these rows.
+//! Traces as films: of each row in a window what it shows, and the state of each node after each of these rows.
 //!
-//! It stands on bully_trace, whose judge decides, and on the crates below it. bully_picture, which draws a film, relies
-//! on the verdict being the trace's, on the rows being those of the window, on each stretch of a node's lane telling
-//! the status that the node has behind each row of it, and on each stretch of its slot telling the call that is there
-//! behind each row of it.
+//! It builds on bully_trace, whose judge decides, and on the crates below it. bully_picture, which draws a film, relies
+//! on four things. The verdict is the trace's. The rows are those of the window. Each stretch of a node's lane has the
+//! status of the node after each row of the stretch. And each stretch of its slot has the call that is there after each
+//! row of the stretch.
 #![tactic(auto)]
 
 ghost use Rattle.bully_film.specs.Behind.{LeadsBehind};
@@ -36,8 +36,8 @@ pub use window::{WINDOW_MAX, WINDOW_ROWS, Window};
 /// How many owners of a table are shown at most.
 pub const OWNERS_SHOWN: u16 = 12;
 
-/// The law of the world behind the first rows of a trace. Where rows are judged, as [`bully_trace::check`] judges them,
-/// the world that they are taken to is the one of which the scenes and the lanes of a film speak.
+/// The law of the world after the first rows of a trace. Where rows are judged, as [`bully_trace::check`] judges them,
+/// the world that they are taken to is the one that the scenes and the lanes of a film show.
 pub fn world_told()
     ensures { LeadsBehind }
 {}

@@ -20,7 +20,7 @@ use bully_steps::Point;
 use bully_table::{Table, copied};
 use bully_world::World;
 
-/// A node before a row and behind it.
+/// A node before a row and after it.
 #[derive(Clone, Copy)]
 pub struct Change {
     pub node: Node,
@@ -124,8 +124,8 @@ fn open_wide(world: &World, event_kind: Option<EventKind>, own: Node) -> SceneSt
     }
 }
 
-/// What the row of this number shows, of which this was seen before it, and which says this; the world is the one
-/// behind it. Refused where an allocation fails.
+/// What the row of this number shows, where this was seen before it, and it says this; the world is the one after it.
+/// Refused where an allocation fails.
 pub fn shot(
     number: u32,
     scene_start: &SceneStart,

@@ -13,12 +13,12 @@ pub struct HeldCall {
     pub phase: Phase,
 }
 
-/// A stretch of rows behind each of which a node's slot held this, or nothing. A call that was sent is an arrow from
-/// the first row of its stretch to the one behind the last, in which it runs, is lost, or is given up.
+/// A stretch of rows: after each of them a node's slot held this, or nothing. A call that was sent is an arrow from the
+/// first row of its stretch to the one after the last, in which it runs, is lost, or is given up.
 pub type Holding = Stretch<Option<HeldCall>>;
 
 /// How a stretch of a slot ends: the call runs at its callee, it is lost, it is taken out of the slot, or it is still
-/// there behind the last row.
+/// there after the last row.
 #[derive(Clone, Copy)]
 pub enum End {
     Ran,
@@ -38,7 +38,7 @@ pub fn end_at(holdings: &[Holding], place: usize, call: &Call) -> End
     }
 }
 
-// How the call ends behind which the slot holds this.
+// How the call ends after which the slot holds this.
 fn end_before(next: &Option<HeldCall>, call: &Call) -> End
     ensures { IsEndBefore next.now call.now result }
 {

@@ -11,7 +11,7 @@ pub struct Stand {
     pub coordinator: Option<Node>,
 }
 
-/// A stretch of rows behind each of which a node stood so.
+/// A stretch of rows: after each of them a node stood so.
 pub type Bar = Stretch<Stand>;
 
 impl Seen for Stand {

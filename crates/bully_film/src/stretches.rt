@@ -22,7 +22,7 @@ pub trait Seen: Copy {
         ensures { IsTrue result ↔ (self.now ≡ other.now) };
 }
 
-/// A stretch of rows behind each of which this was seen of a node: from the first to the last.
+/// A stretch of rows, from the first to the last: after each of them this was seen of a node.
 #[derive(Clone, Copy)]
 pub struct Stretch<T> {
     pub first: u32,
@@ -30,8 +30,8 @@ pub struct Stretch<T> {
     pub seen: T,
 }
 
-/// The stretches of a node that stood so behind each of these rows, of which the first has this number: over each the
-/// same is seen, and what is seen changes where two meet. Refused where an allocation fails.
+/// The stretches of a node that stood so after each of these rows, from this number on: over each the same is seen, and
+/// what is seen changes where two meet. Refused where an allocation fails.
 pub fn stretches_of<T: Seen>(
     alloc: Global,
     first: u32,

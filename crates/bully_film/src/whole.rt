@@ -26,8 +26,8 @@ pub struct Lane {
     pub orphans: Vec<bool>,
 }
 
-/// The lanes of all nodes, from node 1 on: how each stands behind the row before those that the finished film shows,
-/// and behind each of them. Refused where an allocation fails; and where a row's number is 2^32 or more, which no trace
+/// The lanes of all nodes, from node 1 on: how each stands after the row before those that the finished film shows,
+/// and after each of them. Refused where an allocation fails; and where a row's number is 2^32 or more, which no trace
 /// has.
 pub fn lanes(alloc: Global, finished: &FinishedFilm) -> Result<Vec<Lane>, OutOfMemory>
     ensures count { IfOk result (λ lanes. length lanes.items ≡ finished.now.setup.nodes) }
@@ -60,7 +60,7 @@ fn lane_at(alloc: Global, finished: &FinishedFilm, node: Node) -> Result<Lane, O
     )
 }
 
-// The lane of a node that stood so behind each row from this one on.
+// The lane of a node that stood so after each row from this one on.
 fn stretched(
     alloc: Global,
     node: Node,
@@ -80,7 +80,7 @@ fn stretched(
     })
 }
 
-// Whether the slot held an orphan, where the node stood so behind each row.
+// Whether the slot held an orphan, where the node stood so after each row.
 fn orphans(alloc: Global, snapshots: &[NodeSnapshot]) -> Result<Vec<bool>, OutOfMemory>
     ensures { IfOk result (λ v. v.items ≡ map is_orphan snapshots.now) }
 {

@@ -69,7 +69,7 @@ impl Window {
         Window::between(row_of(from)?, row_of(to)?)
     }
 
-    /// The rows from one to another. None where the first is 0 or behind the last, or where they are more than
+    /// The rows from one to another. None where the first is 0 or after the last, or where they are more than
     /// [`WINDOW_MAX`].
     pub fn between(from: u32, to: u32) -> Option<Window>
         ensures { result ≡ window_between from to }
@@ -114,7 +114,7 @@ fn can_be_shown(from: u32, to: u32) -> bool
     0 < from && from <= to && to - from < WINDOW_MAX
 }
 
-// The row, or the one behind the header in place of that.
+// The row, or the one after the header in place of that.
 fn behind_header(row: u32) -> u32
     ensures { result ≡ behind_header row }
 {

@@ -21,7 +21,7 @@ use Rattle.bully_follow.specs.declared.followed.Followed.{Followed}
 abbrev pub HasFollowed : Header → List Row → Followed → Type 0
 HasFollowed header rows w = HasTakenBehind header rows w.account
 
--- the header begins what follows, and each row behind it is taken
+-- the header starts what follows, and each row after it is taken
 abbrev pub TakesFollowed : ReadSoFar → Option (BehindHeader Followed) → Option (BehindHeader Followed) → Type 0
 TakesFollowed = TakesNext HasFollowed
 
@@ -48,7 +48,7 @@ IsFollowedAs known verdict =
 abbrev pub IsFollowFault : Option (List ℕ) → TraceFault → Type 0
 IsFollowFault known fault = EndsReading known fault ⊎ IsOfWriting fault
 
--- how the taking of a text ended, with what followed it: at its end; behind the row that decided; or by a fault
+-- how the taking of a text ended, with what followed it: at its end; after the row that decided; or by a fault
 abbrev pub IsEnded : Option (List ℕ) → Result (Unit {0}) Stop → Option Followed → Type 0
 IsEnded known (Ok u) followed = IsTakenToEnd HasFollowed known followed
 IsEnded known (Err (Stop.Decided verdict)) followed =

@@ -19,7 +19,7 @@ unfoldable pub vector_words : Vector → List ℕ
 vector_words v =
     status_word v.status ++ codes " " ++ node_text v.coordinator ++ codes " " ++ task_text 44 v.task ++ codes "\n"
 
--- what node i shows behind the row that came at this time
+-- what node i shows after the row that came at this time
 abbrev pub change_words : List ℕ → ℕ → ℕ → Vector → List ℕ
 change_words time row i v =
     time ++ codes " row " ++ decimal row ++ codes " node " ++ decimal i ++ codes " " ++ vector_words v
@@ -39,7 +39,7 @@ abbrev pub changed_told : Telling → List ℕ → ℕ → Setup → World → C
 changed_told telling time row setup w changed =
     node_told telling time row setup w changed.named ++ node_told telling time row setup w changed.callee
 
--- for how many more rows there is room behind the row
+-- for how many more rows there is room after the row
 abbrev pub room_told : Telling → List ℕ → ℕ → ℕ → List ℕ
 room_told Telling.Words time row room =
     time ++ codes " row " ++ decimal row ++ codes " room for " ++ decimal room ++ codes " rows\n"
@@ -52,7 +52,7 @@ tells_room row = nat_le 900000 row && (row % 10000 == 0)
 abbrev pub room_behind : Telling → List ℕ → ℕ → List ℕ
 room_behind telling time row = if tells_room row then room_told telling time row (1000001 - row) else []
 
--- what is told behind the row that came at this time
+-- what is told after the row that came at this time
 abbrev pub row_told : Telling → List ℕ → ℕ → Followed → List ℕ
 row_told telling time row followed =
     changed_told telling time row followed.account.judge.world.setup

@@ -7,7 +7,7 @@ pub trait Explainer {
     ghost use Rattle.std.specs.Prelude.{ℕ, List, IfOk, string_bytes};
     ghost use Rattle.bully_account.specs.Accounts.{AccountState};
 
-    // What a text has to say of an account, to explain what decided.
+    // What a text must say of an account, to explain what decided.
     ghost explains: { AccountState → List ℕ → Type 0 };
 
     /// The text that explains what an account came to. Refused where an allocation fails.

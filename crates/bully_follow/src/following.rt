@@ -108,14 +108,14 @@ fn tell<C: Clock, W: Write>(
     put(text.as_str(), output)
 }
 
-// Whether it is told behind the row of this number how many a trace has room for.
+// Whether it is told after the row of this number how many a trace has room for.
 fn tells_room(row: u32) -> bool
     ensures { result ≡ tells_room row }
 {
     row >= ROOM_FROM && row % ROOM_STEP == 0
 }
 
-// What is told behind the row of this number, which came at this time.
+// What is told after the row of this number, which came at this time.
 fn row_text(
     alloc: Global,
     telling: Telling,
@@ -188,7 +188,7 @@ pub fn follow<C: Clock, X: Explainer, R: Read + Drop, W: Write + Drop>(
 }
 
 // Follows the rows of a text, of which none was read.
-// (what has to be dropped is owned by the function above)
+// (what must be dropped is owned by the function above)
 fn follow_rows<C: Clock, X: Explainer, R: Read + Drop, W: Write>(
     explainer: &X,
     alloc: Global,
@@ -216,7 +216,7 @@ fn follow_rows<C: Clock, X: Explainer, R: Read + Drop, W: Write>(
     }
 }
 
-// Writes what is told at the end of the rows, or behind the one that decided, and tells the verdict.
+// Writes what is told at the end of the rows, or after the one that decided, and tells the verdict.
 fn finish<X: Explainer, W: Write>(
     explainer: &X,
     alloc: Global,

@@ -1,9 +1,9 @@
-//! A trace that grows: each row is judged as it comes, and each change of what a node shows is told at once.
+//! A trace that grows: each row is judged as it comes, and each change of what a node shows is printed at once.
 //!
-//! It stands on bully_account, which takes the rows, on bully_json, on the crates below these, and on the kit's jiff
-//! for the time. What explains a verdict that isn't lawful is its caller's. The program relies on the verdict being
-//! that of `check` on the rows that were read. Of its parts it is proved that what is written last is the verdict's
-//! text or what explains it, and that a line of a change tells what its node shows. That each change has one is tested.
+//! It builds on bully_account, which takes the rows, on bully_json, on the crates below these, and on the kit's jiff
+//! for the time. Its caller explains a verdict that isn't lawful. The program relies on this: the verdict is that of
+//! `check` on the rows that were read. Two things are proved of its parts: what is written last is the verdict's text
+//! or what explains it, and a line of a change has what its node shows. That each change has one is tested.
 #![tactic(auto)]
 
 mod changes;

@@ -17,7 +17,7 @@ pub enum Telling {
 }
 
 impl Telling {
-    /// Appends a line for each node that changed behind the row of this number, which came at this time. Refused where
+    /// Appends a line for each node that changed after the row of this number, which came at this time. Refused where
     /// an allocation fails.
     pub fn push_changed(
         self,
@@ -60,7 +60,7 @@ impl Telling {
         }
     }
 
-    /// Appends how many rows a trace has room for behind the row of this number. Refused where an allocation fails.
+    /// Appends how many rows a trace has room for after the row of this number. Refused where an allocation fails.
     pub fn push_room(
         self,
         text: &mut String,

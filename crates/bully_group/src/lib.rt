@@ -1,7 +1,8 @@
 //! A group under one lock: its world, its history, the book that counts the entries, and the publisher that shows them.
 //!
-//! It stands on bully_watch, bully_agree and the crates below them. The crates above rely on each step being one entry
-//! of the history and of its seat, answered as the definitions say, and on a finished group's seats having all of it.
+//! It builds on bully_watch, bully_agree and the crates below them. The crates above rely on two things: each step is
+//! one entry of the history and of its seat, answered as the definitions say, and the seats of a finished group have
+//! all of the history.
 #![tactic(auto)]
 
 mod closed;

@@ -6,8 +6,8 @@ use bully_watch::Entry;
 use std::alloc::Global;
 use std::marker::Model;
 
-/// A token of one actor of a group: whoever has it takes that actor's steps. It isn't copied. It keeps each entry that
-/// it was answered, beside the entry's index in the history.
+/// A token of one actor of a group: a holder of the seat takes that actor's steps. It isn't copied. It keeps each entry
+/// that it was answered, beside the entry's index in the history.
 #[derive(Drop, Debug)]
 pub struct Seat {
     pub(crate) actor: u16,

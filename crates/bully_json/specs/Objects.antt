@@ -18,7 +18,7 @@ use Rattle.bully_trace.specs.declared.verdict.Verdict.{Verdict}
 abbrev pub hex_digit : ℕ → ℕ
 hex_digit digit = if nat_lt digit 10 then 48 + digit else 87 + digit
 
--- a letter within quotes: a quote and a backslash behind a backslash, a control by its escape
+-- a letter within quotes: a quote and a backslash after a backslash, a control by its escape
 abbrev pub escaped_letter : ℕ → List ℕ
 escaped_letter c =
     if c == 34 then codes "\\\""
@@ -56,7 +56,7 @@ place_members v =
 unfoldable pub halter_member : Vector → List ℕ
 halter_member v = codes ",\"halter\":" ++ number_text v.halter
 
--- its task, behind which it ends
+-- its task, after which it ends
 unfoldable pub task_member : Vector → List ℕ
 task_member v = codes ",\"task\":" ++ task_text v.task ++ codes "}"
 
@@ -64,7 +64,7 @@ task_member v = codes ",\"task\":" ++ task_text v.task ++ codes "}"
 unfoldable pub node_object : ℕ → Vector → List ℕ
 node_object i v = codes "{\"node\":" ++ decimal i ++ codes "," ++ place_members v ++ halter_member v ++ task_member v
 
--- the comma behind so many objects
+-- the comma after so many objects
 abbrev pub comma_behind : ℕ → List ℕ
 comma_behind count = if count == 0 then [] else codes ","
 
@@ -97,11 +97,11 @@ abbrev pub plan_line : TablePlan → List ℕ
 plan_line plan = codes "{\"owners\":[" ++ owners_text 44 plan.table ++ codes "],\"moves\":" ++ decimal plan.moves
     ++ codes ",\"bound\":" ++ decimal plan.bound ++ codes "}\n"
 
--- how a line begins that tells of a row which came at this time
+-- how a line starts that tells of a row which came at this time
 unfoldable pub row_members : List ℕ → ℕ → List ℕ
 row_members time row = codes "{\"time\":" ++ quoted time ++ codes ",\"row\":" ++ decimal row ++ codes ","
 
--- what node i shows with this vector behind the row; and for how many more rows there is room behind it
+-- what node i shows with this vector after the row; and for how many more rows there is room after it
 abbrev pub change_line : List ℕ → ℕ → ℕ → Vector → List ℕ
 change_line time row i v = row_members time row ++ codes "\"node\":" ++ decimal i ++ codes "," ++ place_members v
     ++ task_member v ++ codes "\n"

@@ -6,7 +6,7 @@ use crate::values::{push_last, push_place, push_quoted};
 use bully_base::{Node, OutOfMemory};
 use bully_handlers::Vector;
 
-/// Appends the line of what the node shows with this vector, behind the row of this number, which came at this time.
+/// Appends the line of what the node shows with this vector, after the row of this number, which came at this time.
 /// Refused where an allocation fails.
 pub fn push_change(
     text: &mut String,
@@ -26,7 +26,7 @@ pub fn push_change(
     text.push('\n')
 }
 
-/// Appends the line of how many rows a trace has room for behind the row of this number, which came at this time.
+/// Appends the line of how many rows a trace has room for after the row of this number, which came at this time.
 /// Refused where an allocation fails.
 pub fn push_room(text: &mut String, time: &str, row: u32, room: u32) -> Result<(), OutOfMemory>
     ensures { OnOk result (string_bytes text.new ≡ string_bytes text.old ++ room_line time.now row room) }
@@ -36,7 +36,7 @@ pub fn push_room(text: &mut String, time: &str, row: u32, room: u32) -> Result<(
     text.push_str("}\n")
 }
 
-// Appends how a line begins that tells of the row of this number, which came at this time.
+// Appends how a line starts that tells of the row of this number, which came at this time.
 #[tactic(auto, unfolding(crate::specs::Objects::row_members))]
 fn push_row(text: &mut String, time: &str, row: u32) -> Result<(), OutOfMemory>
     ensures { OnOk result (string_bytes text.new ≡ string_bytes text.old ++ row_members time.now row) }

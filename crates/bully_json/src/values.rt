@@ -105,7 +105,7 @@ pub fn push_place(text: &mut String, vector: &Vector) -> Result<(), OutOfMemory>
     push_number(text, vector.coordinator())
 }
 
-/// Appends the member with the vector's halter, behind others.
+/// Appends the member with the vector's halter, after others.
 #[tactic(auto, unfolding(crate::specs::Objects::halter_member))]
 pub fn push_halter(text: &mut String, vector: &Vector) -> Result<(), OutOfMemory>
     ensures { OnOk result (string_bytes text.new ≡ string_bytes text.old ++ halter_member vector.now.vector) }
@@ -114,7 +114,7 @@ pub fn push_halter(text: &mut String, vector: &Vector) -> Result<(), OutOfMemory
     push_number(text, vector.halter())
 }
 
-/// Appends the last member, behind others: that with the vector's task.
+/// Appends the last member, after others: that with the vector's task.
 #[tactic(auto, unfolding(crate::specs::Objects::task_member))]
 pub fn push_last(text: &mut String, vector: &Vector) -> Result<(), OutOfMemory>
     ensures { OnOk result (string_bytes text.new ≡ string_bytes text.old ++ task_member vector.now.vector) }

@@ -11,7 +11,7 @@ use bully_trace::Verdict;
 use bully_world::World;
 use std::alloc::Global;
 
-/// The line of the verdict, behind whose rows the world is so. Refused where an allocation fails.
+/// The line of the verdict, after whose rows the world is so. Refused where an allocation fails.
 pub fn verdict_line(alloc: Global, verdict: Verdict, world: &World) -> Result<String, OutOfMemory>
     ensures { IfOk result (λ line. string_bytes line ≡ verdict_line world.now.setup verdict (world_of world.now)) }
 {
@@ -77,7 +77,7 @@ fn push_nodes(text: &mut String, world: &World) -> Result<(), OutOfMemory>
     Ok(())
 }
 
-// Appends the object of the node with this vector, behind so many others.
+// Appends the object of the node with this vector, after so many others.
 fn push_node(text: &mut String, before: u16, node: Node, vector: &Vector) -> Result<(), OutOfMemory>
     ensures { OnOk result (string_bytes text.new ≡ string_bytes text.old
         ++ (comma_behind before ++ node_object node vector.now.vector)) }

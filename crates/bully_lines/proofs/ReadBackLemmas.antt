@@ -1,28 +1,21 @@
 -- What is written of a request or of a reply means that very one.
-use Rattle.std.proofs.Common.{◌≡◌, ◌≢◌, ◌∙◌, ◌⊎◌, ℕ, zero, suc, ◌+◌, ◌^◌, ◌<◌, ◌≤◌, ◌++◌, true, false, List, [], ◌∷◌, length, take, drop, Option, Some, None, Result, Ok, append_assoc, append-nil, arith, inl, inr, refl, sym, ap, subst, ◌==◌, codes}
+use Rattle.std.proofs.Common.{◌≡◌, ◌∙◌, ◌⊎◌, ℕ, zero, suc, ◌+◌, ◌^◌, ◌<◌, ◌++◌, true, false, List, [], ◌∷◌, length, take, drop, Option, Some, None, Ok, append_assoc, arith, inl, inr, refl, ap, ◌==◌, codes}
 use Rattle.std.specs.Fmt.{decimal, digits}
 use Rattle.std.specs.List.{list_all, list_any, position_or_len}
-use Rattle.std.specs.Str.{bytes_eq}
-use Rattle.std.proofs.Math.Seq.{drop-append-add, take-append_seam, take-length}
+use Rattle.std.proofs.Math.Seq.{drop-append-add, take-append_seam}
 use Rattle.std.proofs.lemmas.Bool.{and_parts, or_parts}
 use Rattle.std.proofs.lemmas.Bool.Decides.{nat_tests}
-use Rattle.std.proofs.lemmas.List.{drop_all}
 use Rattle.bully_base.specs.Setup.{IsNode, IsSetup, Setup, is_node}
 use Rattle.bully_calls.specs.declared.call.Answer.{Answer}
 use Rattle.bully_calls.specs.declared.call.Answer.TheVariants.{Yes, No}
 use Rattle.bully_calls.specs.declared.call.CallKind.{CallKind}
 use Rattle.bully_calls.specs.declared.call.CallKind.TheVariants.{AreYouUp, AreYouNormal, Halt, NewCoordinator, Ready}
-use Rattle.bully_calls.specs.declared.message.Reply.{Reply}
-use Rattle.bully_calls.specs.declared.message.Request.{Request}
 use Rattle.bully_table.specs.Numeral.{is_digit, number_of}
-use Rattle.bully_table.specs.TableText.{owners_text}
 use Rattle.bully_rows.specs.Words.{answer_word, call_word}
 use Rattle.bully_rows.proofs.ListTexts.{table-read}
 use Rattle.bully_rows.proofs.NumberTexts.{decimal-digits, number-read}
-use Rattle.bully_lines.specs.declared.fault.ReplyFault.{ReplyFault}
-use Rattle.bully_lines.specs.declared.fault.RequestFault.{RequestFault}
-use Rattle.bully_lines.specs.ReadBack.{Carries, IsReplyTold, IsRequestTold, ReadsReplyBack, ReadsRequestBack}
-use Rattle.bully_lines.specs.Texts.{behind, call_number_in, carried_text, field, is_comma, node_in, ready_request, reply_by_answer, reply_by_caller, reply_by_number, reply_of_text, reply_text, request_by_callee, request_by_caller, request_by_kind, request_by_number, request_of_text, request_text}
+use Rattle.bully_lines.specs.ReadBack.{Carries, ReadsReplyBack, ReadsRequestBack}
+use Rattle.bully_lines.specs.Texts.{behind, call_number_in, carried_text, field, is_comma, node_in, ready_request, reply_by_answer, reply_by_caller, reply_by_number, reply_of_text, request_by_callee, request_by_caller, request_by_kind, request_by_number, request_of_text}
 use Rattle.bully_lines.specs.Words.{answer_named}
 
 -- ---- fields

@@ -1,5 +1,5 @@
 -- What is read of a line is within the limits of the setup.
-use Rattle.std.proofs.Common.{◌≡◌, ◌≢◌, ◌⊎◌, ℕ, ◌<◌, ◌≤◌, Bool, true, false, List, [], ◌∷◌, Option, Some, None, Result, Ok, Err, arith, inl, inr, refl, sym, subst, codes, nat_lt, option_and_then, if◌then◌else◌}
+use Rattle.std.proofs.Common.{◌≡◌, ◌≢◌, ◌⊎◌, ℕ, ◌<◌, Bool, true, false, List, [], ◌∷◌, Option, Some, None, Result, Ok, Err, arith, inl, inr, refl, sym, subst, codes, nat_lt, if◌then◌else◌}
 use Rattle.std.specs.Str.{bytes_eq}
 use Rattle.std.proofs.lemmas.Bool.Decides.{nat_tests}
 use Rattle.std.proofs.lemmas.Option.{same_Some}
@@ -19,7 +19,7 @@ use Rattle.bully_rows.proofs.ToldRows.{found, table-told, tested}
 use Rattle.bully_lines.specs.declared.fault.ReplyFault.{ReplyFault}
 use Rattle.bully_lines.specs.declared.fault.RequestFault.{RequestFault}
 use Rattle.bully_lines.specs.ReadBack.{IsReplyTold, IsRequestTold, RepliesAreTold, RequestsAreTold}
-use Rattle.bully_lines.specs.Texts.{behind, call_number_in, field, node_in, plain_request, ready_request, reply_by_answer, reply_by_caller, reply_by_number, reply_of_text, request_by_callee, request_by_caller, request_by_kind, request_by_number, request_of_text}
+use Rattle.bully_lines.specs.Texts.{behind, call_number_in, field, node_in, plain_request, ready_request, reply_by_answer, reply_by_caller, reply_by_number, request_by_callee, request_by_caller, request_by_kind, request_by_number}
 use Rattle.bully_lines.specs.Words.{answer_named}
 
 -- ---- fields

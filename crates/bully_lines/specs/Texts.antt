@@ -43,7 +43,7 @@ is_comma b = b == 44
 abbrev pub field : List ℕ → List ℕ
 field text = before_first is_comma text
 
--- what stands behind it
+-- what comes after it
 abbrev pub behind : List ℕ → List ℕ
 behind text = after_first is_comma text
 

@@ -8,7 +8,7 @@ ghost use Rattle.bully_lines.specs.Texts.{behind, call_number_in, field, node_in
 use bully_base::{Node, Setup};
 use bully_table::read_number;
 
-/// The first field of the text, and what stands behind its comma; all of it, and nothing, where it has no comma.
+/// The first field of the text, and what comes after its comma; all of it, and nothing, where it has no comma.
 pub fn first_field(text: &str) -> (&str, &str)
     ensures first { result.0.now ≡ field text.now }
     ensures rest { result.1.now ≡ behind text.now }

@@ -1,8 +1,8 @@
 //! A line of text for each request and each reply.
 //!
-//! It stands on bully_calls, on bully_rows for the words of calls and answers, and on the crates below them. Whoever
-//! carries lines relies on a line being read as the request or the reply that it spells, or being refused by its first
-//! fault, and on what is written being read back.
+//! It builds on bully_calls, on bully_rows for the words of calls and answers, and on the crates below them. A program
+//! that carries lines relies on two things: a line is read as the request or the reply that it spells, or refused by
+//! its first fault, and what is written is read back.
 #![tactic(auto)]
 
 ghost use Rattle.bully_lines.specs.ReadBack.{ReadsReplyBack, ReadsRequestBack, RepliesAreTold, RequestsAreTold};

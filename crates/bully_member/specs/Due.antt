@@ -66,7 +66,7 @@ abbrev pub stable_step : MemberState → (now : ℕ) → Work → Option ℕ →
 stable_step m now Work.Idle (Some token) = Step.Begin token
 stable_step m now work token = Step.Wait (stable_wait m now) Until.AnyIdle
 
--- it was told to leave: if it is the last one, it has all nodes crash before it goes
+-- it was asked to leave: if it is the last one, it has all nodes crash before it goes
 abbrev pub leaving_step : MemberState → (are_down : Bool) → SessionId → Step
 leaving_step m are_down session =
     if is_alone m && not are_down && has_room m && not m.has_closed then
@@ -127,7 +127,7 @@ step_of_session m now is_stable are_down session None = live_step m now is_stabl
 abbrev pub is_due : MemberState → (now : ℕ) → Bool
 is_due m now = (renewal_left m.session m.ttl now == 0) && (is_none_of m.ending || sure m.session m.ttl now)
 
--- nothing has to be stopped, and something may be asked for
+-- no work must stop, and something may be asked for
 abbrev pub session_step : MemberState → (now : ℕ) → (is_stable are_down : Bool) → SessionState → Step
 session_step m now is_stable are_down (SessionState.Unknown session) = Step.Ask (Request.Release session)
 session_step m now is_stable are_down SessionState.Absent = step_without_session m now m.ending
@@ -135,7 +135,7 @@ session_step m now is_stable are_down (SessionState.Live session since) =
     if is_due m now then Step.Ask (Request.Renew session) else
     step_of_session m now is_stable are_down session m.ending
 
--- its work has to end: meanwhile the lease is renewed
+-- its work must end: meanwhile the lease is renewed
 abbrev pub stopping_step : MemberState → (now : ℕ) → SessionState → Step
 stopping_step m now (SessionState.Live session since) =
     if stopping_backoff m.session m.ttl now m.paused == 0 then Step.Ask (Request.Renew session) else

@@ -1,14 +1,14 @@
--- The rules that a member keeps in what it begins and asks for.
-use Rattle.std.specs.Prelude.{◌≡◌, ◌⊎◌, ℕ, Bool, true, false, Option, Some, None}
+-- The rules that a member keeps in what it starts and asks for.
+use Rattle.std.specs.Prelude.{◌≡◌, ℕ, Bool, true, false, Option, Some, None}
 use Rattle.bully_member.specs.Due.{token_now}
-use Rattle.bully_member.specs.Member.{MemberState, SeesStable, all_idle, here, is_alone, offset_of, same_promise}
+use Rattle.bully_member.specs.Member.{MemberState, SeesStable, all_idle, offset_of}
 use Rattle.bully_member.specs.Times.{sure}
 use Rattle.bully_member.specs.declared.values.Asked.{Asked}
 use Rattle.bully_member.specs.declared.values.Request.{Request}
 use Rattle.bully_member.specs.declared.values.Step.{Step}
 use Rattle.bully_member.specs.declared.values.Work.{Work}
 
--- it begins to work by this token: it works on nothing, its lease is sure, the group is stable, and its node owns
+-- it starts to work by this token: it works on nothing, its lease is sure, the group is stable, and its node owns
 -- something by a plan of this token, after all that its session has promised
 pub record BeginsBy (m : MemberState) (now token : ℕ) : Type 0 where
   pub idle : m.work ≡ Work.Idle
@@ -26,14 +26,14 @@ pub record ChangesAt (m : MemberState) (offset : ℕ) : Type 0 where
   pub asks : AsksAt m offset
   pub all : all_idle m ≡ true
 
--- it asks for nothing and begins nothing: its work stops, or it backs off
+-- it asks for nothing and starts nothing: its work stops, or it backs off
 abbrev pub stops_or_backs_off : Step → Bool
 stops_or_backs_off Step.Stop = true
 stops_or_backs_off (Step.BackOff at_most) = true
 stops_or_backs_off _ = false
 
--- one request is under way at a time: as long as one isn't answered, nothing else is asked for, and it stays the one
--- that is awaited
+-- one request is under way at a time: as long as it isn't answered, the member asks for nothing else, and still awaits
+-- that one
 abbrev pub Awaits : Option Asked → Step → Option Asked → Type 0
 Awaits None _ _ = Unit {0}
 Awaits (Some asked) answer after = (stops_or_backs_off answer ≡ true) × (after ≡ Some asked)

@@ -74,7 +74,7 @@ same_promise p q = (p.epoch == q.epoch) && (p.offset == q.offset)
 abbrev pub offset_in : ℕ → Promise → ℕ
 offset_in epoch p = if p.epoch == epoch then p.offset else 0
 
--- how much longer the session that holds the lease of a node has to stay until it is admitted
+-- how much longer the session that holds the lease of a node must stay until it is admitted
 abbrev pub stay_left : List Arrival → (now node : ℕ) → ℕ
 stay_left arrivals now node = option_map_or (λ (a : Arrival). left now a.stay a.at) (slice_get arrivals (node - 1)) 0
 
@@ -110,12 +110,12 @@ owned_of m p = owned_by (replica_of m) p.node (offset_in m.terms.epoch p.promise
 abbrev pub has_room : MemberState → Bool
 has_room m = nat_le (offset_of m + REBALANCE_MAX * (replica_of m).world.setup.nodes) m.terms.rows_max
 
--- whether the epoch has to roll over
+-- whether the epoch must roll over
 abbrev pub is_closing : MemberState → Bool
 is_closing m = m.has_request || not (has_room m)
 
 -- the group is stable among the nodes that are admitted, by a plan at or after each offset up to which one of them is
--- idle, and after all that this session has ever promised; and the epoch doesn't have to roll over
+-- idle, and after all that this session has ever promised; and the epoch needn't roll over
 pub record SeesStable (m : MemberState) (now : ℕ) : Type 0 where
   pub stable : IsStable (replica_of m) (group_of m now) (most_idle m now)
   pub behind : m.promised < token_of (replica_of m).last

@@ -1,4 +1,4 @@
--- What a member begins with.
+-- What a member starts with.
 use Rattle.std.specs.Prelude.{◌≡◌, ◌*◌, ℕ, Bool, false, List, Option, Some, None, length, nat_lt, ◌==◌, not, ◌||◌}
 use Rattle.std.specs.Prelude.{if◌then◌else◌}
 use Rattle.bully_base.specs.Setup.{Setup}

@@ -3,7 +3,7 @@ use Rattle.std.specs.Prelude.{◌-◌, ◌/◌, ◌*◌, ℕ, Bool, false, Optio
 use Rattle.bully_member.specs.declared.values.SessionState.{SessionState}
 use Rattle.bully_member.specs.declared.values.Work.{Work}
 
--- how much is left now of a time of this length that began at `begun`
+-- how much is left now of a time of this length that started at `begun`
 abbrev pub left : (now length begun : ℕ) → ℕ
 left now length begun = length - (now - begun)
 
@@ -17,7 +17,7 @@ abbrev pub sure : SessionState → (ttl now : ℕ) → Bool
 sure (SessionState.Live session since) ttl now = nat_lt (now - since) (sure_for ttl)
 sure session ttl now = false
 
--- how long until the lease has to be renewed: a quarter of the ttl
+-- how long until the lease must be renewed: a quarter of the ttl
 abbrev pub renewal_left : SessionState → (ttl now : ℕ) → ℕ
 renewal_left (SessionState.Live session since) ttl now = left now (ttl / 4) since
 renewal_left session ttl now = ttl
@@ -32,9 +32,8 @@ pause_left (Some paused) ttl now = left now (ttl / 20) paused
 abbrev pub turn_left : (above ttl now last_change : ℕ) → ℕ
 turn_left above ttl now last_change = left now (ttl / 5 * above) last_change
 
--- for how long a new session whose node is Down in the log has to stay until it is admitted: a hundredth of the ttl;
--- and if another one was first seen for its node within 60 ttl before, four times as long as that one had to stay, up
--- to ten ttl
+-- for how long a new session whose node is Down in the log must stay until it is admitted: a hundredth of the ttl; or,
+-- if another one was first seen for its node within the 60 ttl before, four times the stay of that one, up to ten ttl
 abbrev pub first_stay : ℕ → ℕ
 first_stay ttl = ttl / 100
 

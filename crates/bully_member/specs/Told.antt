@@ -1,4 +1,4 @@
--- How a member changes by what it is told.
+-- How a member changes by what is reported to it.
 use Rattle.std.specs.Prelude.{◌==◌, ◌&&◌, not, if◌then◌else◌, ℕ, Bool, true, false, List, Option, Some, None, length}
 use Rattle.std.specs.Prelude.{fold, nat_lt, ◌-◌, slice_get, slice_set}
 use Rattle.std.specs.List.{list_all, zip}
@@ -24,7 +24,7 @@ same_bool false b = not b
 abbrev pub same_session : SessionId → SessionId → Bool
 same_session a b = (a.process == b.process) && (a.number == b.number)
 
--- it has to read a snapshot again
+-- it must read a snapshot again
 abbrev pub to_snapshot : MemberState → MemberState
 to_snapshot m = record m { needs_snapshot = true }
 
@@ -80,8 +80,8 @@ abbrev pub renewed_by : SessionState → MemberState → MemberState → MemberS
 renewed_by (SessionState.Live session since) m after = after
 renewed_by session m after = m
 
--- what became of a request that was asked for at this time. An answer to a Snapshot or a Follow without a result counts
--- as none
+-- what became of a request that was asked for at this time. A Snapshot or a Follow whose result doesn't come counts as
+-- not answered
 abbrev pub when_answered : MemberState → (now : ℕ) → StoreAnswer → Request → (at : ℕ) → MemberState
 when_answered m now answer (Request.Acquire session offset) at =
     acquired_by m.session m (when_acquired m now answer session offset at)
@@ -135,12 +135,12 @@ abbrev pub is_same_session : Option SessionId → SessionId → Bool
 is_same_session None session = false
 is_same_session (Some seen) session = same_session seen session
 
--- how long a new session has to stay
+-- how long a new session must stay
 abbrev pub stay_of : Arrival → (ttl now : ℕ) → ℕ
 stay_of a ttl now = if not (is_none_of a.session) && nat_lt (now - a.at) (remembered_for ttl)
     then longer_stay a.stay ttl else first_stay ttl
 
--- what is noted of a session that holds the lease of a node, of which this was noted before
+-- what is noted of a session that holds the lease of a node, after this was noted for that node
 abbrev pub arrived : Arrival → SessionId → (ttl now : ℕ) → Arrival
 arrived a session ttl now = if is_same_session a.session session then a else
     record { session = Some session; at = now; stay = stay_of a ttl now }

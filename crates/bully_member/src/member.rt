@@ -76,7 +76,7 @@ impl Model for Member {
     ghost invariant = { λ m. IsMember m.learned m.terms m.ttl m.leases.items m.arrivals.items };
 }
 
-// What a member begins an epoch with: it has learned nothing of the log, and has seen no session.
+// What a member starts an epoch with: it has learned nothing of the log, and has seen no session.
 #[derive(Drop)]
 struct Beginning {
     learned: RowReplica,
@@ -129,7 +129,7 @@ impl Member {
         }
     }
 
-    // The same with a log of which nothing was learned, if nothing is wrong with the terms.
+    // The same for an epoch of whose log nothing was learned, if nothing is wrong with the terms.
     fn with(alloc: Global, beginning: Beginning, terms: Terms, process: u64, ttl: u64) -> Member
         requires { IsMember beginning.learned terms ttl [] beginning.arrivals.items }
         ensures { result ≡ member_with beginning.learned beginning.arrivals.items terms process ttl }
@@ -182,7 +182,7 @@ impl Member {
         self.learned.replica().events()
     }
 
-    /// Which epoch it is in, for which node, and what else the epoch began with.
+    /// Which epoch it is in, for which node, and what else the epoch started with.
     pub fn terms(&self) -> &Terms
         ensures { result.now ≡ self.now.terms }
     {
@@ -196,7 +196,7 @@ impl Member {
         self.session
     }
 
-    /// For how many nanoseconds its lease is still sure. For that long it may work on what it was told to begin.
+    /// For how many nanoseconds its lease is still sure. For that long it may work on what it was asked to start.
     pub fn sure_left(&self, now: u64) -> u64
         ensures { result ≡ sure_left self.now.session self.now.ttl now }
     {

@@ -22,8 +22,8 @@ pub struct Terms {
     pub node: Node,
     /// How many rows the log may have.
     pub rows_max: u32,
-    /// The last table of the epoch before, if that had as many partitions. An owner that is gone is any node that the
-    /// group doesn't have.
+    /// The last table of the epoch before, if that had as many partitions. In the place of an owner that is gone it has
+    /// a node that the group doesn't have.
     pub old: Option<Table>,
 }
 

@@ -8,7 +8,7 @@ ghost use Rattle.bully_member.specs.declared.opening.TheConstants.{TTL_MAX};
 
 use crate::values::{SessionState, Work};
 
-/// How much is left now of a time of this length that began at `begun`.
+/// How much is left now of a time of this length that started at `begun`.
 pub fn left(now: u64, length: u64, begun: u64) -> u64
     ensures { result ≡ left now length begun }
 {
@@ -42,7 +42,7 @@ pub fn sure_left(session: SessionState, ttl: u64, now: u64) -> u64
     }
 }
 
-/// How long until the lease has to be renewed: a quarter of the ttl after its last renewal was asked for.
+/// How long until the lease must be renewed: a quarter of the ttl after its last renewal was asked for.
 pub fn renewal_left(session: SessionState, ttl: u64, now: u64) -> u64
     ensures { result ≡ renewal_left session ttl now }
 {
@@ -107,15 +107,14 @@ pub fn paused_backoff(
     }
 }
 
-/// For how long a new session whose node is Down in the log has to stay until it is admitted: a hundredth of the ttl.
+/// For how long a new session whose node is Down in the log must stay until it is admitted: a hundredth of the ttl.
 pub fn first_stay(ttl: u64) -> u64
     ensures { result ≡ first_stay ttl }
 {
     ttl / 100
 }
 
-/// The same, if another session was seen for its node not long before: four times as long as that one had to stay, up
-/// to ten ttl.
+/// The same, if another session was seen for its node not long before: four times the stay of that one, up to ten ttl.
 pub fn longer_stay(stay: u64, ttl: u64) -> u64
     requires { ttl ≤ TTL_MAX }
     ensures { result ≡ longer_stay stay ttl }

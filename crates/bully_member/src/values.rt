@@ -1,4 +1,4 @@
-//! What a member is told, knows and asks for.
+//! What is reported to a member, and what it knows and asks for.
 //!
 //! Times are whole nanoseconds of one clock that never goes back. An offset in a log is a number of rows after its
 //! header. Each of these rows is an event.
@@ -45,7 +45,7 @@ pub enum StoreAnswer {
 /// Why a member ends.
 #[derive(Clone, Copy, PartialEq, Eq)]
 pub enum Ending {
-    /// It was told to leave.
+    /// It was asked to leave.
     Left,
     /// The group has no node of its name any more.
     NotThere,
@@ -70,9 +70,9 @@ pub enum Request {
     /// Appends the rows of the rebalance, if the log ends at this offset, and all holders of leases are idle up to
     /// there.
     Append(u32),
-    /// Rolls the epoch over: ends it and begins the next one in one transaction, on the conditions of an append.
+    /// Rolls the epoch over: ends it and starts the next one in one transaction, on the conditions of an append.
     RollOver(u32),
-    /// Reads what the current epoch began with.
+    /// Reads what the current epoch starts with.
     Follow,
 }
 
@@ -90,15 +90,15 @@ pub enum Until {
 /// What a member does next.
 #[derive(Clone, Copy)]
 pub enum Step {
-    /// Send this request to the store, and tell the member what became of it.
+    /// Send this request to the store, and report its answer to the member.
     Ask(Request),
-    /// Begin to work by this token, on what the node owns. Nothing is written first.
+    /// Start to work by this token, on what the node owns. Nothing is written first.
     Begin(u32),
-    /// Stop all work, and tell the member when it has ended.
+    /// Stop all work, and report to the member when it has ended.
     Stop,
-    /// Wait for this many nanoseconds at most, and tell the member that the wait is over.
+    /// Wait for this many nanoseconds at most, and report to the member that the wait is over.
     Wait(u64, Until),
-    /// Do nothing for this many nanoseconds, or until the member is told something.
+    /// Do nothing for this many nanoseconds, or until something is reported to the member.
     BackOff(u64),
     /// Do nothing more: the member has ended.
     End(Ending),
@@ -124,7 +124,7 @@ pub enum Work {
     Working(u32),
     /// Its work by this token ended outside the member.
     Lost(u32),
-    /// It was told to stop its work by this token, and hasn't reported yet that the work has ended.
+    /// It was asked to stop its work by this token, and hasn't reported yet that the work has ended.
     Stopping(u32),
 }
 
@@ -143,7 +143,7 @@ pub struct LastChange {
     pub offset: u32,
 }
 
-/// When the session that was last seen for a node was seen first, and how long it has to stay until it is admitted.
+/// When the session that was last seen for a node was seen first, and how long it must stay until it is admitted.
 #[derive(Clone, Copy)]
 pub struct Arrival {
     /// None if no session was ever seen.

@@ -39,7 +39,7 @@ pub enum NodesFault {
 /// Runs the configuration in threads, one for each node and one for the operator, each with its own seat and all of the
 /// configuration's turns, and finishes the group, which nobody watches: its history. Refused as `Spawn` where a thread
 /// isn't made, as `Finish` where the group isn't finished, and as `OutOfMemory` where an allocation fails; each comes
-/// once all threads have ended. What the world refuses in a turn has no effect; a thread that wants for memory ends. A
+/// once all threads have ended. What the world refuses in a turn has no effect; a thread ends if it gets no memory. A
 /// thread whose turn added no entry gives its processor away. The rule: docs/ALGORITHM.md, Node threads.
 pub fn run_nodes<R: Threads + Wait + Sync, G: Gate>(
     rt: &R,

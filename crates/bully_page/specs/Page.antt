@@ -27,7 +27,7 @@ page_start = codes "<!DOCTYPE html>\n"
 abbrev pub page_end : List ℕ
 page_end = codes "</body>\n</html>\n"
 
--- the text is one HTML document, with no text before or behind it
+-- the text is one HTML document, with no text before or after it
 abbrev pub IsPage : List ℕ → Type 0
 IsPage text = (inside : List ℕ) × (text ≡ page_start ++ inside ++ page_end)
 
@@ -109,12 +109,12 @@ is_same_slot None (Some b) = false
 is_same_slot (Some a) None = false
 is_same_slot (Some a) (Some b) = same_call a.call b.call && same_phase a.phase b.phase && same_live a.is_live b.is_live
 
--- the name of a node behind its number, if it has one: it turns the direction of nothing but itself
+-- the name of a node after its number, if it has one: it turns the direction of nothing but itself
 abbrev pub name_text : Option (List ℕ) → List ℕ
 name_text None = []
 name_text (Some name) = codes ": <bdi>" ++ escaped (chars name) ++ codes "</bdi>"
 
--- a node before a row and behind it, with these names of the nodes from node 1 on
+-- a node before a row and after it, with these names of the nodes from node 1 on
 abbrev pub change_text : List (List ℕ) → Change → List ℕ
 change_text names change =
     (codes "<tr><th>node " ++ decimal change.node ++ []) ++ name_text (slice_get names (change.node - 1))
@@ -189,7 +189,7 @@ front_text title =
     page_start ++ HEAD.now ++ titled title ++ codes "\n</head>\n<body>\n" ++ headed title
     ++ codes "\n<div class=\"picture\">\n"
 
--- what stands behind it: the lines of this text, the search, these rows, and the script of the search
+-- what comes after it: the lines of this text, the search, these rows, and the script of the search
 abbrev pub behind_text : List ℕ → List ℕ → List ℕ
 behind_text below rows =
     codes "</div>\n" ++ lines_text (lines below) ++ SEARCH.now

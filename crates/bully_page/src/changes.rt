@@ -12,7 +12,7 @@ use bully_rows::{answer_word, status_word};
 use bully_table::Table;
 
 /// Writes what the row changes: the node that it names, and the other one whose vector it may change, before it and
-/// behind it; or that the group doesn't have that node.
+/// after it; or that the group doesn't have that node.
 pub fn push_changes(page: &mut Paper, finished: &FinishedFilm, scene: &Scene, names: &[&str])
     ensures { Writes page.old page.new (changes_text finished.now.setup.nodes (map (λ s. s.now) names.now) scene.now) }
 {
@@ -45,7 +45,7 @@ fn push_other(page: &mut Paper, scene: &Scene, names: &[&str])
     }
 }
 
-// Writes how a node stands before the row and behind it.
+// Writes how a node stands before the row and after it.
 fn push_change(page: &mut Paper, change: &Change, names: &[&str])
     ensures { Writes page.old page.new (change_text (map (λ s. s.now) names.now) change.now) }
 {
@@ -59,7 +59,7 @@ fn push_change(page: &mut Paper, change: &Change, names: &[&str])
     page.push("</tr>\n");
 }
 
-// Writes the name of a node behind its number, where it has one. It turns the direction of nothing but itself.
+// Writes the name of a node after its number, where it has one. It turns the direction of nothing but itself.
 fn push_name(page: &mut Paper, name: Option<&str>)
     ensures { Writes page.old page.new (name_text (option_map (λ s. s.now) name.entry)) }
 {

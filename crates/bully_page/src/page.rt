@@ -120,7 +120,7 @@ pub fn html_page(
     joined(front, picture, behind)
 }
 
-// The whole: the picture between what stands before it and behind it.
+// The whole: the picture between what stands before it and after it.
 fn joined(front: Paper, picture: &str, behind: Paper) -> Result<String, OutOfMemory>
     ensures front { IfOk result (λ text. front.has_failed ≡ false) }
     ensures behind { IfOk result (λ text. behind.has_failed ≡ false) }
@@ -172,7 +172,7 @@ fn push_titled(
     page.push(behind);
 }
 
-// What stands behind it.
+// What comes after it.
 fn behind_of(
     alloc: Global,
     finished: &FinishedFilm,

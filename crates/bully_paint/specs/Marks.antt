@@ -1,30 +1,30 @@
 -- Text with marks in it: sequences ESC [ .. m, by which a terminal changes its colour.
 use Rattle.std.specs.Prelude.{ℕ, Bool, true, false, ◌==◌, List, [], ◌∷◌, ◌++◌, if◌then◌else◌}
 
--- where a byte stands: in text, behind an ESC, or in a mark
+-- where a byte stands: in text, after an ESC, or in a mark
 pub data Place : Type 0 where
   in_text : Place
   behind_escape : Place
   in_mark : Place
 
--- where the byte behind this one stands
+-- where the byte after this one stands
 abbrev pub next : Place → ℕ → Place
 next in_text b = if b == 27 then behind_escape else in_text
 next behind_escape b = if b == 91 then in_mark else if b == 27 then behind_escape else in_text
 next in_mark b = if b == 109 then in_text else in_mark
 
--- the bytes of text that are known with this byte: an ESC is one if no [ is behind it
+-- the bytes of text that are known with this byte: an ESC is one if no [ is after it
 abbrev pub known : Place → ℕ → List ℕ
 known in_text b = if b == 27 then [] else b ∷ []
 known behind_escape b = if b == 91 then [] else if b == 27 then 27 ∷ [] else 27 ∷ b ∷ []
 known in_mark b = []
 
--- the text of what begins at a place
+-- the text of what starts at a place
 abbrev pub text_from : Place → List ℕ → List ℕ
 text_from place [] = []
 text_from place (b ∷ bs) = known place b ++ text_from (next place b) bs
 
--- the place behind it
+-- the place after it
 abbrev pub place_from : Place → List ℕ → Place
 place_from place [] = place
 place_from place (b ∷ bs) = place_from (next place b) bs

@@ -29,7 +29,7 @@ module _ {W : Type 0} {g : Ghosts W} where
   abbrev pub brush_of : Painted W g → Brush
   brush_of p = record { held = p.held.now; within = p.within }
 
-  -- this went out, or is next, and the brush is this one behind it
+  -- this went out, or is next, and the brush is this one after it
   abbrev pub GoesOut : Painted W g → Painted W g → Stroke → Type 0
   GoesOut p q s = Appends (out_of p) (out_of q) s.out × (brush_of q ≡ s.brush)
 

@@ -13,7 +13,7 @@ pub record Brush : Type 0 where
   pub held : List ℕ
   pub within : Bool
 
--- the bytes that go out at one more, and the brush behind it
+-- the bytes that go out at one more, and the brush after it
 pub record Stroke : Type 0 where
   pub out : List ℕ
   pub brush : Brush
@@ -25,7 +25,7 @@ clean = record { held = []; within = false }
 abbrev pub begins : List ℕ → List ℕ → Bool
 begins text front = bytes_eq (take (length front) text) front
 
--- some word begins so
+-- some word starts so
 abbrev pub is_front : List ℕ → Bool
 is_front front = list_any (λ word. begins (text_of word) front) every_word
 
@@ -36,18 +36,18 @@ is_escape b = b == 27
 abbrev pub joins : Brush → ℕ → Bool
 joins brush b = not brush.within && (is_front (brush.held ++ b ∷ []) && not (is_escape b))
 
--- it goes on with one behind the article in these bytes, which then is no part of it
+-- it goes on with one after the article in these bytes, which then is no part of it
 abbrev pub joins_article : List ℕ → ℕ → Bool
 joins_article held b = begins held (codes "the ") && is_front (drop 4 held ++ b ∷ [])
 
 abbrev pub joins_title : List ℕ → ℕ → Bool
 joins_title held b = joins_article held b && not (is_escape b)
 
--- whether a word without a colour goes on behind these bytes
+-- whether a word without a colour goes on after these bytes
 abbrev pub goes_within : Bool → List ℕ → Bool
 goes_within within bytes = option_map_or (λ last. not (is_separator last)) (slice_get bytes (length bytes - 1)) within
 
--- a byte with which no word begins: an ESC is text, with a mark behind it
+-- a byte with which no word starts: an ESC is text, with a mark after it
 abbrev pub passed : List ℕ → ℕ → Stroke
 passed out b =
     if is_escape b
@@ -68,7 +68,7 @@ stroke brush b =
     then record { out = codes "the "; brush = record brush { held = drop 4 brush.held ++ b ∷ [] } }
     else begun (ending_of brush.held b) (goes_within brush.within brush.held) b
 
--- behind several bytes
+-- after several bytes
 abbrev pub strokes : Brush → List ℕ → Stroke
 strokes brush [] = record { out = []; brush = brush }
 strokes brush (b ∷ bytes) =

@@ -57,6 +57,6 @@ abbrev pub painted_as : Option Word → List ℕ → List ℕ
 painted_as None bytes = bytes
 painted_as (Some word) bytes = painting_of word
 
--- what is written of these bytes, behind which this one stands: a whole word has its colour, and all else stays
+-- what is written of these bytes, after which this one stands: a whole word has its colour, and all else stays
 abbrev pub ending_of : List ℕ → ℕ → List ℕ
 ending_of bytes b = if is_separator b then painted_as (word_named bytes) bytes else bytes

@@ -1,7 +1,7 @@
 //! Colours for a terminal: a writer that puts marks between the words that are written through it.
 //!
-//! It stands on the standard library alone. Whoever writes through it relies on two things: without its marks, what the
-//! writer below got is exactly what was written; and a word that has a colour has its marks once it has ended.
+//! It builds on the standard library alone. A program that writes through it relies on two things: without its marks,
+//! what the writer below got is exactly what was written; and a word that has a colour has its marks once it has ended.
 #![tactic(auto)]
 
 ghost use Rattle.bully_paint.specs.Strokes.{PaintsWords};

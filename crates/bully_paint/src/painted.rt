@@ -11,10 +11,10 @@ use crate::words::{is_separator, longer};
 use std::io;
 use std::io::Write;
 
-/// The byte that marks begin with.
+/// The byte that marks start with.
 const ESCAPE: u8 = 0x1b;
 
-/// An ESC that is text, as a terminal gets it: with a mark behind it, so that it begins none with what follows.
+/// An ESC that is text, as a terminal gets it: with a mark after it, so that it starts none with what follows.
 const KEPT_ESCAPE: &[u8] = b"\x1b\x1b[0m";
 
 /// A writer through which words get colours, if it paints. What it holds back are at most the bytes of a word that
@@ -90,7 +90,7 @@ impl<W: Write + Drop> Painted<W> {
         self.pass(bytes)
     }
 
-    // Whether the byte is held back, as it goes on with a word that may have a colour, or with one behind an article
+    // Whether the byte is held back, as it goes on with a word that may have a colour, or with one after an article
     // that is held back.
     fn goes_on(&mut self, byte: u8) -> bool
         requires queue { self.old.queue.now ≡ [] }
@@ -129,7 +129,7 @@ impl<W: Write + Drop> Painted<W> {
         }
     }
 
-    // Whether the byte is held back, as it goes on with a word behind an article that is held back.
+    // Whether the byte is held back, as it goes on with a word after an article that is held back.
     fn holds_title(&mut self, byte: u8) -> bool
         requires queue { self.old.queue.now ≡ [] }
         requires paints { self.old.paints ≡ true }
@@ -173,7 +173,7 @@ impl<W: Write + Drop> Painted<W> {
         self.held = b"";
     }
 
-    // Writes the first of these bytes, with which no word begins.
+    // Writes the first of these bytes, with which no word starts.
     fn pass(&mut self, bytes: &[u8]) -> io::Result<usize>
         requires queue { self.old.queue.now ≡ [] }
         requires held { self.old.held.now ≡ [] }

@@ -41,7 +41,7 @@ pub fn ending(front: &'static [u8], byte: u8) -> &'static [u8]
     }
 }
 
-/// Whether a word without a colour goes on behind these bytes, which went out; behind none it is as before.
+/// Whether a word without a colour goes on after these bytes, which went out; after none it is as before.
 pub fn goes_within(within: bool, bytes: &[u8]) -> bool
     ensures { result ≡ goes_within within bytes.now }
 {
@@ -51,7 +51,7 @@ pub fn goes_within(within: bool, bytes: &[u8]) -> bool
     }
 }
 
-/// Behind an article in this front, the front of a word that the rest of it and this byte are, if they are one.
+/// After an article in this front, the front of a word that the rest of it and this byte are, if they are one.
 pub fn title_in(front: &[u8], byte: u8) -> Option<&'static [u8]>
     ensures title { IfSome result (λ title. codes "the " ++ title.now ≡ front.now ++ byte ∷ []) }
     ensures joins { MatchOption result (joins_article front.now byte ≡ false) (λ title.

@@ -18,9 +18,9 @@ pub enum Word {
     Rule,
     /// The title of a step in a sheet.
     Step,
-    /// What a line about a fault begins with.
+    /// What a line about a fault starts with.
     Fault,
-    /// What a line about bad words begins with.
+    /// What a line about bad words starts with.
     Mistake,
 }
 
@@ -139,7 +139,7 @@ pub fn longer(front: &[u8], byte: u8) -> Option<&'static [u8]>
     None
 }
 
-// Whether the text begins with this front and this byte.
+// Whether the text starts with this front and this byte.
 fn is_next(text: &[u8], front: &[u8], byte: u8) -> bool
     ensures next { result ≡ true
         → (length front.now < length text.now) × (take (length front.now + 1) text.now ≡ front.now ++ byte ∷ []) }

@@ -33,12 +33,12 @@ abbrev pub shows_rows : List Scene → Bool
 shows_rows [] = false
 shows_rows (s ∷ scenes) = true
 
--- behind which rows, where any are shown
+-- after which rows, where any are shown
 abbrev pub behind_rows : Bool → ℕ → ℕ → List ℕ
 behind_rows false first last = []
 behind_rows true first last = (codes ", behind rows " ++ decimal first ++ codes " to ") ++ (decimal last ++ [])
 
--- the look of a bar of node i, and what is shown where the pointer rests on it: the node, how it stood, and behind
+-- the look of a bar of node i, and what is shown where the pointer rests on it: the node, how it stood, and after
 -- which rows
 abbrev pub bar_label : Bool → ℕ → Bar → List ℕ
 bar_label shows i bar =
@@ -52,11 +52,11 @@ HasBars text shows i bars = All (λ bar. Has text (bar_label shows i bar)) bars
 abbrev pub HasLaneBars : List ℕ → Bool → List Lane → Type 0
 HasLaneBars text shows lanes = All (λ lane. HasBars text shows lane.node lane.bars.items) lanes
 
--- behind this row it is so, of what is so behind each row from the first on
+-- after this row it is so, of what is so after each row from the first on
 abbrev pub IsBehind : {T : Type 0} → ℕ → List T → T → ℕ → Type 0
 IsBehind first values value row = (first ≤ row) × (slice_get values (row - first) ≡ Some value)
 
--- the text has a bar of how node i stood behind this row. It goes from one row to another around this one, and behind
+-- the text has a bar of how node i stood after this row. It goes from one row to another around this one, and after
 -- each of those the node stood so
 pub record HasBar (text : List ℕ) (shows : Bool) (i first : ℕ) (stands : List Stand) (stand : Stand)
     (row : ℕ) : Type 0 where
@@ -66,7 +66,7 @@ pub record HasBar (text : List ℕ) (shows : Bool) (i first : ℕ) (stands : Lis
   pub stood : (other : ℕ) → from ≤ other → other ≤ to → IsBehind first stands stand other
   pub bar : Has text (bar_label shows i (record { first = from; last = to; seen = stand }))
 
--- each of so many nodes, from node 1 on, stood so behind each row from the first on: of each there is a bar
+-- each of so many nodes, from node 1 on, stood so after each row from the first on: of each there is a bar
 abbrev pub HasStands : List ℕ → Bool → ℕ → ℕ → (ℕ → List NodeSnapshot) → Type 0
 HasStands text shows nodes first snapshots =
     (i : ℕ) → 0 < i → i ≤ nodes → (stand : Stand) (row : ℕ) → IsBehind first (map stand_of (snapshots i)) stand row

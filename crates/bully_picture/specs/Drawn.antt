@@ -76,27 +76,27 @@ abbrev pub said_text : Scene → List ℕ
 said_text s = elim s.said as (λ _.
     List ℕ) [ None ↦ bare_text s.event_kind s.own.node | Some row ↦ join_with_byte 44 (row_fields row) ]
 
--- who gets a table that has no room at the lane: it stands behind these words where it is shown
+-- who gets a table that has no room at the lane: it comes after these words where it is shown
 abbrev pub getting_text : Scene → List ℕ
 getting_text s =
     if is_some s.table && is_plan s.event_kind then codes ":"
     else (codes ": " ++ decimal s.other.node ++ codes " ") ++ (if is_some s.table then codes "gets" else
     codes "gets a table")
 
--- what stands behind what a row says: what it does, or, without room at the lane, who gets a table; nothing of the row
+-- what comes after what a row says: what it does, or, without room at the lane, who gets a table; nothing of the row
 -- that decided
 abbrev pub tail_text : Bool → Bool → Scene → List ℕ
 tail_text has_room is_decided s = if not is_decided && s.gets_table && not has_room then getting_text s else
     meaning_text is_decided s
 
--- the row's text at the right of its line, with as many letters at most, and what stands behind it
+-- the row's text at the right of its line, with as many letters at most, and what comes after it
 abbrev pub HasText : List ℕ → Bool → Scene → Type 0
 HasText text is_decided s =
     (letters : ℕ) × (has_room : Bool)
     × Has text (codes " fill=\"" ++ colour_of is_decided (codes "#555") ++ codes "\">" ++ cut_text letters (said_text s)
     ++ tail_text has_room is_decided s ++ codes "</text>\n")
 
--- a node over its lane: all of its name, for where the pointer rests; or its number, where it has none, behind a word
+-- a node over its lane: all of its name, for where the pointer rests; or its number, where it has none, after a word
 -- in wide lanes
 abbrev pub node_label : Bool → ℕ → Option (List ℕ) → List ℕ
 node_label is_wide i (Some name) =
@@ -104,7 +104,7 @@ node_label is_wide i (Some name) =
 node_label is_wide i None =
     codes " unicode-bidi=\"isolate\">" ++ (if is_wide then codes "node " else []) ++ decimal i ++ codes "</text>\n"
 
--- the arrow of a call of node i, which its slot holds behind these rows
+-- the arrow of a call of node i, which its slot holds after these rows
 abbrev pub arrow_label : ℕ → Call → ℕ → ℕ → List ℕ
 arrow_label i call first last =
     codes "<title>node " ++ decimal i ++ codes ": " ++ kind_text call.kind ++ codes " to " ++ decimal call.callee
@@ -114,7 +114,7 @@ abbrev pub has_failed : Phase → Bool
 has_failed Phase.Failed = true
 has_failed _ = false
 
--- of what the slot of node i holds behind these rows: the arrow of a call that was sent, or ran; nothing of one that
+-- of what the slot of node i holds after these rows: the arrow of a call that was sent, or ran; nothing of one that
 -- failed
 abbrev pub held_label : ℕ → ℕ → ℕ → Option HeldCall → List ℕ
 held_label i first last None = []
@@ -141,12 +141,12 @@ HasHoldings text i holdings = All (λ h. Has text (held_label i h.first h.last h
 abbrev pub HasLanes : List ℕ → List Lane → Type 0
 HasLanes text lanes = All (λ lane. HasHoldings text lane.node lane.holdings.items) lanes
 
--- behind this row a slot holds this, where that is what it holds behind each row from the first on
+-- after this row a slot holds this, where that is what it holds after each row from the first on
 abbrev pub Holds : ℕ → List (Option HeldCall) → HeldCall → ℕ → Type 0
 Holds first helds held row = (first ≤ row) × (get_or helds (row - first) None ≡ Some held)
 
--- the text has an arrow of what the slot of node i holds behind this row. It goes from one row to another around this
--- one, and behind each of those the slot holds the same
+-- the text has an arrow of what the slot of node i holds after this row. It goes from one row to another around this
+-- one, and after each of those the slot holds the same
 pub record HasArrow (text : List ℕ) (i first : ℕ) (helds : List (Option HeldCall)) (held : HeldCall)
     (row : ℕ) : Type 0 where
   pub from : ℕ
@@ -155,12 +155,12 @@ pub record HasArrow (text : List ℕ) (i first : ℕ) (helds : List (Option Held
   pub holds : (other : ℕ) → from ≤ other → other ≤ to → Holds first helds held other
   pub arrow : Has text (arrow_label i held.call from to)
 
--- each call has its that the slot of node i holds behind a row from the first on, and that was sent, or ran
+-- each call has its that the slot of node i holds after a row from the first on, and that was sent, or ran
 abbrev pub HasArrows : List ℕ → ℕ → ℕ → List (Option HeldCall) → Type 0
 HasArrows text i first helds = (held : HeldCall) (row : ℕ) → Holds first helds held row → has_failed held.phase ≡ false
     → HasArrow text i first helds held row
 
--- each of so many nodes, from node 1 on, stood so behind each row from the first on: its calls have their arrows
+-- each of so many nodes, from node 1 on, stood so after each row from the first on: its calls have their arrows
 abbrev pub HasCalls : List ℕ → ℕ → ℕ → (ℕ → List NodeSnapshot) → Type 0
 HasCalls text nodes first snapshots = (i : ℕ) → 0 < i → i ≤ nodes → HasArrows text i first (map held_in (snapshots i))
 

@@ -21,7 +21,7 @@ abbrev pub escaped : List ℕ → List ℕ
 escaped [] = []
 escaped (c ∷ cs) = escaped_letter c ++ escaped cs
 
--- the first letters, so many, with an ellipsis behind them where there are more
+-- the first letters, so many, with an ellipsis after them where there are more
 abbrev pub shortened : ℕ → List ℕ → List ℕ
 shortened most cs = if nat_le (length cs) most then cs else take most cs ++ 8230 ∷ []
 

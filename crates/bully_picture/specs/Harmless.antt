@@ -2,7 +2,7 @@
 use Rattle.std.specs.Prelude.{◌≡◌, ◌≢◌, ℕ, false, List, [], ◌∷◌, ◌++◌, Contains, codes}
 use Rattle.bully_picture.specs.Escaping.{is_forbidden}
 
--- behind an &, the names that XML has for what it keeps for itself
+-- after an &, the names that XML has for what it keeps for itself
 abbrev pub entities : List (List ℕ)
 entities = codes "lt;" ∷ codes "gt;" ∷ codes "amp;" ∷ codes "quot;" ∷ codes "#39;" ∷ []
 
@@ -10,7 +10,7 @@ entities = codes "lt;" ∷ codes "gt;" ∷ codes "amp;" ∷ codes "quot;" ∷ co
 abbrev pub BeginsEntity : List ℕ → Type 0
 BeginsEntity text = (name : List ℕ) × (rest : List ℕ) × Contains entities name × (text ≡ name ++ rest)
 
--- a letter, before these ones, that begins or ends no tag, ends no attribute, is no control character, and is an & only
+-- a letter, before these ones, that starts or ends no tag, ends no attribute, is no control character, and is an & only
 -- before the name of an entity
 pub record IsHarmlessLetter (letter : ℕ) (behind : List ℕ) : Type 0 where
   pub no_less_than : letter ≢ 60
@@ -20,7 +20,7 @@ pub record IsHarmlessLetter (letter : ℕ) (behind : List ℕ) : Type 0 where
   pub no_control : is_forbidden letter ≡ false
   pub entity : letter ≡ 38 → BeginsEntity behind
 
--- all letters of the text are so, each before what stands behind it
+-- all letters of the text are so, each before what comes after it
 abbrev pub IsHarmless : List ℕ → Type 0
 IsHarmless letters = (before behind : List ℕ) (letter : ℕ) → letters ≡ before ++ letter ∷ behind
     → IsHarmlessLetter letter behind

@@ -21,14 +21,14 @@ abbrev pub title_line : Around → Verdict → List ℕ → List ℕ
 title_line Around.Nothing verdict title = title_start verdict ++ title ++ codes "</text>\n"
 title_line Around.Page verdict title = []
 
--- the head behind its first word, of a picture that is so wide and so high
+-- the head after its first word, of a picture that is so wide and so high
 abbrev pub head_text : ℕ → ℕ → List ℕ
 head_text width height =
     attribute_text (codes "width") width ++ attribute_text (codes "height") height
     ++ (codes " viewBox=\"0 0 " ++ decimal width ++ codes " " ++ decimal height)
     ++ codes "\" font-family=\"DejaVu Sans, sans-serif\">\n" ++ MARKERS.now
 
--- the text begins with the head of a picture and this title, with nothing before them or between them
+-- the text starts with the head of a picture and this title, with nothing before them or between them
 abbrev pub HasHead : List ℕ → Around → Verdict → List ℕ → Type 0
 HasHead text around verdict title =
     (width : ℕ) × (height : ℕ) × Begins text (codes "<svg xmlns=\"http://www.w3.org/2000/svg\""

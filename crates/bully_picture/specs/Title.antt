@@ -8,7 +8,7 @@ use Rattle.bully_trace.specs.VerdictText.{verdict_head}
 abbrev pub Has : List ℕ → List ℕ → Type 0
 Has text part = (before : List ℕ) × (behind : List ℕ) × (text ≡ before ++ part ++ behind)
 
--- it begins with this one
+-- it starts with this one
 abbrev pub Begins : List ℕ → List ℕ → Type 0
 Begins text part = (behind : List ℕ) × (text ≡ part ++ behind)
 
@@ -16,12 +16,12 @@ Begins text part = (behind : List ℕ) × (text ≡ part ++ behind)
 abbrev pub Ends : List ℕ → List ℕ → Type 0
 Ends text part = (before : List ℕ) × (text ≡ before ++ part)
 
--- the text is one SVG element, with no text before or behind it
+-- the text is one SVG element, with no text before or after it
 abbrev pub IsDocument : List ℕ → Type 0
 IsDocument text =
     (inside : List ℕ) × (text ≡ codes "<svg xmlns=\"http://www.w3.org/2000/svg\"" ++ inside ++ codes "</svg>\n")
 
--- which rows are shown: so many behind this one
+-- which rows are shown: so many after this one
 abbrev pub shown_text : ℕ → ℕ → List ℕ
 shown_text before count = if count == 0 then codes "no rows" else
     codes "rows " ++ decimal (before + 1) ++ codes " to " ++ decimal (before + count)

@@ -1,5 +1,5 @@
 -- What stands in a picture for a terminal: a line of each row that changes what a node is, with how all nodes stand
--- behind it.
+-- after it.
 use Rattle.std.specs.Prelude.{ℕ, zero, suc, ◌+◌, ◌-◌, ◌/◌, ◌%◌, ◌==◌, ◌||◌, Bool, true, false, List, [], ◌∷◌, ◌++◌}
 use Rattle.std.specs.Prelude.{codes, length, max, nat_le, nat_lt, not, replicate, if◌then◌else◌}
 use Rattle.std.specs.Fmt.{decimal}
@@ -23,12 +23,12 @@ use Rattle.bully_picture.specs.Title.{shown_text}
 use Rattle.bully_picture.specs.Words.{followed_text, is_same_stand, meaning_text}
 use Rattle.bully_picture.specs.Written.{right_text}
 
--- a row, and how the nodes stand behind it, from node 1 on
+-- a row, and how the nodes stand after it, from node 1 on
 pub record Told : Type 0 where
   pub scene : Scene
   pub nodes : List NodeSnapshot
 
--- rows behind these first rows of a trace
+-- rows after these first rows of a trace
 abbrev pub told_from : Setup → List Row → List Row → List Told
 told_from setup before [] = []
 told_from setup before (row ∷ rows) =
@@ -68,7 +68,7 @@ column_letter Status.Election = codes "E"
 column_letter Status.Reorganization = codes "R"
 column_letter Status.Normal = codes "N"
 
--- a text with spaces behind it, one at least, so that it takes a column that is so wide
+-- a text with spaces after it, one at least, so that it takes a column that is so wide
 abbrev pub filled : ℕ → List ℕ → List ℕ
 filled width text = text ++ replicate (max 1 (width - length text)) 32
 
@@ -84,13 +84,13 @@ cell_text Form.Changes node = []
 abbrev pub cells_text : Form → List NodeSnapshot → List ℕ
 cells_text form nodes = flat_map (cell_text form) nodes
 
--- how a node stands behind a row, if the group has it
+-- how a node stands after a row, if the group has it
 abbrev pub change_words : ℕ → Change → List ℕ
 change_words nodes change =
     if nat_le change.node nodes then (codes "  " ++ decimal change.node ++ codes ": ")
     ++ followed_text (column_word change.after.status) (codes " ") change.after.coordinator else []
 
--- what stands behind the columns, where these have no room for it
+-- what comes after the columns, where these have no room for it
 abbrev pub tells_change : Form → Bool
 tells_change Form.Words = false
 tells_change Form.Short = false
@@ -102,7 +102,7 @@ change_text form nodes change = if tells_change form then filled CHANGE (change_
 
 -- ---- the lines
 
--- the line of a row, behind the line feed of the one before it: its number, each node in its column, what the row says,
+-- the line of a row, after the line feed of the one before it: its number, each node in its column, what the row says,
 -- and what it does
 abbrev pub told_line : ℕ → Bool → Told → List ℕ
 told_line nodes is_decided told =
@@ -115,7 +115,7 @@ abbrev pub quiet_text : ℕ → List ℕ
 quiet_text rows = if rows == 1 then codes "\n    ... 1 row" else
     (if nat_lt 1 rows then codes "\n    ... " ++ decimal rows ++ codes " rows" else [])
 
--- the lines of rows, behind so many that have none: of those that are told, and how many lie between
+-- the lines of rows, after so many that have none: of those that are told, and how many lie between
 abbrev pub told_text : Verdict → ℕ → ℕ → List Told → List ℕ
 told_text verdict nodes quiet [] = quiet_text quiet
 told_text verdict nodes quiet (told ∷ rows) =
@@ -132,7 +132,7 @@ front_text Form.Short = codes "- down, E election, R reorganization, N normal\n 
 front_text Form.Letters = codes "- down, E election, R reorganization, N normal\n    row  "
 front_text Form.Changes = codes "    row  "
 
--- behind them: the head of what the row changes, if that stands behind them, and of what it says
+-- after them: the head of what the row changes, if that comes after them, and of what it says
 abbrev pub back_text : Form → List ℕ
 back_text Form.Words = codes "what it says"
 back_text Form.Short = codes "what it says"
@@ -156,7 +156,7 @@ heads_text nodes = front_text (form_of nodes) ++ names_text (form_of nodes) node
 
 -- ---- the picture
 
--- the line that says which rows are shown: so many behind this one
+-- the line that says which rows are shown: so many after this one
 abbrev pub shown_line : ℕ → ℕ → List ℕ
 shown_line before count = shown_text before count ++ codes "\n"
 
@@ -166,9 +166,9 @@ columns_text verdict nodes before count rows =
     verdict_head verdict ++ shown_line before count
     ++ (heads_text nodes ++ told_text verdict nodes 0 rows ++ codes "\n")
 
--- ---- how the nodes stand behind each row, out of what the rows show
+-- ---- how the nodes stand after each row, out of what the rows show
 
--- the nodes behind a row, before which they stand so
+-- the nodes after a row, before which they stand so
 abbrev pub stood : List NodeSnapshot → Scene → List NodeSnapshot
 stood nodes s = put_node (put_node nodes s.other.node s.other.after) s.own.node s.own.after
 

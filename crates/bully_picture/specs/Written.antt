@@ -12,7 +12,7 @@ pub record Written : Type 0 where
 abbrev pub blank : Written
 blank = record { text = []; has_failed = false }
 
--- this was written behind what stood there, unless memory is wanting
+-- this was written after what stood there, unless memory is wanting
 pub record Writes (old new : Written) (part : List ℕ) : Type 0 where
   pub memory : new.has_failed ≡ false → old.has_failed ≡ false
   pub text : new.has_failed ≡ false → new.text ≡ old.text ++ part

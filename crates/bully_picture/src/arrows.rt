@@ -36,7 +36,7 @@ struct Line {
 }
 
 impl Line {
-    // Where words stand at x: on the line, or above one that only begins in the last row.
+    // Where words stand at x: on the line, or above one that only starts in the last row.
     fn words_at(&self, x: u32) -> u32 {
         if self.y2.saturating_sub(self.y1) < ROW {
             return self.y1.saturating_sub(4);
@@ -57,8 +57,8 @@ impl Line {
 }
 
 /// Draws the calls of a node: each stretch in which one was sent as an arrow, and each in which it ran as the way back
-/// of its reply. The arrows go onto a paper of their own. Whether the slot held an orphan behind a row is told by its
-/// place behind the first one.
+/// of its reply. The arrows go onto a paper of their own. Whether the slot held an orphan after a row is told by its
+/// place after the first one.
 pub fn draw_calls(
     canvas: &mut Canvas,
     arrows: &mut Paper,
@@ -77,7 +77,7 @@ pub fn draw_calls(
     }
 }
 
-// Whether the slot held an orphan behind this row.
+// Whether the slot held an orphan after this row.
 fn is_orphan(canvas: &Canvas, orphans: &[bool], row: u32) -> bool {
     let place = row.saturating_sub(canvas.layout.first) as usize;
     match orphans.get(place) {
@@ -179,7 +179,7 @@ fn push_arrow(
     push_title(arrows, node, call, holding);
 }
 
-// Writes what call it is between two lanes: with all words, with its kind alone, in small letters where it has to be,
+// Writes what call it is between two lanes: with all words, with its kind alone, in small letters where it must be,
 // or by a letter, where no words have room; nowhere where nothing is free.
 fn label_call(canvas: &mut Canvas, line: &Line, call: CallKind, look: Look) {
     let kind = kind_text(call);
@@ -216,7 +216,7 @@ fn put_letter(canvas: &mut Canvas, line: &Line, style: Style, letter: &'static s
     }
 }
 
-// How a call looks: the style of its line, the colour of its words, and what these say behind its kind.
+// How a call looks: the style of its line, the colour of its words, and what these say after its kind.
 #[derive(Clone, Copy)]
 struct Look {
     style: &'static str,

@@ -179,7 +179,7 @@ pub fn push_line(paper: &mut Paper, x1: u32, y1: u32, x2: u32, y2: u32)
     paper.push_attribute("y2", y2);
 }
 
-/// Writes a rectangle, and behind where it lies the rest of it.
+/// Writes a rectangle: where it lies, and then the rest of it.
 pub fn push_area(paper: &mut Paper, area: Area, rest: &'static str)
     ensures { Extends paper.old paper.new }
 {

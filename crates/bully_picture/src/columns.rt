@@ -27,7 +27,7 @@ use bully_film::{Change, FinishedFilm, NodeSnapshot, Scene, lane_of, row_before}
 use std::alloc::{AllocError, Global};
 
 /// How the columns of the nodes look: a word of the status with the coordinator, where there are few; a letter with the
-/// coordinator; a letter alone, with what the row changes behind all of them; or that alone, where they are too many
+/// coordinator; a letter alone, with what the row changes after all of them; or that alone, where they are too many
 /// for a line.
 #[derive(Clone, Copy)]
 pub enum Form {
@@ -62,7 +62,7 @@ impl Form {
         }
     }
 
-    // Whether what the row changes stands behind the columns.
+    // Whether what the row changes comes after the columns.
     fn tells_change(self) -> bool
         ensures { result ≡ tells_change self }
     {
@@ -82,7 +82,7 @@ impl Form {
         }
     }
 
-    // What stands behind the heads of the columns: the head of what the row changes, where that stands behind them, and
+    // What comes after the heads of the columns: the head of what the row changes, where that comes after them, and
     // of its text.
     fn back(self) -> &'static str
         ensures { result.now ≡ back_text self }
@@ -107,7 +107,7 @@ pub fn text_picture(
 ) -> Result<String, OutOfMemory>
     ensures verdict { IfOk result (λ text. Begins (string_bytes text) (verdict_head finished.now.verdict)) }
 
-    // Each node stands in the line of a row as it does in the world behind it.
+    // Each node stands in the line of a row as it does in the world after it.
     ensures whole { (window : WindowState) (trace : Trace) (is : IsFilmOf window finished.now trace)
         → IfOk result (λ text. string_bytes text ≡ columns_text finished.now.verdict finished.now.setup.nodes
         (row_before finished.now.scenes.items) (length finished.now.scenes.items)
@@ -197,7 +197,7 @@ fn push_start(
     }
 }
 
-// Writes the heads of the columns and the lines of the rows, before which the nodes stand so. Each line begins with the
+// Writes the heads of the columns and the lines of the rows, before which the nodes stand so. Each line starts with the
 // line feed of the one before it.
 fn push_rows(lines: &mut Paper, finished: &FinishedFilm, now: &mut [NodeSnapshot])
     ensures { Writes lines.old lines.new
@@ -237,7 +237,7 @@ fn speaks(finished: &FinishedFilm, scene: &Scene) -> bool
         || !is_same_stand(&scene.other.before, &scene.other.after)
 }
 
-// The node stands as it does behind the change, if it is one of these.
+// The node stands as it does after the change, if it is one of these.
 fn put(now: &mut [NodeSnapshot], change: &Change)
     ensures { now.new ≡ put_node now.old change.now.node change.now.after }
 {
@@ -309,7 +309,7 @@ fn push_quiet(lines: &mut Paper, quiet: usize)
     }
 }
 
-// Writes the line of a row, behind which the nodes stand so.
+// Writes the line of a row, after which the nodes stand so.
 fn push_line(lines: &mut Paper, finished: &FinishedFilm, scene: &Scene, now: &[NodeSnapshot])
     ensures { Writes lines.old lines.new
         (told_line finished.now.setup.nodes (decides finished.now.verdict scene.now.number)
@@ -347,7 +347,7 @@ fn push_cell(lines: &mut Paper, snapshot: &NodeSnapshot, form: Form)
     }
 }
 
-// Writes how a node stands in a column: this word of its status, and behind this its coordinator.
+// Writes how a node stands in a column: this word of its status, and after this its coordinator.
 fn push_stand(
     lines: &mut Paper,
     word: &'static str,
@@ -362,7 +362,7 @@ fn push_stand(
     fill(lines, start, column);
 }
 
-// Writes what stands behind the columns: how the node stands now whose vector the row may change, where they have no
+// Writes what comes after the columns: how the node stands now whose vector the row may change, where they have no
 // room for it.
 fn push_change(lines: &mut Paper, form: Form, nodes: u16, change: &Change)
     ensures { Writes lines.old lines.new (change_text form nodes change.now) }
@@ -374,7 +374,7 @@ fn push_change(lines: &mut Paper, form: Form, nodes: u16, change: &Change)
     }
 }
 
-// Writes how a node stands behind a row, if the group has it.
+// Writes how a node stands after a row, if the group has it.
 fn push_after(lines: &mut Paper, nodes: u16, change: &Change)
     ensures { Writes lines.old lines.new (change_words nodes change.now) }
 {
@@ -409,7 +409,7 @@ fn letter(status: Status) -> &'static str
     }
 }
 
-// Fills up a column that began at this length of the text, by one space at least.
+// Fills up a column that started at this length of the text, by one space at least.
 fn fill(lines: &mut Paper, start: usize, width: usize)
     ensures { Writes lines.old lines.new (replicate (max 1 (width - (length lines.old.text - start))) 32) }
 {

@@ -7,7 +7,7 @@ ghost use Rattle.bully_picture.specs.Harmless.{IsHarmless};
 use bully_base::OutOfMemory;
 
 /// Appends the text as XML takes it within an element or an attribute: `<`, `>`, `&` and both quotes by their names,
-/// and a mark in place of what XML forbids. So nothing of it begins or ends a tag or an attribute.
+/// and a mark in place of what XML forbids. So nothing of it starts or ends a tag or an attribute.
 pub fn push_escaped(text: &mut String, raw: &str) -> Result<(), OutOfMemory>
     ensures escaped { OnOk result (string_bytes text.new ≡ string_bytes text.old ++ escaped (chars raw.now)) }
     ensures harmless { IsHarmless (chars (escaped (chars raw.now))) }
@@ -18,7 +18,7 @@ pub fn push_escaped(text: &mut String, raw: &str) -> Result<(), OutOfMemory>
     Ok(())
 }
 
-/// The same of the first letters, so many, with three dots behind them where there are more.
+/// The same of the first letters, so many, with three dots after them where there are more.
 pub fn push_start(text: &mut String, raw: &str, most: usize) -> Result<(), OutOfMemory>
     ensures escaped { OnOk result (string_bytes text.new ≡ string_bytes text.old
         ++ escaped (shortened most (chars raw.now))) }

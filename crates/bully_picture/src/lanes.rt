@@ -78,7 +78,7 @@ fn bar_end(status: Status) -> &'static str {
     }
 }
 
-// What is shown where the pointer rests on a bar: how the node stands, and behind which rows, where any are shown.
+// What is shown where the pointer rests on a bar: how the node stands, and after which rows, where any are shown.
 fn push_title(paper: &mut Paper, node: Node, bar: &Bar, shows_rows: bool)
     ensures { Writes paper.old paper.new
         ((codes "<title>node " ++ decimal node ++ codes ": ") ++ stand_text bar.now.seen
@@ -90,7 +90,7 @@ fn push_title(paper: &mut Paper, node: Node, bar: &Bar, shows_rows: bool)
     paper.push("</title>");
 }
 
-// Writes behind which rows the node stands so, where any are shown.
+// Writes after which rows the node stands so, where any are shown.
 fn push_behind_rows(paper: &mut Paper, bar: &Bar, shows_rows: bool)
     ensures { Writes paper.old paper.new (behind_rows shows_rows bar.now.first bar.now.last) }
 {
@@ -100,7 +100,7 @@ fn push_behind_rows(paper: &mut Paper, bar: &Bar, shows_rows: bool)
     }
 }
 
-/// Says beside a bar how the node stands behind this row, where the lane has room for it.
+/// Says beside a bar how the node stands after this row, where the lane has room for it.
 pub fn draw_stand(canvas: &mut Canvas, node: Node, row: u32, stand: Stand) {
     let mut paper = Paper::new(canvas.alloc);
     push_label(&mut paper, stand, canvas.layout.lane);
@@ -137,7 +137,7 @@ pub fn draw_names(alloc: Global, layout: &Layout, setup: &Setup, names: &[&str])
     paper
 }
 
-/// The name at this place; none behind the last.
+/// The name at this place; none after the last.
 pub fn name_at<'a>(names: &[&'a str], place: u16) -> Option<&'a str>
     ensures { option_map (λ s. s.now) result ≡ option_map (λ s. s.now) (slice_get names.now place) }
 {
@@ -196,7 +196,7 @@ fn number_width(node: Node) -> u32 {
     }
 }
 
-// How many letters of a name have room so wide, beside the dots behind them; one at least.
+// How many letters of a name have room so wide, beside the dots after them; one at least.
 fn letters_in(name: &str, width: u32) -> usize {
     // (15 pixels, since they are of size 13 and bold)
     letters_within(name, 15, width.saturating_sub(24)).max(1)

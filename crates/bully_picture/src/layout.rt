@@ -5,7 +5,7 @@ use bully_base::{Node, OutOfMemory};
 use bully_film::{FinishedFilm, row_before};
 use std::alloc::Global;
 
-/// Where the lanes begin.
+/// Where the lanes start.
 pub const LEFT: u32 = 124;
 
 /// How wide half a bar is.
@@ -40,9 +40,9 @@ pub struct Layout {
     pub lane: u32,
     /// The number of the row before the first one that is shown.
     pub first: u32,
-    /// How many rows there are behind that one.
+    /// How many rows there are after that one.
     pub rows: u32,
-    // How many lines there are up to that row, and up to each behind it.
+    // How many lines there are up to that row, and up to each after it.
     lines: Vec<u32>,
 }
 
@@ -84,7 +84,7 @@ impl Layout {
         }
     }
 
-    /// Where what lasts up to this row ends: where the row behind it lies, and a little below the last row of all.
+    /// Where what lasts up to this row ends: where the row after it lies, and a little below the last row of all.
     pub fn end(&self, row: u32) -> u32 {
         if row >= self.last() {
             return self.bottom().saturating_add(8);
@@ -97,7 +97,7 @@ impl Layout {
         self.first.saturating_add(self.rows)
     }
 
-    /// Where what stands between a lane and the next one may begin and end. Lanes are counted from 0.
+    /// Where what stands between a lane and the next one may start and end. Lanes are counted from 0.
     pub fn gap(&self, lane: u32) -> (u32, u32) {
         let middle = LEFT
             .saturating_add(self.lane.saturating_mul(lane))
@@ -125,7 +125,7 @@ impl Layout {
             .saturating_sub(ASIDE + ASIDE)
     }
 
-    /// Where the texts of the rows begin.
+    /// Where the texts of the rows start.
     pub fn texts(&self) -> u32 {
         self.right().saturating_add(80)
     }

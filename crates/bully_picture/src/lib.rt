@@ -1,10 +1,10 @@
 //! Pictures of traces: a lane for each node, and what each row of a window does there, as SVG or as text for a
 //! terminal.
 //!
-//! It stands on bully_film, which keeps what the rows of the window show, and on the crates below it. The sentence
-//! below a row that decided is the caller's. The program relies on the verdict in the title being the one of the film,
-//! which is the trace's, and on what was filmed being drawn: the number of each row that is shown, what it says and
-//! does, each node's name, how it stands behind each row, and each call. A picture for a terminal is exactly its lines.
+//! It builds on bully_film, which keeps what the rows of the window show, and on the crates below it. The sentence
+//! below a row that decided is the caller's. The program relies on two things. The verdict in the title is that of the
+//! film, which is the trace's. And what was filmed is drawn: the number of each row that is shown, what it says and
+//! does, each node's name, its state after each row, and each call. A picture for a terminal is exactly its lines.
 //! Names go in escaped. How a picture looks is looked at.
 #![tactic(auto)]
 

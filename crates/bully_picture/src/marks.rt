@@ -19,7 +19,7 @@ use bully_table::Table;
 // What is said of a table that is too long to be shown.
 const LONG_TABLE: &str = "gets a table";
 
-// How large the numbers and the texts of rows are, and how wide a text and what stands behind it.
+// How large the numbers and the texts of rows are, and how wide a text and what stands after it.
 const TEXT_SIZE: u32 = 10;
 
 const TEXTS: u32 = 408;
@@ -117,7 +117,7 @@ fn push_text_place(texts: &mut Paper, layout: &Layout, number: u32)
 }
 
 // Takes the box of the text of a row, and tells how many letters of what it says have room in it before its tail, and a
-// table behind that.
+// table after that.
 fn keep_text_free(
     canvas: &mut Canvas,
     scene: &Scene,
@@ -146,7 +146,7 @@ fn keep_text_free(
     letters
 }
 
-// How many letters of a text have so much room: all, or those with dots behind them.
+// How many letters of a text have so much room: all, or those with dots after them.
 fn letters_in(said: &str, room: u32) -> usize {
     if width_of(said, TEXT_SIZE) <= room {
         return said.len();
@@ -154,7 +154,7 @@ fn letters_in(said: &str, room: u32) -> usize {
     letters_within(said, TEXT_SIZE, room.saturating_sub(12))
 }
 
-// How wide the table is that stands behind the text of a row; nothing where none does.
+// How wide the table is that stands after the text of a row; nothing where none does.
 fn table_behind(layout: &Layout, scene: &Scene) -> u32 {
     if !scene.gets_table || scene.table.is_none() || has_room(layout, scene) {
         return 0;
@@ -207,7 +207,7 @@ fn plain_style(anchor: Anchor, colour: &'static str) -> Style {
     }
 }
 
-// Writes what a row does behind its text; and of a table that has no room at its lane, who gets it.
+// Writes what a row does after its text; and of a table that has no room at its lane, who gets it.
 fn push_tail(paper: &mut Paper, scene: &Scene, decides: bool, has_room: bool)
     ensures { Writes paper.old paper.new (tail_text has_room decides scene.now) }
 {
@@ -218,7 +218,7 @@ fn push_tail(paper: &mut Paper, scene: &Scene, decides: bool, has_room: bool)
     }
 }
 
-// Writes who gets a table, which stands behind the text where it is shown.
+// Writes who gets a table, which comes after the text where it is shown.
 fn push_getting(paper: &mut Paper, scene: &Scene)
     ensures { Writes paper.old paper.new (getting_text scene.now) }
 {
@@ -237,7 +237,7 @@ fn is_plan(event_kind: Option<EventKind>) -> bool
     matches!(event_kind, Some(EventKind::Plan))
 }
 
-// What is said of a node that gets a table, which is shown behind that or isn't.
+// What is said of a node that gets a table, which is shown after that or isn't.
 fn getting_words(shows_table: bool) -> &'static str
     ensures { result.now ≡ (if shows_table then codes "gets" else codes "gets a table") }
 {
@@ -271,7 +271,7 @@ fn owner_size(layout: &Layout) -> u32 {
     if layout.nodes > 999 { 8 } else { 10 }
 }
 
-// Says how a node stands behind the row, where that changes it: before the words of calls, which have more places to
+// Says how a node stands after the row, where that changes it: before the words of calls, which have more places to
 // stand at.
 fn draw_change(canvas: &mut Canvas, scene: &Scene) {
     let before = Stand::seen_in(&scene.other.before);
@@ -351,7 +351,7 @@ fn draw_word(canvas: &mut Canvas, x: u32, y: u32, colour: &'static str, word: &s
 }
 
 // The table that a node gets by the row: its owners in small boxes, or that it gets one. Where that has no room at the
-// lane, it stands behind the text of the row, which ends there.
+// lane, it comes after the text of the row, which ends there.
 fn draw_table(canvas: &mut Canvas, scene: &Scene, y: u32) {
     if !scene.gets_table {
         return;

@@ -29,7 +29,7 @@ use std::alloc::Global;
 // How wide the texts of the rows are.
 const TEXTS: u32 = 420;
 
-// How far below the last row the text below begins: below what belongs to that row.
+// How far below the last row the text below starts: below what belongs to that row.
 const BELOW: u32 = 40;
 
 // What stands at the head of each picture.
@@ -41,7 +41,7 @@ const MARKERS: &str = "\
 </defs>\n\
 <rect width=\"100%\" height=\"100%\" fill=\"white\"/>\n";
 
-// What stands behind the title: what the colours and signs mean.
+// What comes after the title: what the colours and signs mean.
 const LEGEND: &str = "\
 <line x1=\"70\" y1=\"36\" x2=\"70\" y2=\"52\" stroke=\"#aaa\" stroke-width=\"2\" stroke-dasharray=\"2 4\"/>\
 <text x=\"81\" y=\"48\" font-size=\"11\">down</text>\
@@ -56,7 +56,7 @@ const LETTERS: &str = "\
 
 /// The picture of what a film shows, with these names over the lanes, from node 1 on, and below it this text, a line
 /// each. It is an SVG document. Each row has its number and what it says, but for claims that are left out; each node
-/// its name, or its number where it has none; and each call that a slot holds behind a row, sent or run, its arrow. In
+/// its name, or its number where it has none; and each call that a slot holds after a row, sent or run, its arrow. In
 /// a page it has no title. Refused where an allocation fails.
 pub fn svg_picture(
     alloc: Global,
@@ -77,7 +77,7 @@ pub fn svg_picture(
     ensures nodes { IfOk result (λ text.
         HasNodes (string_bytes text) finished.now.setup.nodes (λ i. option_map (λ s. s.now) (slice_get names.now i))) }
 
-    // Of each node it has a bar of how it stands behind each row, and an arrow for each call in its slot.
+    // Of each node it has a bar of how it stands after each row, and an arrow for each call in its slot.
     ensures bars { (window : WindowState) (trace : Trace) (is : IsFilmOf window finished.now trace)
         → IfOk result (λ text.
         HasStands (string_bytes text) (shows_rows finished.now.scenes.items) finished.now.setup.nodes
@@ -309,7 +309,7 @@ fn height_of(layout: &Layout, below: &str) -> u32 {
         .saturating_add(BELOW)
 }
 
-// Writes the head of the document behind its first word.
+// Writes the head of the document after its first word.
 fn push_head(picture: &mut Paper, layout: &Layout, below: &str)
     ensures { (width : ℕ) × (height : ℕ) × Writes picture.old picture.new (head_text width height) }
 {
@@ -384,7 +384,7 @@ fn push_size(picture: &mut Paper, setup: &Setup)
     picture.push(", ");
 }
 
-// Writes how many there are behind these words, and the word for what is counted.
+// Writes how many there are after these words, and the word for what is counted.
 fn push_counted(picture: &mut Paper, before: &'static str, count: u16, word: &'static str)
     ensures { Writes picture.old picture.new (before.now ++ counted_text count word.now) }
 {
@@ -393,14 +393,14 @@ fn push_counted(picture: &mut Paper, before: &'static str, count: u16, word: &'s
     picture.push(plural(count));
 }
 
-// What stands behind the word for what is counted.
+// What comes after the word for what is counted.
 fn plural(count: u16) -> &'static str
     ensures { result.now ≡ (if count == 1 then [] else codes "s") }
 {
     if count == 1 { "" } else { "s" }
 }
 
-// Writes which rows are shown: so many behind this one.
+// Writes which rows are shown: so many after this one.
 pub fn push_shown(picture: &mut Paper, before: u32, count: usize)
     ensures { Writes picture.old picture.new (shown_text before count) }
 {

@@ -127,7 +127,7 @@ impl Paper {
         self.note(written);
     }
 
-    /// The same of their first letters, so many, with three dots behind them where there are more.
+    /// The same of their first letters, so many, with three dots after them where there are more.
     pub fn push_start(&mut self, words: &str, most: usize)
         ensures { Writes self.old self.new (escaped (shortened most (chars words.now))) }
     {
@@ -192,7 +192,7 @@ impl Paper {
         self.note(written);
     }
 
-    /// Writes a point behind these words, as `12 34`.
+    /// Writes a point after these words, as `12 34`.
     pub fn push_point(&mut self, before: &'static str, x: u32, y: u32)
         ensures { Writes self.old self.new (before.now ++ decimal x ++ codes " " ++ decimal y) }
     {
@@ -231,7 +231,7 @@ impl Paper {
         push_cut(text, self.text.as_str(), letters)
     }
 
-    // Notes how a write went: behind what stood before it, this part.
+    // Notes how a write went: after what stood before it, this part.
     fn note(&mut self, written: Result<(), OutOfMemory>)
         ensures went { self.new.has_failed ≡ false → is_err written ≡ false }
         ensures writes { (before : Written) (part : List ℕ) → before.has_failed ≡ self.old.has_failed

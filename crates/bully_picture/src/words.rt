@@ -38,7 +38,7 @@ pub fn push_stand(paper: &mut Paper, stand: Stand)
     );
 }
 
-/// Writes a word of how a node stands, and behind these words whom the node follows; the word alone, where that is
+/// Writes a word of how a node stands, and after these words whom the node follows; the word alone, where that is
 /// nobody.
 pub fn push_followed(
     paper: &mut Paper,
@@ -52,7 +52,7 @@ pub fn push_followed(
     push_behind(paper, between, coordinator);
 }
 
-// Writes behind these words the node that is followed.
+// Writes after these words the node that is followed.
 fn push_behind(paper: &mut Paper, between: &'static str, coordinator: Option<Node>)
     ensures { Writes paper.old paper.new (behind_words between.now coordinator) }
 {
@@ -87,7 +87,7 @@ pub fn push_row_text(paper: &mut Paper, scene: &Scene)
     paper.push_node(",", scene.own.node, "");
 }
 
-// The word with which a row begins.
+// The word with which a row starts.
 fn word_of(event_kind: Option<EventKind>) -> &'static str
     ensures { result.now ≡ row_word event_kind }
 {
@@ -107,7 +107,7 @@ pub fn push_said(paper: &mut Paper, scene: &Scene)
     }
 }
 
-/// Writes what the row does behind its text, where that alone doesn't say it; nothing of the row that decided, which
+/// Writes what the row does after its text, where that alone doesn't say it; nothing of the row that decided, which
 /// did nothing.
 pub fn push_meaning(paper: &mut Paper, scene: &Scene, decides: bool)
     ensures { Writes paper.old paper.new (meaning_text decides scene.now) }
@@ -121,7 +121,7 @@ pub fn push_meaning(paper: &mut Paper, scene: &Scene, decides: bool)
     );
 }
 
-// Writes these words behind a colon.
+// Writes these words after a colon.
 fn push_words(paper: &mut Paper, words: Option<&'static str>)
     ensures { Writes paper.old paper.new (behind_colon (option_map (λ s. s.now) words.entry)) }
 {
@@ -131,7 +131,7 @@ fn push_words(paper: &mut Paper, words: Option<&'static str>)
     }
 }
 
-// What an event of this kind does, whose node stood so before it and stands so behind it; none where its row alone says
+// What an event of this kind does, whose node stood so before it and stands so after it; none where its row alone says
 // it.
 fn meaning(
     event_kind: Option<EventKind>,

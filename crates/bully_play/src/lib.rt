@@ -1,10 +1,10 @@
 //! A group that is played on one thread: `play` takes the turns of the operator and of each node, one after the other,
-//! and writes the trace. What a turn is stands here once, over any [`Backend`]: here that is a world whose events are
-//! recorded.
+//! and writes the trace. What a turn is is defined here once, over any [`Backend`]: here that is a world whose events
+//! are recorded.
 //!
-//! It stands on bully_steps, bully_world, bully_rows and bully_config, and needs no lock and no group. The program and
-//! bully_nodes rely on what is played being the text of a lawful trace, whose crashes and recoveries are faults of the
-//! configuration, and on what a turn does on their backend.
+//! It builds on bully_steps, bully_world, bully_rows and bully_config, and needs no lock and no group. The program and
+//! bully_nodes rely on two things: what is played is the text of a lawful trace, whose crashes and recoveries are
+//! faults of the configuration; and a turn does on their backend what its contract says.
 #![tactic(auto)]
 
 ghost use Rattle.bully_play.specs.Play.{LawfulTold};

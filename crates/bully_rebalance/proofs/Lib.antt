@@ -12,3 +12,6 @@ pub mod Crashing
 pub mod Gathering
 pub mod Rebalanced
 pub mod RebalancedLemmas
+pub mod LeaveLemmas
+pub mod ActLemmas
+pub mod SameLemmas

@@ -132,7 +132,7 @@ falling_same b c (x ∷ xs) (y ∷ ys) f g to back = joined_at same (falling_sam
     joined_at e q = ap (λ k. k ∷ xs) e ∙ ap (λ ks. y ∷ ks) q
 
 -- a node and those that are up below it may be planned over
-plannable_over : (setup : Setup) (h : ℕ) (up : List ℕ) (old : Option (List ℕ)) → IsSetup setup → IsNode setup h → IsFallingBelow h up → IfSome old (λ t. length t ≡ setup.partitions)
+pub plannable_over : (setup : Setup) (h : ℕ) (up : List ℕ) (old : Option (List ℕ)) → IsSetup setup → IsNode setup h → IsFallingBelow h up → IfSome old (λ t. length t ≡ setup.partitions)
     → Plannable setup (NODES_MAX + 1) (owners_before old) (with_node h up)
 plannable_over setup h up old is node falls sized =
     let limit = is.nodes.1 in
@@ -300,6 +300,7 @@ module _ (setup : Setup) (h : ℕ) (low : List ℕ) (w : World) (old : Option (L
       };
       behind = let size = length-append log before in omega (arith, size);
       owners = subst (λ t. OwnersAreLive t live) same_table owners;
+      table = refl;
       fewest = fewest;
     });
   }

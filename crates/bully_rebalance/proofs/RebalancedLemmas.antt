@@ -13,7 +13,8 @@ use Rattle.bully_rebalance.proofs.SizeLemmas.{rebalancing_size}
 use Rattle.bully_rebalance.specs.Stable.{AllStable, IsStable, IsServed}
 use Rattle.bully_rebalance.specs.Rebalancing.{Rebalances, preparing, rebalancing, rebalancing_of, table_before}
 use Rattle.bully_table.proofs.BalanceSteps.{falling-nodes}
-use Rattle.bully_work.specs.Store.{MayAppend, Store}
+use Rattle.bully_work.proofs.AskedLemmas.{may_name_nobody}
+use Rattle.bully_work.specs.Store.{MayAppend, Store, current, nobody, none_silent}
 use Rattle.bully_world.proofs.LawfulLemmas.{lead_split}
 use Rattle.bully_world.proofs.StepOfLemmas.{lawful_is_one}
 use Rattle.bully_world.specs.Lawful.{LeadTo}
@@ -54,8 +55,8 @@ stable_lem r log more old live offset s is behind = record {
         let later = new.behind in
         subst (λ last. IsServed last live offset) (sym last) (omega (arith, behind, later), new.owners)
 
-pub append_lem : (setup : Setup) (s : Store) (old : Option (List ℕ)) (live : List ℕ) (more : List Event) → Rebalances setup s.log old live more → MayAppend setup s more
-append_lem setup s old live more is = (is.world, (is.answers, is.lawful))
+pub append_lem : (s : Store) (old : Option (List ℕ)) (live : List ℕ) (more : List Event) → Rebalances (current s).setup (current s).log old live more → MayAppend s s.epoch (length (current s).log) none_silent nobody more
+append_lem s old live more is = may_name_nobody s s.epoch (length (current s).log) more (is.world, (is.answers, is.lawful))
 
 -- what rebalances a replica's group
 pub rebalanced_lem : (r : ReplicaState) (old : Option (List ℕ)) (live : List ℕ) (events : List Event) → All (λ m. m ≤ r.world.setup.nodes) live → IfSome old (λ t. length t ≡ r.world.setup.partitions) → IsSetup r.world.setup → IsFallingBelow (NODES_MAX + 1) live

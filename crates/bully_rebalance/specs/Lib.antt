@@ -1,3 +1,5 @@
+pub mod Acting
+pub mod Leaving
 pub mod Owning
 pub mod Stable
 pub mod Rebalancing

@@ -1,6 +1,6 @@
 -- The events that make a group stable.
-use Rattle.std.specs.Prelude.{◌≢◌, ◌<◌, ◌≤◌, ◌++◌, ◌-◌, ◌*◌, ◌==◌, ◌&&◌, ◌||◌, not, if◌then◌else◌, ℕ, zero, suc, Bool}
-use Rattle.std.specs.Prelude.{true, false, List, [], ◌∷◌, Option, Some, None, length}
+use Rattle.std.specs.Prelude.{◌≡◌, ◌≢◌, ◌<◌, ◌≤◌, ◌++◌, ◌-◌, ◌*◌, ◌==◌, ◌&&◌, ◌||◌, not, if◌then◌else◌, ℕ, zero, suc}
+use Rattle.std.specs.Prelude.{Bool, true, false, List, [], ◌∷◌, Option, Some, None, length}
 use Rattle.bully_agree.specs.Fencing.{IsLastPlan, Planned}
 use Rattle.bully_base.specs.Setup.{Setup}
 use Rattle.bully_calls.specs.declared.call.Answer.{Answer}
@@ -81,14 +81,15 @@ table_before None old = old
 abbrev pub rebalancing_of : ReplicaState → Option (List ℕ) → List ℕ → List Event
 rebalancing_of r old live = rebalancing r.world.setup (world_of r.world) (table_before r.last old) live
 
--- after this log a plan of these events is the last; its owners are live, and no balanced table has fewer moves from
--- the old one
+-- after this log a plan of these events is the last; its owners are live, and its table is the planned one: no balanced
+-- table has fewer moves from the old one
 pub record PlansAnew (setup : Setup) (log : List Event) (old : Option (List ℕ)) (live : List ℕ)
     (more : List Event) : Type 0 where
   pub plan : Planned
   pub last : IsLastPlan (log ++ more) plan
   pub behind : length log < plan.token
   pub owners : OwnersAreLive plan.table live
+  pub table : plan.table ≡ planned setup old live
   pub fewest : IsFewest setup old plan.table live
 
 -- after this log these events are lawful and few, and lead to a world that is stable among these nodes, by a new plan

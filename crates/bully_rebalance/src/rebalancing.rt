@@ -1,6 +1,7 @@
 ghost use Rattle.std.specs.Prelude.{◌≡◌, ◌≢◌, ◌↔◌, ◌<◌, ◌≤◌, ◌+◌, ◌++◌, ◌*◌, ◌-◌, ◌∷◌, [], not, ℕ, All, IfErr, IfOk};
 ghost use Rattle.std.specs.Prelude.{IfSome, IsTrue, List, OnOk, Option, Some, false, true, if◌then◌else◌, length};
 ghost use Rattle.std.specs.Option.{option_copied};
+ghost use Rattle.bully_agree.specs.Fencing.{IsLastPlan, Planned};
 ghost use Rattle.bully_base.specs.NodeSet.{IsFallingBelow, highest_of};
 ghost use Rattle.bully_base.specs.Setup.{IsSetup};
 ghost use Rattle.bully_base.specs.declared.TheConstants.{NODES_MAX};
@@ -205,7 +206,7 @@ fn push_rebalance(
         ≡ events.old.items ++ rebalancing_by replica.now.world.setup (world_of replica.now.world)
         (table_before replica.now.last (option_copied old.entry)) live.now highest (length live.now - 1)) }
 {
-    let table = planned_table(alloc, replica, live, old)?;
+    let table = coming_table(alloc, replica, live, old)?;
     push_election(replica.world(), live, highest, events)?;
     events.push(Event::Plan(highest, table))?;
     push_calling(highest, others(live), true, events)
@@ -219,8 +220,11 @@ fn others(live: &NodeSet) -> usize
     live.len() - 1
 }
 
-// The table that is planned for the live nodes.
-fn planned_table(
+/// The table of the rebalance that would be appended now: the one by which the group is stable after what [`rebalance`]
+/// gives of the same replica, nodes and old table. It takes the time and the memory of one plan; the log needs no room
+/// for the events. Some node is live; the live nodes are at most the setup's last, and an old table has the setup's
+/// partitions. Refused if an allocation fails. The rule: docs/REBALANCING.md.
+pub fn coming_table(
     alloc: Global,
     replica: &Replica,
     live: &NodeSet,
@@ -229,8 +233,11 @@ fn planned_table(
     requires nodes { All (λ m. m ≤ replica.now.world.setup.nodes) live.now }
     requires old { IfSome (option_copied old) (λ t. length t ≡ replica.now.world.setup.partitions) }
     requires some { live.now ≢ [] }
-    ensures { IfOk result (λ table.
+    ensures table { IfOk result (λ table.
         table ≡ planned replica.now.world.setup (table_before replica.now.last (option_copied old.entry)) live.now) }
+    ensures comes { IfOk result (λ table. (log more : List EventState) (p : Planned)
+        → Rebalances replica.now.world.setup log (table_before replica.now.last (option_copied old.entry)) live.now more
+        → IsLastPlan (log ++ more) p → p.table ≡ table) }
 {
     match plan_in(
         alloc,
@@ -243,7 +250,7 @@ fn planned_table(
     }
 }
 
-// The table that a new plan keeps to.
+// The table from which a new plan has the fewest moves.
 fn table_before<'a>(replica: &'a Replica, old: Option<&'a Table>) -> Option<&'a Table>
     requires { IfSome (option_copied old) (λ t. length t ≡ replica.now.world.setup.partitions) }
     ensures table { option_copied result ≡ table_before replica.now.last (option_copied old.entry) }

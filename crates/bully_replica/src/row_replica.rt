@@ -19,7 +19,7 @@ pub enum LearnFault {
     /// It doesn't have the form of a row (`BadRow`), comes after as many rows as a trace may have (`TooManyRows`), or
     /// couldn't be read (`Read`, `OutOfMemory`).
     Form(TraceCause),
-    /// This is wrong with it at its place in the log.
+    /// This is wrong with the row where it comes in the log.
     Violation(Violation),
 }
 

@@ -1,5 +1,5 @@
 -- The fields of a header, read back.
-use Rattle.std.proofs.Common.{◌≡◌, ◌∙◌, ℕ, ◌≤◌, Bool, true, false, List, [], length, replicate, not, Some, arith, refl, sym, ap, ◌==◌, ◌&&◌, nat_le, option_map}
+use Rattle.std.proofs.Common.{◌≡◌, ◌∙◌, ℕ, ◌≤◌, Bool, true, false, List, length, replicate, not, Some, arith, refl, sym, ap, ◌==◌, ◌&&◌, nat_le, option_map}
 use Rattle.std.specs.Fmt.{decimal}
 use Rattle.std.specs.List.{list_all}
 use Rattle.std.proofs.lemmas.Bool.{and_parts, not-true}

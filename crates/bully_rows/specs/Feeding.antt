@@ -1,4 +1,4 @@
--- Rows that are taken one by one, as they are read: any rows, and those of a trace behind its header.
+-- Rows that are taken one by one, as they are read: any rows, and those of a trace after its header.
 use Rattle.std.specs.Prelude.{◌≡◌, ◌⊎◌, ◌≤◌, ◌+◌, ◌++◌, ◌∷◌, ℕ, zero, suc, true, false, [], List, length, Option, None}
 use Rattle.std.specs.Prelude.{Some, MatchOption}
 use Rattle.bully_rows.specs.declared.TheConstants.{ROWS_MAX}
@@ -63,7 +63,7 @@ StopsBehind {S = S} takes refuses tells reader s now after told =
 abbrev pub row_in : Header → Record → Option Row
 row_in header fields = row_of header.version header.setup fields
 
--- what takes them begins behind a header of these fields
+-- what takes them starts after a header of these fields
 abbrev pub Begins : {S : Type 0} → (Header → List Row → S → Type 0) → Record → BehindHeader S → Type 0
 Begins P fields b = (header_of fields ≡ Some b.header) × P b.header [] b.sink
 
@@ -71,7 +71,7 @@ Begins P fields b = (header_of fields ≡ Some b.header) × P b.header [] b.sink
 abbrev pub IsNoStart : Record → TraceFault → Type 0
 IsNoStart fields fault = ((header_of fields ≡ None) × (fault ≡ fault_at 1 TraceCause.BadHeader)) ⊎ (fault ≡ no_memory)
 
--- the row read last, which is this one, goes on behind those that were taken
+-- the row read last, which is this one, goes on after those that were taken
 abbrev pub GoesOn : {S : Type 0} → (Header → List Row → S → Type 0) → ReadSoFar → Row → S → S → Type 0
 GoesOn P reader row s after =
     (header : Header) (rows : List Row) → row_in header reader.fields ≡ Some row → length rows + 2 ≡ reader.number
@@ -89,7 +89,7 @@ abbrev pub IsNoRow : Header → ReadSoFar → TraceFault → Type 0
 IsNoRow header reader fault =
     ((row_in header reader.fields ≡ None) × (fault ≡ fault_at reader.number TraceCause.BadRow)) ⊎ (fault ≡ no_memory)
 
--- the header begins what takes the rows, and each row behind it is taken
+-- the header starts what takes the rows, and each row after it is taken
 abbrev pub TakesNext : {S : Type 0} → (Header → List Row → S → Type 0) → ReadSoFar → Option (BehindHeader S)
     → Option (BehindHeader S) → Type 0
 TakesNext P reader None after = MatchOption after ⊥ (Begins P reader.fields)
@@ -100,7 +100,7 @@ abbrev pub RefusesNext : {S : Type 0} → ReadSoFar → Option (BehindHeader S) 
 RefusesNext reader None fault = IsNoStart reader.fields fault
 RefusesNext reader (Some b) fault = IsNoRow b.header reader fault
 
--- what was read of a text was taken: nothing of it yet, or the rows behind its header
+-- what was read of a text was taken: nothing of it yet, or the rows after its header
 abbrev pub IsTakenSoFar : {S : Type 0} → (Header → List Row → S → Type 0) → Option (List ℕ) → ReadSoFar
     → Option (BehindHeader S) → Type 0
 IsTakenSoFar P known reader None = IsUnread known reader

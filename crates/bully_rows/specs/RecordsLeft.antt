@@ -46,7 +46,7 @@ pub record IsUnread (known : Option (List ℕ)) (reader : ReadSoFar) : Type 0 wh
   pub number : reader.number ≡ 0
   pub records : reader.records ≡ option_map records_of known
 
--- what is still to be read behind the header of a trace: what it tells, the number of the row that was read last, and
+-- what is still to be read after the header of a trace: what it tells, the number of the row that was read last, and
 -- the records, where the reader's bytes are known
 pub record RowsLeft : Type 0 where
   pub header : Header

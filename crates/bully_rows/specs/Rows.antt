@@ -146,7 +146,7 @@ abbrev pub read_as : {A B : Type 0} → (A → B) → Result A TraceFault → Re
 read_as f (Ok x) = Ok (f x)
 read_as f (Err fault) = Err fault
 
--- the rows from this number on, behind this header
+-- the rows from this number on, after this header
 abbrev pub rows_from : Header → ℕ → List Record → Result (List Row) TraceFault
 rows_from header number [] = Ok []
 rows_from header number (fields ∷ rest) =
@@ -216,7 +216,7 @@ abbrev pub IsFirstFault : Option (List ℕ) → TraceFault → Type 0
 IsFirstFault known fault = IsTrue (is_of_form fault.cause)
     → IfSome known (λ bytes. trace_of (records_of bytes) ≡ Err fault)
 
--- a failed read is told at the row behind those that were read
+-- a failed read is told at the row after those that were read
 abbrev pub IsReadAtItsRow : Option (List ℕ) → TraceFault → Type 0
 IsReadAtItsRow known fault = fault.cause ≡ TraceCause.Read
     → IfSome known (λ bytes. IsBehind fault.row (records_of bytes))

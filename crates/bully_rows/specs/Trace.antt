@@ -38,6 +38,6 @@ AreRowsFor version rows = says_more version ≡ false → are_short rows ≡ tru
 abbrev pub trace_for : Setup → List Row → Trace
 trace_for setup rows = record { version = version_with (version_for setup) rows; setup = setup; rows = rows }
 
--- the trace with the same setup and the same rows in the first version behind 1 that can tell them
+-- the trace with the same setup and the same rows in the first version after 1 that can tell them
 abbrev pub upgraded : Trace → Trace
 upgraded trace = record { version = version_with Version.Two trace.rows; setup = trace.setup; rows = trace.rows }

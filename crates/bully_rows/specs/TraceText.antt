@@ -59,7 +59,7 @@ detailed_fields e =
 abbrev pub claim_fields : Claim → List (List ℕ)
 claim_fields claim = codes "saw" ∷ decimal claim.node ∷ status_word claim.status ∷ node_text claim.coordinator ∷ []
 
--- the space behind a lower node
+-- the space after a lower node
 abbrev pub gap_behind : Option ℕ → List ℕ
 gap_behind None = []
 gap_behind (Some i) = codes " "
@@ -69,7 +69,7 @@ abbrev pub set_text : List ℕ → List ℕ
 set_text [] = codes "-"
 set_text (i ∷ set) = owners_text 32 (reverse (i ∷ set))
 
--- what a whole claim tells behind the fields of another one, each field behind a comma
+-- what a whole claim tells after the fields of another one, each field after a comma
 abbrev pub rest_text : Option ℕ → List ℕ → Option (List ℕ) → List ℕ
 rest_text halter up task = codes "," ++ node_text halter ++ codes "," ++ set_text up ++ codes "," ++ task_text 32 task
 
@@ -84,7 +84,7 @@ abbrev pub rows_text : List Row → List ℕ
 rows_text [] = []
 rows_text (row ∷ rows) = line_of (row_fields row) ++ rows_text rows
 
--- the weights of a header behind version 1 are parted by spaces
+-- the weights of a header after version 1 are parted by spaces
 abbrev pub later_fields : List ℕ → Setup → List (List ℕ)
 later_fields version setup =
     codes "bully" ∷ version ∷ decimal setup.nodes ∷ decimal setup.partitions ∷ owners_text 32 setup.weights

@@ -6,9 +6,8 @@ ghost use Rattle.bully_rows.specs.EventsTold.{answered, event_of_detailed, unans
 use bully_base::Node;
 use bully_calls::{Answer, Call, Event, NodeEventKind};
 
-/// What is said beside an event of a call: of which kind the event is, which call it is, and the answer, where the
-/// table of events has one told. What that table doesn't have told isn't so of any world, and no row of a text means
-/// it.
+/// What is said beside an event of a call: the kind of the event, the call, and the answer, where the table of events
+/// has one told. What that table doesn't have told isn't so of any world, and no row of a text means it.
 #[derive(Clone, Copy, Debug)]
 pub struct Detail {
     pub kind: NodeEventKind,

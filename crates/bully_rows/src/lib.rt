@@ -1,8 +1,8 @@
 //! The rows of traces: what they may say, how they are read, row by row or all of a trace, and how they are written.
 //!
-//! It stands on bully_calls, which the rows tell, on the crates below it, and on csv. bully_trace, which judges rows,
-//! and the crates above rely on what is read being what the records of csv mean, on the first fault of form being told,
-//! on what is written being the text of the rows, and on that text being read back.
+//! It builds on bully_calls, whose events the rows have, on the crates below it, and on csv. bully_trace, which judges
+//! rows, and the crates above rely on four things. What is read is what the records of csv mean. The first fault of
+//! form is the one that is reported. What is written is the text of the rows. And that text is read back.
 #![tactic(auto)]
 
 ghost use Rattle.std.specs.Prelude.{◌≡◌};

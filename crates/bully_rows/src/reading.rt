@@ -11,8 +11,8 @@ use std::alloc::Global;
 use std::io::Read;
 
 /// Reads a trace, row by row, up to its end or to the first row at fault.
-/// Refused there as `BadHeader` at row 1, as `TooManyRows` behind the most rows, or as `BadRow`; as `Read` where
-/// the reader fails, at the row behind those that were read; and as `OutOfMemory`, at row 0, where an allocation
+/// Refused there as `BadHeader` at row 1, as `TooManyRows` after the most rows, or as `BadRow`; as `Read` where
+/// the reader fails, at the row after those that were read; and as `OutOfMemory`, at row 0, where an allocation
 /// fails. The rule: docs/FORMATS.md.
 pub fn read_trace<R: Read + Drop>(alloc: Global, reader: R) -> Result<Trace, TraceFault>
     ensures ok { IfOk result (IsTraceOf (R.remaining reader)) }
@@ -29,7 +29,7 @@ pub fn read_trace<R: Read + Drop>(alloc: Global, reader: R) -> Result<Trace, Tra
 }
 
 // The trace of a text of which nothing was read.
-// (apart from the function that owns the reader, which has to be dropped)
+// (apart from the function that owns the reader, which must be dropped)
 fn read_all<R: Read + Drop>(alloc: Global, rows: &mut RowReader<R>) -> Result<Trace, TraceFault>
     requires { (known : Option (List ℕ)) × IsUnread known rows.old }
     ensures read { (known : Option (List ℕ)) → IsUnread known rows.old → IfOk result (IsTraceOf known) }
@@ -43,7 +43,7 @@ fn read_all<R: Read + Drop>(alloc: Global, rows: &mut RowReader<R>) -> Result<Tr
     })
 }
 
-// The header of a trace, and the rows behind it that were read.
+// The header of a trace, and the rows after it that were read.
 #[derive(Drop)]
 struct TraceRows {
     header: Header,

@@ -80,7 +80,7 @@ impl<R: Read + Drop> RowReader<R> {
         self.records.get_ref()
     }
 
-    /// Where the row that was read last ends, behind its line end: how many bytes come before, and the line from 1,
+    /// Where the row that was read last ends, after its line end: how many bytes come before, and the line from 1,
     /// which `csv` counts by line feeds.
     pub fn end(&self) -> Position {
         self.records.position()

@@ -69,7 +69,7 @@ fn push_first_header(text: &mut String, setup: &Setup) -> Result<(), OutOfMemory
     writeln!(text, "bully,1,{nodes},{partitions}")
 }
 
-// Appends the header of a version behind 1.
+// Appends the header of a version after 1.
 fn push_later_header(text: &mut String, version: &str, setup: &Setup) -> Result<(), OutOfMemory>
     ensures { OnOk result (string_bytes text.new ≡ string_bytes text.old
         ++ line_of (later_fields version.now setup.now)) }
@@ -283,7 +283,7 @@ fn push_members(text: &mut String, set: &NodeSet, highest: Node) -> Result<(), O
     Ok(())
 }
 
-// Appends the node, where it is a member: behind a space, if there is a lower one.
+// Appends the node, where it is a member: after a space, if there is a lower one.
 fn push_member(text: &mut String, set: &NodeSet, node: Node) -> Result<(), OutOfMemory>
     requires { IsFallingBelow (NODES_MAX + 1) set.now }
     ensures { (start : List ℕ) → string_bytes text.old ≡ start ++ owners_text 32 (reverse (below_node node set.now))
@@ -297,7 +297,7 @@ fn push_member(text: &mut String, set: &NodeSet, node: Node) -> Result<(), OutOf
     write!(text, "{number}")
 }
 
-// Appends a space behind a lower node, if there is one.
+// Appends a space after a lower node, if there is one.
 fn push_gap(text: &mut String, lower: Option<Node>) -> Result<(), OutOfMemory>
     ensures { OnOk result (string_bytes text.new ≡ string_bytes text.old ++ gap_behind lower) }
 {

@@ -224,7 +224,7 @@ impl Trace {
         }
     }
 
-    /// The trace with the same setup and the same rows in the first version behind 1 that can tell them.
+    /// The trace with the same setup and the same rows in the first version after 1 that can tell them.
     #[tactic(auto, using(crate::proofs::HeaderLemmas::two_fits_rows))]
     pub fn upgraded(self) -> Trace
         ensures { result ≡ upgraded self }
@@ -249,7 +249,7 @@ pub enum TraceCause {
     BadHeader,
     /// The row has no form that the profile lists.
     BadRow,
-    /// It is a row behind the most that a trace has, whatever it holds.
+    /// It is a row after the most that a trace has, whatever it holds.
     TooManyRows,
     /// The reader failed.
     Read,
@@ -278,7 +278,7 @@ impl fmt::Display for TraceCause {
     }
 }
 
-/// The row at which a trace is at fault, counted from 1, and why. A failed read has the row behind those that
+/// The row at which a trace is at fault, counted from 1, and why. A failed read has the row after those that
 /// were read; a failed write and want of memory have row 0.
 #[derive(Clone, Copy, PartialEq, Eq, Debug)]
 pub struct TraceFault {

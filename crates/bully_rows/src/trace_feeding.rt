@@ -11,7 +11,7 @@ use bully_base::OutOfMemory;
 use std::alloc::Global;
 use std::io::Read;
 
-/// A sink of the rows of a trace. The header begins it, with a value of `S`.
+/// A sink of the rows of a trace. The header starts it, with a value of `S`.
 pub trait TraceSink<R: Read + Drop, S>: Drop {
     ghost use Rattle.std.specs.Prelude.{[], List, IfOk, OnOk};
     ghost use Rattle.bully_rows.specs.Headers.{IsVersionFor};
@@ -23,7 +23,7 @@ pub trait TraceSink<R: Read + Drop, S>: Drop {
     // These rows of a trace with this header were taken.
     ghost has_taken: { S → HeaderState → List RowState → Self → Type 0 };
 
-    /// Begins behind this header, before any row. Refused where an allocation fails.
+    /// Starts after this header, before any row. Refused where an allocation fails.
     fn begin(alloc: Global, start: S, header: Header) -> Result<Self, OutOfMemory>
         requires { IsVersionFor header.version header.setup }
         ensures { IfOk result (has_taken start header []) };
@@ -52,14 +52,14 @@ pub trait TraceSink<R: Read + Drop, S>: Drop {
         ensures { (start : S) → OnOk result (GoesOn (has_taken start) rows.now row self.old self.new) };
 }
 
-/// The header of a trace, and the sink that it began.
+/// The header of a trace, and the sink that it started.
 #[derive(Drop)]
 pub struct BehindHeader<T> {
     pub header: Header,
     pub sink: T,
 }
 
-/// Feeds the rows of a text to a sink, which the header begins with this value.
+/// Feeds the rows of a text to a sink, which the header starts with this value.
 #[derive(Drop)]
 pub struct TraceFeed<S, T> {
     pub start: S,
@@ -123,7 +123,7 @@ fn feed_other_row<R: Read + Drop, S, T: TraceSink<R, S>>(
     Ok(())
 }
 
-// The sink begins behind the header, before any row.
+// The sink starts after the header, before any row.
 // (out of line, and by a reference: else room for a header and a sink would be cleared at each row)
 #[inline(never)]
 fn begin<R: Read + Drop, S: Copy, T: TraceSink<R, S>>(
@@ -143,8 +143,8 @@ fn begin<R: Read + Drop, S: Copy, T: TraceSink<R, S>>(
     Ok(())
 }
 
-/// Has all rows of a text taken, of which none was read, by what its header begins. Refused as [`crate::read_trace`]
-/// refuses it; what was begun has then taken the rows before the one at fault.
+/// Has all rows of a text taken, from the first, by what its header starts. Refused as [`crate::read_trace`] refuses
+/// it; what was started has then taken the rows before the one at fault.
 pub fn feed_text<R: Read + Drop, S: Copy, T: TraceSink<R, S>>(
     alloc: Global,
     rows: &mut RowReader<R>,
@@ -158,7 +158,7 @@ pub fn feed_text<R: Read + Drop, S: Copy, T: TraceSink<R, S>>(
     feed_each(alloc, rows, feed)
 }
 
-/// What has taken all rows of a text, of which none was read. Refused as [`crate::read_trace`] refuses it.
+/// What has taken all rows of a text, from the first. Refused as [`crate::read_trace`] refuses it.
 pub fn feed_trace<R: Read + Drop, S: Copy, T: TraceSink<R, S>>(
     alloc: Global,
     rows: &mut RowReader<R>,

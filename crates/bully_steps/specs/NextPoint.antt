@@ -1,4 +1,4 @@
--- Where each outcome leads from each point, and where a procedure begins.
+-- Where each outcome leads from each point, and where a procedure starts.
 use Rattle.std.specs.Prelude.{ℕ, zero, suc, ◌+◌, ◌-◌, List, [], ◌∷◌, Option, Some, None, ◌&&◌, ◌==◌, nat_lt, nat_le}
 use Rattle.std.specs.Prelude.{if◌then◌else◌}
 use Rattle.bully_base.specs.declared.node.Status.{Status}
@@ -12,11 +12,11 @@ use Rattle.bully_steps.specs.declared.point.Point.{Point}
 use Rattle.bully_steps.specs.declared.point.Point.TheVariants.{Idle, Asking, Halting, Announcing, Planning, Readying}
 use Rattle.bully_steps.specs.declared.point.Point.TheVariants.{Checking, Inquiring}
 
--- an election of node i begins here
+-- an election of node i starts here
 abbrev pub election : ℕ → Point
 election i = Asking (i + 1)
 
--- the check of node i goes on at node k, or behind it where k is i itself
+-- the check of node i goes on at node k, or after it where k is i itself
 abbrev pub checking_from : Setup → ℕ → ℕ → Point
 checking_from setup i k =
     let other = if k == i then k + 1 else k in

@@ -47,7 +47,7 @@ abbrev pub left_behind : Outcome → List ℕ → List ℕ
 left_behind Yes left = without_first left
 left_behind outcome left = left
 
--- the nodes that are left behind a point of this kind, where an outcome leads on from it; `up` is the up set
+-- the nodes that are left after a point of this kind, where an outcome leads on from it; `up` is the up set
 abbrev pub left_after : PointKind → Outcome → List ℕ → List ℕ → List ℕ
 left_after Announcing outcome up left = left_behind outcome left
 left_after Readying outcome up left = left_behind outcome left

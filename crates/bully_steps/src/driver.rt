@@ -12,7 +12,7 @@ const PERIOD: u32 = 16;
 pub enum Choice {
     /// Its procedure goes on, if it can.
     Proceed,
-    /// It begins a check.
+    /// It starts a check.
     Check,
     /// It has a timeout.
     Timeout,

@@ -1,8 +1,8 @@
-//! The procedures of a node: the points where one may stand, what each offers, and where it goes on; and a
-//! procedure as a value that is resumed, outcome by outcome.
+//! The procedures of a node: the points that one may be at, what each offers, and where it goes on; and a procedure as
+//! a value that is resumed, outcome by outcome.
 //!
-//! It stands on bully_base, bully_table, bully_calls and bully_handlers. The crates above rely on `next`, the
-//! three first points, and what a procedure wants and where it is resumed being those of the definitions.
+//! It builds on bully_base, bully_table, bully_calls and bully_handlers. The crates above rely on this: `next`, the
+//! three first points, what a procedure wants, and where it is resumed are those of the definitions.
 #![tactic(auto)]
 
 mod driver;

@@ -117,7 +117,7 @@ impl PointKind {
         }
     }
 
-    /// Changes the nodes that a point of this kind has left to those behind it, where the outcome leads on from it. An
+    /// Changes the nodes that a point of this kind has left to those after it, where the outcome leads on from it. An
     /// announcement and a task's new table go to the whole up set, the highest node first.
     // (inlined, as `offers` is)
     #[inline(always)]
@@ -169,7 +169,7 @@ pub(crate) fn timeout_kind(node: Node, status: Status, coordinator: Option<Node>
     }
 }
 
-/// Where an election of the node begins.
+/// Where an election of the node starts.
 pub(crate) fn election_kind(node: Node) -> PointKind
     ensures election { (left : List ℕ) → point_at result left ≡ election node }
     ensures kind { result ≡ kind_of (election node) }
@@ -230,7 +230,7 @@ fn next_asked(setup: &Setup, number: u16) -> Option<Node>
     }
 }
 
-// The check of the node goes on at this number, or behind it where it is the node's own; it ends above the last.
+// The check of the node goes on at this number, or after it where it is the node's own; it ends above the last.
 fn checking_at(setup: &Setup, node: Node, number: u16) -> PointKind
     requires positive { 0 < number }
     requires small { number ≤ NODES_MAX + 1 }

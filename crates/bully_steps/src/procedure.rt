@@ -122,7 +122,7 @@ impl Procedure {
         self.identity().node
     }
 
-    /// The generation of the node at which the procedure began.
+    /// The generation of the node at which the procedure started.
     pub fn generation(&self) -> u32
         ensures { result ≡ (state_of self.now).generation }
     {
@@ -327,7 +327,7 @@ impl Procedure {
     }
 
     /// Becomes the procedure of its node that [`Procedure::at`] makes at this stored point, in this of the node's
-    /// generations; what that asks of its arguments has to hold here, too.
+    /// generations; what that asks of its arguments must hold here, too.
     pub fn restart(
         &mut self,
         generation: u32,

@@ -89,7 +89,7 @@ impl StoredPoint {
         self.kind = PointKind::Idle;
     }
 
-    /// Begins a check at an idle node, as `begin_check` tells.
+    /// Starts a check at an idle node, as `begin_check` tells.
     pub fn begin_check(
         &mut self,
         setup: &Setup,
@@ -109,14 +109,14 @@ impl StoredPoint {
         self.kind = timeout_kind(node, status, coordinator);
     }
 
-    /// Begins an election of the node, as a recovery does.
+    /// Starts an election of the node, as a recovery does.
     pub fn begin_election(&mut self, node: Node)
         ensures { self.new ≡ election node }
     {
         self.kind = election_kind(node);
     }
 
-    /// Readies the nodes of the up set, behind a plan.
+    /// Readies the nodes of the up set, after a plan.
     pub fn begin_readying(&mut self, up: &NodeSet)
         ensures { self.new ≡ AnyPoint.Readying up.now }
     {

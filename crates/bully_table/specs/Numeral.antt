@@ -11,7 +11,7 @@ is_numeral [] = false
 is_numeral (b ∷ []) = is_digit b
 is_numeral (b ∷ c ∷ rest) = is_digit b && not (b == 48) && list_all is_digit (c ∷ rest)
 
--- the number of these digits behind those of n
+-- the number of these digits after those of n
 abbrev pub read_on : ℕ → List ℕ → ℕ
 read_on n [] = n
 read_on n (b ∷ rest) = read_on (n * 10 + (b - 48)) rest

@@ -1,7 +1,7 @@
 //! Task tables: the owner of each partition, as text, planned anew with the fewest moves, and in reserved room.
 //!
-//! It stands on bully_base. The crates above see a table as the list of its owners, and rely on `is_balanced` being
-//! the definition's balance, and on a plan being balanced with the fewest moves.
+//! It builds on bully_base. The crates above see a table as the list of its owners, and rely on two things:
+//! `is_balanced` is the definition's balance, and a plan is balanced with the fewest moves.
 #![tactic(auto)]
 
 ghost use Rattle.bully_table.specs.EqualShares.{BalanceIsEven, PlannedIsEqual, QuotaIsEqual};

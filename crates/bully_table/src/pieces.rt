@@ -22,7 +22,7 @@ impl<'a> Model for Pieces<'a> {
 }
 
 impl<'a> Pieces<'a> {
-    /// All pieces of the text, of which there is at least one.
+    /// All pieces of the text: at least one.
     pub fn of(text: &'a [u8]) -> Self
         ensures { result ≡ pieces_of text.now }
     {

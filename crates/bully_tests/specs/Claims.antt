@@ -58,14 +58,14 @@ EndsAs setup events count rows =
     × NoneIsRefused setup events
     × (answers : List Answer) × (w : World) × IsLawful setup events answers w × ShowsAs w rows
 
--- the first k events are lawful, and behind them the next one is refused for this cause
+-- the first k events are lawful, and after them the next one is refused for this cause
 abbrev pub IsRefusedAt : Setup → List Event → ℕ → Refused → Type 0
 IsRefusedAt setup events k refused =
     (e : Event)
     × (slice_get events k ≡ Some e)
     × After setup events k (λ w. cause setup w k e ≡ Some refused)
 
--- the event behind the first k is answered so
+-- the event after the first k is answered so
 abbrev pub IsAnsweredAt : Setup → List Event → ℕ → Answer → Type 0
 IsAnsweredAt setup events k a =
     (answers : List Answer) × (w : World) × IsLawful setup (take (k + 1) events) answers w

@@ -169,7 +169,7 @@ orphan_halt_late =
 abbrev pub orphan_halt_points : List (ℕ × Point)
 orphan_halt_points = (37, Asking 4) ∷ (38, Halting 2) ∷ []
 
--- node 2 is halted while its Ready is under way, and begins a new election
+-- node 2 is halted while its Ready is under way, and starts a new election
 abbrev pub orphan_ready_begun : List Event
 orphan_ready_begun =
     Recover 1 ∷ Recover 2 ∷ lost_call 2 ++ (Move 2 ∷ [])
@@ -222,7 +222,7 @@ late_failure =
     Recover 2 ∷ Start 2 ∷ Lose 2 ∷ Recover 3 ∷ Move 3 ∷ whole_call 3
     ++ (Timeout 2 ∷ Return 2 ∷ Move 2 ∷ [])
 
--- where node 2 stands, after so many events: stopped, asking, and still asking behind the return
+-- where node 2 stands, after so many events: stopped, asking, and still asking after the return
 abbrev pub late_failure_points : List (ℕ × Point)
 late_failure_points = (3, Asking 3) ∷ (7, Idle) ∷ (9, Asking 3) ∷ (10, Asking 3) ∷ []
 

@@ -10,15 +10,15 @@ use Rattle.bully_text.specs.declared.bounded.Taken.{Taken}
 abbrev pub ends_row : ℕ → Bool
 ends_row byte = byte == 10 || byte == 13
 
--- a field starts behind the byte, if it isn't quoted
+-- a field starts after the byte, if it isn't quoted
 abbrev pub starts_field : ℕ → Bool
 starts_field byte = byte == 44 || ends_row byte
 
--- where one stands behind a byte that isn't quoted, and is no quote
+-- where one is after a byte that isn't quoted, and is no quote
 abbrev pub place_outside : ℕ → Place
 place_outside byte = if starts_field byte then Place.FieldStart else Place.InField
 
--- where one stands behind a byte. A byte-order mark at the start of the text is none of a field
+-- where one is after a byte. A byte-order mark at the start of the text is none of a field
 abbrev pub place_after : Place → ℕ → Place
 place_after Place.TextStart byte = if byte == 239 then Place.MarkBegun else if byte == 34 then Place.InQuotes else
     place_outside byte
@@ -59,7 +59,7 @@ ends_at Place.InField byte = ends_row byte
 ends_at Place.InQuotes byte = false
 ends_at Place.AfterQuote byte = ends_row byte
 
--- how many bytes of its row there are behind a byte, so many before it; none where the row has more than it may
+-- how many bytes of its row there are after a byte, so many before it; none where the row has more than it may
 abbrev pub count_after : Place → ℕ → ℕ → Option ℕ
 count_after place count byte = if ends_at place byte then Some 0 else if nat_lt count ROW_BYTES_MAX
     then Some (count + 1) else None
@@ -76,7 +76,7 @@ bounded_from place count (byte ∷ rest) =
 abbrev pub bounded : List ℕ → List ℕ
 bounded text = bounded_from Place.TextStart 0 text
 
--- where one stands behind what was given, and whether that was ended within a row
+-- where one is after what was given, and whether that was ended within a row
 abbrev pub place_of : {R : Type 0} → BoundedRows R → Place
 place_of rows = rows.place
 

@@ -12,7 +12,7 @@ use std::io::Read;
 /// Where the next byte of a text stands, as `csv` reads it.
 #[derive(Clone, Copy)]
 enum Place {
-    // At the start of the text, and behind one byte or two of a byte-order mark there.
+    // At the start of the text, and after one byte or two of a byte-order mark there.
     TextStart,
     MarkBegun,
     MarkBehind,
@@ -60,7 +60,7 @@ impl<R: Read> Read for BoundedRows<R> {
 }
 
 impl<R: Read> BoundedRows<R> {
-    /// A reader of the same text, of which nothing was given yet.
+    /// A reader of the same text that hasn't given any of it yet.
     pub fn new(reader: R) -> BoundedRows<R>
         ensures { bounded_left R.remaining result ≡ option_map bounded (R.remaining reader) }
     {

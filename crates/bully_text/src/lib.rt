@@ -1,7 +1,7 @@
 //! The text of a trace: how much of it is given to what reads its rows. A row that is too long to have a form ends it.
 //!
-//! It stands on memchr and the standard library. The program relies on what is given being the text, up to the first
-//! row that has more bytes than it may, and as many of that one as it may have.
+//! It builds on memchr and the standard library. The program relies on this: what is given is the text up to the first
+//! row that has too many bytes, and as many bytes of that row as a row may have.
 #![tactic(auto)]
 
 ghost use Rattle.std.specs.Prelude.{◌≡◌};

@@ -1,5 +1,5 @@
 -- What the judged rows of a text come to.
-use Rattle.std.proofs.Common.{◌≡◌, ℕ, List, Option, Some, None, subst, IfOk, Ok, Err, Result}
+use Rattle.std.proofs.Common.{ℕ, List, Option, Some, None, subst, IfOk, Ok, Err, Result}
 use Rattle.bully_base.specs.Setup.{Setup}
 use Rattle.bully_world.specs.State.{world_of}
 use Rattle.bully_world.specs.World.{first_world}

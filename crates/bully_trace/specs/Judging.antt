@@ -1,5 +1,5 @@
 -- A judge of rows that come one by one.
-use Rattle.std.specs.Prelude.{◌≡◌, ℕ, ◌+◌, List, [], ◌∷◌, ◌++◌, length, Option, None, Some, MatchOption}
+use Rattle.std.specs.Prelude.{◌≡◌, ℕ, ◌+◌, List, ◌++◌, length, Option, MatchOption}
 use Rattle.bully_base.specs.Setup.{Setup}
 use Rattle.bully_world.specs.State.{WorldState, world_of}
 use Rattle.bully_world.specs.World.{World, first_world}
@@ -16,7 +16,7 @@ pub record JudgeState : Type 0 where
   pub world : WorldState
   pub stopped : Option Verdict
 
--- from this world and this first verdict on, behind further rows, the first of which has this number, the verdict and
+-- from this world and this first verdict on, after further rows, the first of which has this number, the verdict and
 -- the last world are these
 abbrev pub IsJudgedOn : WorldState → Option Verdict → ℕ → List Row → Verdict → World → Type 0
 IsJudgedOn world stopped number more verdict w =
@@ -24,7 +24,7 @@ IsJudgedOn world stopped number more verdict w =
     (IsJudged world.setup (world_of world) world.events number more verdict w)
     (λ first. (verdict ≡ first) × (w ≡ world_of world))
 
--- the rows of a trace were judged: what it comes to behind further rows, all of them come to from the first world
+-- the rows of a trace were judged: what it comes to after further rows, all of them come to from the first world
 pub record HasJudged (setup : Setup) (rows : List Row) (judge : JudgeState) : Type 0 where
   pub same : judge.world.setup ≡ setup
   pub judged : (more : List Row) (verdict : Verdict) (w : World)

@@ -49,7 +49,7 @@ IsRowTaken before (Row.Detailed e) after = (a : Answer) × IsApplied before (eve
 IsRowTaken before (Row.Claim claim) after = after ≡ before
 IsRowTaken before (Row.Whole whole) after = after ≡ before
 
--- the judge took the row of this number: behind a row that decided nothing changes; else what is wrong with this row
+-- the judge took the row of this number: after a row that decided nothing changes; else what is wrong with this row
 -- decides, and where nothing is, it was taken to the world
 pub record IsTakenBy (number : ℕ) (row : Row) (before after : JudgeState) : Type 0 where
   pub decided : IfSome before.stopped (λ verdict. after ≡ before)

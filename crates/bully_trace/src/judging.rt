@@ -38,7 +38,7 @@ impl Model for Judge {
 }
 
 impl Judge {
-    /// A judge behind this header, before any row. Refused where an allocation fails.
+    /// A judge after this header, before any row. Refused where an allocation fails.
     pub fn new(alloc: Global, header: Header) -> Result<Judge, OutOfMemory>
         ensures judged { IfOk result (HasJudged header.setup []) }
         ensures version { IfOk result (λ judge. judge.version ≡ header.version) }

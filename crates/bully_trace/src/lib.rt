@@ -1,9 +1,9 @@
 //! The checker of traces, and what upgrades them.
 //!
-//! It stands on bully_rows, which reads and writes them and most of whose names are here, too, on bully_agree, and on
-//! the crates below these. The crates above rely on the verdict being that of the rows that the text means, on the
-//! nodes agreeing after each row of a lawful trace, and on an upgraded trace having the same setup and the same rows.
-//! What judges row by row is public too ([`Judge`]), so that whoever explains a verdict has it by the same rules.
+//! It builds on bully_rows, which reads and writes them and most of whose names are here, too, on bully_agree, and on
+//! the crates below these. The crates above rely on three things. The verdict is that of the rows that the text means.
+//! The nodes agree after each row of a lawful trace. And an upgraded trace has the same setup and the same rows. The
+//! judge of single rows is public, too ([`Judge`]), so a crate that explains a verdict has it by the same rules.
 #![tactic(auto)]
 
 ghost use Rattle.std.specs.Prelude.{◌↔◌};

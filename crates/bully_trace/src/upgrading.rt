@@ -9,7 +9,7 @@ use std::alloc::Global;
 use std::io::{Read, Write};
 
 /// Upgrades a trace: reads one of any version, writes the one with the same setup and the same rows in version 2, or in
-/// version 3 where a row says more, and tells how many rows it has behind its header. It judges nothing. All rows are
+/// version 3 where a row says more, and tells how many rows it has after its header. It judges nothing. All rows are
 /// read before anything is written, and are kept till then. Refused as [`crate::read_trace`] refuses the trace, and
 /// then nothing was written; as `OutOfMemory` where the text can't be made, with nothing written; then as `Write`, and
 /// then a prefix of the text may have been written. The last two are at row 0.
@@ -36,7 +36,7 @@ pub fn upgrade<R: Read + Drop, W: Write>(
     write_counted(alloc, writer, &newer)
 }
 
-// Writes the trace, and tells how many rows it has behind its header.
+// Writes the trace, and tells how many rows it has after its header.
 fn write_counted<W: Write>(alloc: Global, writer: &mut W, trace: &Trace) -> Result<u32, TraceFault>
     ensures written { OnOk result (Appends (W.contents writer.old) (W.contents writer.new) (trace_text trace.now)) }
     ensures counted { IfOk result (λ count. count ≡ length trace.now.rows) }

@@ -22,7 +22,7 @@ pub fn push_node_line(text: &mut String, node: Node, vector: &Vector) -> Result<
     text.push('\n')
 }
 
-/// Appends the line of the verdict itself; the nodes' lines of a lawful trace come behind it.
+/// Appends the line of the verdict itself; the nodes' lines of a lawful trace come after it.
 pub fn push_verdict_head(text: &mut String, verdict: Verdict) -> Result<(), OutOfMemory>
     ensures { OnOk result (string_bytes text.new ≡ string_bytes text.old ++ verdict_head verdict) }
 {

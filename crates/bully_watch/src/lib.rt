@@ -1,7 +1,7 @@
 //! The history of a group: what was taken in, entry by entry, who may take it, and observers of it that never wait.
 //!
-//! It stands on bully_world, bully_agree and the crates below them, and on the kit's `left_right`. The crates above
-//! rely on the definition of a history, whose events are lawful, on entries being told apart, and on each look being
+//! It builds on bully_world, bully_agree and the crates below them, and on the kit's `left_right`. The crates above
+//! rely on three things. A history is as defined, with lawful events. Entries can be distinguished. And each look is
 //! the view after a history of the publisher's setup, which goes on from what its observer saw or learned.
 #![tactic(auto)]
 

@@ -61,9 +61,9 @@ pub enum OpenFault {
 }
 
 impl Publisher {
-    /// A publisher of a group with this setup that showed nothing yet, with 1 to 8 observers. Refused with
-    /// `BadObservers` for another number, and with `OutOfMemory` where an allocation fails or the kit makes no
-    /// reader. A group of the same setup may then be opened with it.
+    /// A publisher of a group with this setup that showed nothing yet, with 1 to 8 observers. A group of the same setup
+    /// may then be opened with it. Refused with `BadObservers` for another number, and with `OutOfMemory` if an
+    /// allocation fails or the kit makes no reader.
     pub fn open<R: Wait>(
         rt: &R,
         alloc: Global,
@@ -109,11 +109,11 @@ impl Publisher {
         }
     }
 
-    /// Shows the entries, which are a history of its group that goes on from what it took in. It applies the new
-    /// ones alone, and tells the whole. With nothing new it tells once more, so that each observer can learn.
-    /// Refused where an allocation fails, and where 120 told prefixes are neither learned nor dropped: learn or
-    /// drop one, and publish again. Observers then see what they saw, and a later publish covers all.
-    /// It may wait for looks that began before. Why there is a limit of 120: docs/DECISIONS.md.
+    /// Shows the entries, which are a history of its group that goes on from what it took in. It applies the new ones
+    /// alone, and tells the whole. With nothing new it tells once more, so that each observer can learn. Refused where
+    /// an allocation fails, and where 120 told prefixes are neither learned nor dropped: learn or drop one, and publish
+    /// again. Observers then see what they saw, and a later publish covers all. It may wait for looks that started
+    /// before it. Why there is a limit of 120: docs/DECISIONS.md.
     pub fn publish<R: Wait>(&mut self, rt: &R, entries: &[Entry]) -> Result<Told, OutOfMemory>
         requires { MayPublish self.old entries.now }
         ensures publishes { Publishes self.old entries.now self.new result }

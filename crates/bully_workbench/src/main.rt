@@ -27,7 +27,7 @@
 //! call each of its requests in turn. These calls are of all libraries but those that need a configuration, words or
 //! threads: what those make of refused memory is tried with the program itself.
 //!
-//! It stands on bully_group, bully_agent, bully_rebalance, bully_annotate and the crates below them. Nothing stands on
+//! It builds on bully_group, bully_agent, bully_rebalance, bully_annotate and the crates below them. Nothing builds on
 //! it.
 #![tactic(auto)]
 

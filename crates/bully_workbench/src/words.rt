@@ -23,7 +23,7 @@ pub enum Task {
     Call(Call),
 }
 
-/// What the words behind the program's name ask for.
+/// What the words after the program's name ask for.
 pub fn task_asked(rt: &HostRuntime) -> Option<Task> {
     let mut words = env::args(rt).ok()?;
     match words.nth(1) {
@@ -32,7 +32,7 @@ pub fn task_asked(rt: &HostRuntime) -> Option<Task> {
     }
 }
 
-// The task of this name, with the words behind it.
+// The task of this name, with the words after it.
 fn task_named(name: &str, words: &mut Args) -> Option<Task> {
     match name {
         "plan" => Some(Task::Plans(number_in(words)?)),

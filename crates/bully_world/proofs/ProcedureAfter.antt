@@ -17,7 +17,6 @@ use Rattle.bully_steps.specs.Point.{offered}
 use Rattle.bully_world.specs.declared.turn.StepKind.{StepKind}
 use Rattle.bully_world.specs.NodeInvariant.{SuitsPhase}
 use Rattle.bully_world.specs.Turn.{outcome_after, procedure_after}
-use Rattle.bully_world.specs.World.{vector, point}
 
 -- a call's start keeps the point and the vector
 pub started_stays : (setup : Setup) (i : ℕ) (u : List ℕ) (k : Option ℕ) (p : Point) (call : Call) → offered setup k p ≡ Want.Start call → next_point setup i u p Outcome.Started ≡ Some p

@@ -14,7 +14,7 @@ use Rattle.bully_world.specs.declared.turn.StepKind.{StepKind}
 use Rattle.bully_world.specs.Cause.{is_live_in}
 use Rattle.bully_world.specs.NodeInvariant.{NodeInvariant}
 use Rattle.bully_world.specs.Turn.{turn_in_step, has_table, step_event}
-use Rattle.bully_world.specs.World.{World, NodeState, pending}
+use Rattle.bully_world.specs.World.{World, NodeState}
 use Rattle.bully_world.proofs.AgreeLemmas.{Agrees}
 use Rattle.bully_world.proofs.OwnEvents.{IsNodesOwn}
 

@@ -25,7 +25,7 @@ pub fn place_of(node: Node) -> usize
     usize::from(node.number() - 1)
 }
 
-/// Whether there is no room for so many events more, one at least, behind so many.
+/// Whether there is no room for so many events more, one at least, after so many.
 // (inlined, as `World::cause` is)
 #[inline(always)]
 pub fn is_full_for(setup: &Setup, events: u32, count: u32) -> bool
@@ -60,7 +60,7 @@ pub fn cause_of(setup: &Setup, events: u32, states: &[NodeState], event: &Event)
     }
 }
 
-// The same of a node that is up, from the refusals behind IsUp on. `named` is the state of the event's node.
+// The same of a node that is up, from the refusals after IsUp on. `named` is the state of the event's node.
 #[inline(always)]
 fn later_cause(
     setup: &Setup,
@@ -81,7 +81,7 @@ fn later_cause(
 }
 
 /// Why an event of a node that is up is refused, as far as `named`, the state of that node, tells it: the first refusal
-/// behind IsUp that holds. Of a Run and of a Lose no node's state alone tells it.
+/// after IsUp that holds. Of a Run and of a Lose no node's state alone tells it.
 // (inlined, as `World::cause` is)
 #[inline(always)]
 pub fn own_cause(setup: &Setup, named: &NodeState, event: &Event) -> Option<Refused>

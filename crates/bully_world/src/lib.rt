@@ -1,7 +1,7 @@
 //! The group: for each node a vector, a point and a call slot; what each event does, and why one is refused.
 //!
-//! It stands on bully_base, bully_table, bully_calls, bully_handlers and bully_steps. The crates above rely on
-//! `apply` being one step of the definitions, and on every world being reached by a lawful list of events.
+//! It builds on bully_base, bully_table, bully_calls, bully_handlers and bully_steps. The crates above rely on two
+//! things: `apply` is one step of the definitions, and every world is reached by a lawful list of events.
 #![tactic(auto)]
 
 ghost use Rattle.bully_world.specs.StepOf.{StepIsComputed, LeadIsComputed, StepIsOne, LawfulIsOne};

@@ -4,7 +4,7 @@
 
 LIBRARY_FOLDER is what `bin/library` wrote. All modules `test_NAME.py` here are run, each in a process of its own, two at once, since most of
 them wait; or those named, one after the other. Those of logs in etcd are run only if the program `etcd` is on the
-path. The last line is 'N passed, M failed'; the exit status is 0 where M is 0, and else 1.
+path. The last line is 'N passed, M failed'; the exit status is 0 if M is 0, otherwise 1.
 """
 from __future__ import annotations
 
@@ -39,7 +39,7 @@ def main(words: list[str]) -> int:
         print(__doc__, file=sys.stderr)
         return 2
     os.environ['BULLY_LIBRARY'] = str(Path(words[0]).resolve())
-    signal.signal(signal.SIGHUP, signal.SIG_DFL)  # so that members hear it, though whoever began this ignores it, as nohup does
+    signal.signal(signal.SIGHUP, signal.SIG_DFL)  # members must get it, even if nohup started this, which ignores it
     counts = Counts()
     if words[1:]:
         counting.run_folder(HERE, 'members.package', counts, words[1:])

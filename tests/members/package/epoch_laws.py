@@ -8,7 +8,7 @@ from bully.core import Promise, Until
 from bully.epochs import Opening
 from bully.maintenance import Maintenance
 from bully.shared_log import Holder, Log, NoEpoch
-from ..steps import EMPTY, OPENING, A, B, C, add, be_idle, snapshot_read, live
+from ..steps import EMPTY, OPENING, A, B, C, add, be_idle, live, plain_snapshot
 from .laws import Tests
 
 NEXT = OPENING.next(None, (1, 2, 3, 1, 2, 3))
@@ -55,10 +55,10 @@ class EpochLaws(Tests):
         self.assertFalse(log.roll_over(1, 2, after), 'the epoch has ended')
         self.assertEqual((log.epochs(), log.opening(), log.opening(1)), (range(1, 3), after, OPENING))
         self.assertEqual(after, Opening(2, OPENING.header, OPENING.names, OPENING.limit, (3, 2, 1, 1, 2, 0)))
-        self.assertEqual(snapshot_read(log, 1, 0), (2, [], {'a': Holder(A, end)}, None, Maintenance()))
+        self.assertEqual(plain_snapshot(log, 1, 0), (2, [], {'a': Holder(A, end)}, None, Maintenance()))
         self.assertEqual((list(other.read(1, 1)), list(other.read(2, 0))), (['crash,1'], []))
         self.assertEqual(add(other, ['recover,2']), Promise(2, 1))
-        self.assertEqual(snapshot_read(log, 2, 0), (2, ['recover,2'], {'a': Holder(A, Promise(2, 0))}, None, Maintenance()))
+        self.assertEqual(plain_snapshot(log, 2, 0), (2, ['recover,2'], {'a': Holder(A, Promise(2, 0))}, None, Maintenance()))
         self.assertEqual((list(log.read(1, 0)), list(log.read(2, 0))), (['recover,1', 'crash,1'], ['recover,2']))
 
     def test_over_epochs(self) -> None:
@@ -186,7 +186,7 @@ class EpochLaws(Tests):
         for call, epoch in zip(calls, (2, 2, 1, 5)):
             with self.assertRaisesRegex(NoEpoch, f'there is no epoch {epoch}, only 3 to 4'):
                 call()
-        self.assertEqual(snapshot_read(log, 2, 0), (4, [], {'a': Holder(A, Promise(3, 6))}, None, Maintenance()))
+        self.assertEqual(plain_snapshot(log, 2, 0), (4, [], {'a': Holder(A, Promise(3, 6))}, None, Maintenance()))
         self.assertFalse(log.append(2, 3 * self.APPENDS, ['start,1']))
         self.assertEqual(list(log.read(3, 0)), ['start,3'] * 6)
         other.prune(2)

@@ -158,11 +158,12 @@ class Laws(Tests):
         self.assertTrue(log.acquire('a', A, EMPTY, self.TTL))
         self.pass_end(other)
         self.assertFalse(log.append(1, 0, ['recover,1']))
-        for is_taken in (False, True):
-            self.assertEqual(other.acquire('a', B, EMPTY, self.LONG), is_taken) if is_taken else None
+        for is_acquired in (False, True):
+            if is_acquired:
+                self.assertTrue(other.acquire('a', B, EMPTY, self.LONG))
             self.assertFalse(log.promise('a', A, Promise(1, 4)))
             self.assertFalse(log.renew('a', A, self.LONG))
-            self.assertEqual(live(other), {'a': Holder(B, EMPTY)} if is_taken else {})
+            self.assertEqual(live(other), {'a': Holder(B, EMPTY)} if is_acquired else {})
         log.release('a', A)
         self.assertEqual(live(other), {'a': Holder(B, EMPTY)})
 

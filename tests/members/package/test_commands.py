@@ -94,7 +94,7 @@ class Commands(InFolder):
         self.assertTrue(self.of_log('status')[1].startswith('epoch 7, events 0, token -, coordinator -\n'))
         put(self.opened(), 'recover,2')
         self.assertEqual(self.of_log('history', '--epoch', '7'), (0, f'{HEADER}\nrecover,2\n', ''))
-        new = self.requested_settings()
+        new = self.other_config()
         self.assertEqual(self.of_log('resize', '--config', str(new))[1], 'epoch 8: 3 nodes, 4 partitions\n')
         self.assertEqual(self.of_log('prune', '--keep', '1'), (0, 'epoch 8 is left\n', ''))
         with Member(self.opened(), 'b', print, print, settings=config_file.settings_in(str(self.config))) as member:
@@ -136,7 +136,7 @@ class Commands(InFolder):
                     self.assertIn(told, why)
 
     def test_repair(self) -> None:
-        """What is damaged is told, and cut once that is wanted and nobody holds a lease. What is lawful stays, and tokens
+        """Damage is reported, and cut once that is wanted and nobody holds a lease. What is lawful stays, and tokens
         are new."""
         no_row = "row 5: The row doesn't have the form of a row"
         missing = 'rows are missing, or there is something else between them'
@@ -212,7 +212,7 @@ class Commands(InFolder):
             self.assertEqual(self.of_log('history', *words), (0, f'{HEADER}\nrecover,2\nstart,2\nmove,2\n', ''))
 
     def test_drain(self) -> None:
-        """It is told, waited for, and refused where nobody would work."""
+        """A drain is noted and awaited, and is refused if no node would work."""
         self.of_log('init', '--config', str(self.config))
         log = self.opened()
         sessions = self.acquire(log, 'a', 'b')
@@ -253,7 +253,7 @@ class Commands(InFolder):
         self.assertEqual(
             self.of_log('drain', 'b'), (0, 'b is drained, and leaves once the group is not paused any more\n', '')
         )
-        new = self.requested_settings()
+        new = self.other_config()
         paused = 'bully-member: the group is paused, so no epoch ends; bully-member resume ends the pause\n'
         self.assertEqual(self.of_log('resize', '--config', str(new)), (1, '', paused))
         for _ in range(2):
@@ -354,12 +354,12 @@ class Commands(InFolder):
             self.assertEqual(status, 0, said)
             self.assertRegex(said, 'coordinator b\n')
             log.release('c', Session(8, number))
-        self.assertEqual(self.of_log('resize', '--config', str(self.requested_settings()), '--seconds', '0.01')[0], 1)
+        self.assertEqual(self.of_log('resize', '--config', str(self.other_config()), '--seconds', '0.01')[0], 1)
         status, said, _ = self.of_log('status')
         self.assertEqual(status, 1)
         self.assertRegex(said, 'coordinator b; not idle yet: b for [0-9.]+ s\n')
 
-    def requested_settings(self) -> Path:
+    def other_config(self) -> Path:
         """A configuration of other settings."""
         new = self.folder / 'new.toml'
         new.write_bytes(toml({**TOP, 'partitions': 4}))
@@ -370,7 +370,7 @@ class Commands(InFolder):
         self.of_log('init', '--config', str(self.config), '--ttl', '3')
         words = ['run', '--log', f'sqlite:{self.path}', '--node', 'a', '--ttl', '2', '--', 'true']
         self.assertEqual(call(*words), (2, '', 'bully-member: --ttl is 2, and the log has 3 for all members\n'))
-        new = self.requested_settings()
+        new = self.other_config()
         self.assertEqual(self.of_log('resize', '--config', str(new))[0], 0)
         store = store_options.FileStore(str(self.path))
         self.assertEqual(

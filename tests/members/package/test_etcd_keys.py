@@ -141,7 +141,7 @@ class Prefixes(InEtcd):
 
     ODD = (
         'x', 'x0', 'x-', 'xy', 'x/y', 'x.y', '/x', 'x//y', '..', ' x ', 'größer', '%2F', 'a?b#c', 'a=b&c', '"', "'\\",
-        '*', 'x,y', 'etcd://x/y', '0', 'logs', 'x/logs', 'holders', 'x\ny', '\U0001f600', 'x' * 1000,
+        '*', 'x,y', 'etcd://x/y', '0', 'logs', 'x/logs', 'presences', 'x\ny', '\U0001f600', 'x' * 1000,
     )  # fmt: skip
 
     def test_odd(self) -> None:
@@ -387,7 +387,7 @@ class Contents(InEtcd):
         )
 
     def test_repaired_keys(self) -> None:
-        """What is no append is told, and removed."""
+        """What is no append is reported, and removed."""
         for key, count in (('x', 3), ('0000000000x', 2), ('0000000001', 2)):
             log = self.begun(f'{self.address}/{key}')
             for rows in (['recover,1', 'recover,2'], ['recover,3']):
@@ -508,7 +508,7 @@ class OlderForm(InEtcd):
         self.store = EtcdStore(self.address, None, '', '')
 
     def test_refused(self) -> None:
-        with self.assertRaisesRegex(ForeignLog, 'older version, not of form 3; history writes it'):
+        with self.assertRaisesRegex(ForeignLog, 'older version, not of format 3; history writes it'):
             self.store.open()
         with self.assertRaises(LogExists):
             self.store.create(OPENING)

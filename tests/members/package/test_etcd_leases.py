@@ -10,7 +10,7 @@ from bully.clocks import SECOND
 from bully.core import Promise, Session
 from bully.epochs import Opening
 from bully.etcd import EtcdLog
-from bully.etcd_client import Client, range_at
+from bully.etcd_client import Client
 from bully.shared_log import ForeignLog, Holder, Unanswered
 from ..etcd_servers import Json, begin_alone
 from ..steps import EMPTY, LONG, OPENING, A, B, C, add, be_idle, live
@@ -126,13 +126,13 @@ class Promises(InEtcd):
             self.late(lambda: self.log.append(1, 0, ['recover,1'])),
         ]  # fmt: skip
         self.revoke(self.leases()['life/a'])
-        for is_taken in (False, True):
-            if is_taken:
+        for is_acquired in (False, True):
+            if is_acquired:
                 self.assertTrue(self.log.acquire('a', B, EMPTY, LONG))
                 self.assertTrue(self.log.promise('a', B, Promise(1, 3)))
             for late in lates:
                 self.assertFalse(self.is_done(late))
-            self.assertEqual(live(self.log), {'a': Holder(B, Promise(1, 3))} if is_taken else {})
+            self.assertEqual(live(self.log), {'a': Holder(B, Promise(1, 3))} if is_acquired else {})
             self.assertEqual(list(self.log.read(1, 0)), [])
 
     def test_a_late_acquire(self) -> None:
@@ -169,18 +169,18 @@ class Promises(InEtcd):
         """Whatever is requested meanwhile, the next epoch begins by the settings that were requested last."""
         self.log.release('a', A)
         self.assertTrue(self.log.acquire('a', A, EMPTY, LONG))
-        range_at, two = Opening(2, 'bully,1,2,4', ('a', 'b'), 500), Opening(2, 'bully,1,1,4', ('c',), 500)
+        one, two = Opening(2, 'bully,1,2,4', ('a', 'b'), 500), Opening(2, 'bully,1,1,4', ('c',), 500)
         late = self.late(lambda: self.log.roll_over(1, 0, OPENING.after(None)))
-        self.assertTrue(self.log.ask(range_at, 1))
+        self.assertTrue(self.log.ask(one, 1))
         self.assertFalse(self.is_done(late))
-        late = self.late(lambda: self.log.roll_over(1, 0, range_at))
+        late = self.late(lambda: self.log.roll_over(1, 0, one))
         self.assertTrue(self.log.ask(two, 1))
         self.assertFalse(self.is_done(late))
-        self.assertTrue(self.log.ask(range_at, 1))
+        self.assertTrue(self.log.ask(one, 1))
         self.assertFalse(self.is_done(late), 'it was asked for anew')
-        late = self.late(lambda: self.log.roll_over(1, 0, range_at))
+        late = self.late(lambda: self.log.roll_over(1, 0, one))
         self.assertTrue(self.is_done(late))
-        self.assertEqual((self.log.opening(), self.log.snapshot(2, 0).requested), (range_at, None))
+        self.assertEqual((self.log.opening(), self.log.snapshot(2, 0).requested), (one, None))
 
 
 class Lost(InEtcd):

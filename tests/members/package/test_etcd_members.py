@@ -200,7 +200,7 @@ class Commands(OverEtcd):
         """Its history is written, and all else is refused."""
         put_older(self.server, self.prefix)
         before = self.server.keys(self.prefix)
-        form = 'a log of an older version, not of form 3; history writes it as a trace, and init makes a new log'
+        form = 'a log of an older version, not of format 3; history writes it as a trace, and init makes a new log'
         for words in (
             ['status'],
             ['resize', '--config', self.config],

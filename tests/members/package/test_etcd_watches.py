@@ -175,7 +175,7 @@ class Watching(InEtcd):
         self.assertEqual(counts, [42, 0, 1, 2, 2, 42, 0])
 
     def test_damage(self) -> None:
-        """Whatever isn't as it has to be is left for a snapshot to find."""
+        """Whatever is damaged is left for a snapshot to find."""
         for key in ('presence/life/b', 'presence/promise/a', 'place'):
             self.log.snapshot(1, 0)
             before = self.server.keys(f'{self.prefix}/{key}').get(f'{self.prefix}/{key}')

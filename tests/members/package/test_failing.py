@@ -45,7 +45,7 @@ def wait_until(is_so: Callable[[], object]) -> None:
 
 
 class Counts(unittest.TestCase):
-    """Failures in a row, with a ttl of 10 s, at told times."""
+    """Failures in a row, with a ttl of 10 s, at given times."""
 
     def setUp(self) -> None:
         self.failures = Failures(3, 10.0)
@@ -110,7 +110,7 @@ class Counts(unittest.TestCase):
 
 
 class Returns(unittest.TestCase):
-    """For whom a node gives up, and when it comes back, with a ttl of 10 s, at told times."""
+    """For whom a node gives up, and when it comes back, with a ttl of 10 s, at given times."""
 
     def setUp(self) -> None:
         self.failures = Failures(1, 10.0)
@@ -153,8 +153,8 @@ class Returns(unittest.TestCase):
         self.log.give_up.assert_called_once_with('a', 'b', C)
 
     def test_how_often(self) -> None:
-        """It asks once in a quarter of the ttl, whatever a snapshot finds. Who leads takes away what is noted of others
-        that the group hasn't."""
+        """It asks once in a quarter of the ttl, whatever a snapshot finds. A leader removes the notes on nodes that the
+        group doesn't have."""
         self.failures.failed(100.0)
         asked = [self.asked(self.found({}), 100.0 + number) for number in range(6)]
         self.assertEqual(asked, [False, None, None, False, None, None])
@@ -260,7 +260,7 @@ class GivesUp(Threads):
         return set(self.shown.show().owners)
 
     def failing(self) -> dict[str, bool]:
-        """Whose work fails by what is shown, and who has given up."""
+        """Which nodes' work fails by what is shown, and which nodes have given up."""
         return {node.name: node.gave_up for node in self.shown.show().nodes if node.is_failing}
 
     def plans(self) -> int:
@@ -344,7 +344,7 @@ class GivesUp(Threads):
 
     def test_in_a_pause(self) -> None:
         """Nobody would take over, so nothing is given up before its end."""
-        self.ttl = 2.0  # that no lease ends
+        self.ttl = 2.0  # so that no lease ends
         self.begin_member(1, False)
         fails = self.begin_member(3, False, 1)
         wait_until(lambda: self.owners() == {'1', '3'})
@@ -417,7 +417,7 @@ class GivesUp(Threads):
         self.assertEqual((self.log.failing, thread.is_alive(), first.member.gave_up), ({'1': False}, False, False))
 
     def test_a_late_note(self) -> None:
-        """What was noted before, and comes after, is no order to try again: it is noted anew that the node gave up."""
+        """A note from before that comes late is no order to try again: it is noted anew that the node gave up."""
         self.begin_member(1, False)
         fails = self.begin_member(3, True, 1)
         wait_until(lambda: fails.member.gave_up and self.owners() == {'1'})

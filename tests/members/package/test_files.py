@@ -41,7 +41,7 @@ except LogError as fault:
 '''
 
 # Acquires a lease for so many seconds, and says what came of it; maybe as a version before time namespaces did.
-TAKES = '''
+ACQUIRES = '''
 import sys
 from bully import boots, sqlite
 from bully.clocks import SECOND
@@ -135,14 +135,14 @@ class Files(WithLogs):
         self.refused(ForeignLog)
 
     def test_another_form(self) -> None:
-        """A log of another version is told as one."""
+        """A log of another version is reported as one."""
         for form, word in ((1, 'an older'), (2, 'an older'), (4, 'another')):
             self.created().close()
             with sqlite3.connect(self.path) as other:
                 other.execute(f'pragma user_version = {form}')
             other.close()
             with self.subTest(form=form):
-                self.refused(ForeignLog, f'a log of form {form}, by {word} version, not of form 3')
+                self.refused(ForeignLog, f'a log of format {form}, by {word} version, not of format 3')
 
     def test_exists(self) -> None:
         self.created()
@@ -300,7 +300,7 @@ except LogError as fault:
                     call()
 
     def test_beside_a_link(self) -> None:
-        """The same by a symbolic link, which has nothing beside it; and it is told who keeps the lock."""
+        """The same by a symbolic link, which has nothing beside it; and who keeps the lock is reported."""
         self.begun().close()
         link = self.folder / 'link.db'
         link.symlink_to(self.path)
@@ -400,7 +400,7 @@ except LogError as fault:
         return [stat.S_IMODE(os.stat(f'{self.path}{end}').st_mode) for end in ('', '-wal', '-shm')]
 
     def test_for_a_group(self) -> None:
-        """The folder has to give its group what is made there."""
+        """The folder must give its group to the files that are made there."""
         shared = FileStore(str(self.path), is_shared=True)
         for mode in (0o700, 0o770, 0o2750):
             self.folder.chmod(mode)
@@ -497,11 +497,11 @@ except LogError as fault:
         seen = f'mount --bind {self.folder}/boot /proc/sys/kernel/random/boot_id'
         for seconds in ('2000', '5'):
             self.assertEqual(
-                in_mounts(self, seen, TAKES, str(self.path), seconds),
+                in_mounts(self, seen, ACQUIRES, str(self.path), seconds),
                 f'{self.path}: another boot may still hold leases\n',
             )
         log.release('a', A)
-        self.assertEqual(in_mounts(self, seen, TAKES, str(self.path), '5'), 'True\n')
+        self.assertEqual(in_mounts(self, seen, ACQUIRES, str(self.path), '5'), 'True\n')
         with self.assertRaisesRegex(ForeignLog, 'another boot has used it after this one'):
             log.renew('a', A, LONG)
 
@@ -511,7 +511,7 @@ except LogError as fault:
         refused, and may come again."""
         log = self.begun()
         for offset in (100_000, -10, 0):
-            for script in (TAKES, HOLDERS):
+            for script in (ACQUIRES, HOLDERS):
                 with self.subTest(offset=offset):
                     said = in_clocks(self, offset, script, str(self.path), '5')
                     self.assertEqual(said, f'{self.path}: {OTHER_CLOCK}\n')
@@ -520,7 +520,7 @@ except LogError as fault:
         self.assertTrue(log.promise('a', A, Promise(1, 1)))
         log.release('a', A)
         self.change("delete from log", 'update epochs set count = 0')  # so that the end is where that script takes one
-        self.assertEqual(in_clocks(self, 100_000, TAKES, str(self.path), '1000'), 'True\n')
+        self.assertEqual(in_clocks(self, 100_000, ACQUIRES, str(self.path), '1000'), 'True\n')
         calls: list[Callable[[], object]] = [
             lambda: log.acquire('a', A, EMPTY, LONG), lambda: log.snapshot(1, 0), lambda: self.opened().snapshot(1, 0),
             lambda: log.wait(1, 0, {}, Until.NEWS, PATIENCE),
@@ -531,17 +531,17 @@ except LogError as fault:
         self.change('update presence set until = since + 1')  # as if it hadn't been renewed
         self.assertTrue(log.acquire('a', A, EMPTY, LONG))
         self.assertEqual(live(log), {'a': Holder(A, EMPTY)})
-        self.assertEqual(in_clocks(self, 100_000, TAKES, str(self.path), '5'), f'{self.path}: {OTHER_CLOCK}\n')
+        self.assertEqual(in_clocks(self, 100_000, ACQUIRES, str(self.path), '5'), f'{self.path}: {OTHER_CLOCK}\n')
 
     def test_time_namespace_of_an_older_version(self) -> None:
-        """What a version left that told no namespace counts by the machine's clock, and by that of whoever comes: so it
-        keeps others out of its own namespace, too. That version is refused after a newer one."""
+        """Leases of a version that wrote no namespace count by the machine's clock, and by the clock of any later member:
+        so they keep others out of their own namespace, too. That version is refused after a newer one."""
         self.created().close()
-        both = f'{TAKES}\nsys.argv.remove("older")\nsqlite.boot_name = boots.boot_name\n{TAKES}'
+        both = f'{ACQUIRES}\nsys.argv.remove("older")\nsqlite.boot_name = boots.boot_name\n{ACQUIRES}'
         said = in_clocks(self, 100_000, both, str(self.path), '1000', 'older')
         self.assertEqual(said, f'True\n{self.path}: {OTHER_CLOCK}\n')
         self.created().close()
-        self.assertEqual(in_clocks(self, 100_000, TAKES, str(self.path), '1000'), 'True\n')
+        self.assertEqual(in_clocks(self, 100_000, ACQUIRES, str(self.path), '1000'), 'True\n')
         self.assertEqual(self.machine_boots(), [boots.boot_name()] * 2, 'an older version finds it, and not last')
 
     def machine_boots(self) -> list[str]:
@@ -621,7 +621,7 @@ except LogError as fault:
                 call()
 
     def test_restored(self) -> None:
-        """A backup is written over it while it is used: who has read more ends."""
+        """A backup is written over it while it is used: a member that has read more ends."""
         log = self.begun()
         backup = sqlite3.connect(self.folder / 'backup')
         with contextlib.closing(backup), contextlib.closing(sqlite3.connect(self.path)) as file:
@@ -701,7 +701,7 @@ class OlderForm(WithLogs):
     def test_refused(self) -> None:
         for reads in (False, True):
             with self.assertRaisesRegex(
-                ForeignLog, 'a log of form 2, by an older version, not of form 3; history writes it'
+                ForeignLog, 'a log of format 2, by an older version, not of format 3; history writes it'
             ):
                 self.store.open(reads=reads)
         with self.assertRaises(LogExists):

@@ -70,7 +70,7 @@ class Values(unittest.TestCase):
         return adapter.seen_of(Snapshot(1, (), holders, requested, maintenance), END, 'a', {'a': 1, 'b': 2, 'c': 3}, up.__contains__)
 
     def test_no_pause(self) -> None:
-        """Without one all is told as it is."""
+        """Without a pause a member is told everything as it is."""
         there = {'b': Holder(B, IDLE), 'a': Holder(A, WORKS)}
         wanted = Lease(1, A, WORKS), Lease(2, B, IDLE)
         self.assertEqual(self.seen(there, Maintenance(frozenset('b'))), Seen(1, wanted, False, False))
@@ -108,7 +108,7 @@ class Values(unittest.TestCase):
         )
 
     def test_a_change_that_was_under_way(self) -> None:
-        """If one that was there has promised the end it can't go on: all are told what there is."""
+        """If a member that was there has promised the end, it can't go on: all are told everything as it is."""
         there = {'a': Holder(A, WORKS), 'b': Holder(B, IDLE)}
         for maintenance in (Maintenance(sessions={'a': A, 'b': B}), Maintenance(sessions={'b': B})):
             self.assertEqual(
@@ -118,13 +118,13 @@ class Values(unittest.TestCase):
         self.assertTrue(self.seen(there, Maintenance(sessions={'a': A, 'b': C})).has_unknown, 'this session came later')
 
     def test_waits(self) -> None:
-        """An unknown process has to go before all can be idle, so nobody waits for the latter."""
+        """An unknown process must go before all can be idle, so nobody waits until all are."""
         for until in Until:
             self.assertEqual(adapter.awaited(until, Seen(1)), until)
             self.assertEqual(adapter.awaited(until, Seen(1, (), True)), Until.NEWS if until is Until.ALL_IDLE else until)
 
     def test_times(self) -> None:
-        """Each row is told with the time of its append, as far as that is kept."""
+        """Each row is shown with the time of its append, as far as that is kept."""
         rows, times = ['bully,1,3,6', 'recover,1', 'start,1', 'recover,2', 'recover,3'], {
             0: 1_700_000_000_007,
             2: None,
@@ -167,7 +167,7 @@ class Drains(unittest.TestCase):
         self.assertEqual(operations.drain(self.log, '1', False).drained, frozenset('1'))
 
     def test_pause(self) -> None:
-        """It is noted who was live at first."""
+        """It notes which nodes were live when it began."""
         self.assertTrue(self.log.acquire('2', B, Promise(1, 0), LONG))
         operations.drain(self.log, '3', False)
         self.assertEqual(operations.pause(self.log), Maintenance(frozenset('3'), {'2': B}))
@@ -387,12 +387,12 @@ class Maintained(Threads):
         self.begin_members(1, 2)
         self.become_stable(1, 2)
         self.log.pass_renewals('1', 2)
-        stable = self.snapshots(lambda: None)
+        while_stable = self.snapshots(lambda: None)
         rows = self.log.rows[:]
         operations.pause(self.log)
         self.begin_members(3)
         wait_until(lambda: '3' in self.log.holders)
-        self.assertLessEqual(self.snapshots(lambda: self.log.pass_renewals('3', 2)), 5 * stable + 4)
+        self.assertLessEqual(self.snapshots(lambda: self.log.pass_renewals('3', 2)), 5 * while_stable + 4)
         self.assertEqual((self.log.rows, self.members[3][1], list(self.owners())), (rows, [], [1, 2]))
         shown = view.LogView(self.log)
         self.addCleanup(shown.close)

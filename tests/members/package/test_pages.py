@@ -75,6 +75,17 @@ class Pages(Paged):
         thread.join()
         self.assertEqual(answers, [1])
 
+    def noted_snapshots(self) -> list[int]:
+        """The offsets of the snapshots that are read from now on."""
+        offsets: list[int] = []
+
+        def snapshot(epoch: int, offset: int) -> Snapshot:
+            offsets.append(offset)
+            return Troubled.snapshot(self.log, epoch, offset)
+
+        setattr(self.log, 'snapshot', snapshot)
+        return offsets
+
     def test_long_poll_over_epochs(self) -> None:
         """Events of another epoch are more, also if they are fewer."""
         answers: list[tuple[int, int]] = []
@@ -83,17 +94,11 @@ class Pages(Paged):
             told = json.loads(self.get('/group?after=2')[2])
             answers.append((told['epoch'], told['events']))
 
-        snapshot_read: list[int] = []
-
-        def snapshot(epoch: int, offset: int) -> Snapshot:
-            snapshot_read.append(offset)
-            return Troubled.snapshot(self.log, epoch, offset)
-
         put(self.log, 'recover,1', 'crash,1')
-        setattr(self.log, 'snapshot', snapshot)
+        offsets = self.noted_snapshots()
         thread = threading.Thread(target=poll)
         thread.start()
-        wait_until(lambda: len(snapshot_read) > 1)  # so it waits
+        wait_until(lambda: len(offsets) > 1)  # so it waits
         session, here = Session(1, 1), Promise(1, 2)
         self.assertTrue(
             self.log.acquire('unknown', session, here, LONG) and self.log.roll_over(1, 2, self.log.opening().next(None, ()))
@@ -140,7 +145,7 @@ class Pages(Paged):
         self.assertEqual(self.get('/healthz')[0], 503)
 
     def taken(self, client: socket.socket) -> bytes:
-        """It asks. The begin of the answer; nothing, if it is closed."""
+        """It asks. The start of the answer; nothing, if it is closed."""
         with contextlib.suppress(ConnectionError):
             client.sendall(b'GET / HTTP/1.1\r\nHost: localhost\r\n\r\n')
             return client.recv(100)
@@ -148,13 +153,7 @@ class Pages(Paged):
 
     def test_many_polls(self) -> None:
         """There is a bound of them, and all others are answered. They read snapshots no more often than one does."""
-        snapshot_read: list[int] = []
-
-        def snapshot(epoch: int, offset: int) -> Snapshot:
-            snapshot_read.append(offset)
-            return Troubled.snapshot(self.log, epoch, offset)
-
-        setattr(self.log, 'snapshot', snapshot)
+        offsets = self.noted_snapshots()
         statuses: list[int] = []
         threads = [
             threading.Thread(target=lambda: statuses.append(self.get('/group?after=0')[0]))
@@ -164,9 +163,9 @@ class Pages(Paged):
             thread.start()
         wait_until(lambda: vars(self.page._answers)['_polls']._value == 0)
         self.assertEqual(self.get('/group?after=0')[0], 503)
-        begun, before = seconds_of_boot(), len(snapshot_read)
-        wait_until(lambda: len(snapshot_read) > before + 5)
-        self.assertLessEqual(len(snapshot_read) - before, (seconds_of_boot() - begun) / page.SNAPSHOT_SECONDS + 1)
+        begun, before = seconds_of_boot(), len(offsets)
+        wait_until(lambda: len(offsets) > before + 5)
+        self.assertLessEqual(len(offsets) - before, (seconds_of_boot() - begun) / page.SNAPSHOT_SECONDS + 1)
         self.assertEqual((self.get('/healthz')[2], self.get('/metrics')[0], statuses), ('not live\n', 200, []))
         put(self.log, 'recover,1')
         for thread in threads:
@@ -181,7 +180,7 @@ class Pages(Paged):
         self.assertEqual(answers, {(503, 'the store does not answer\n')})
 
     def test_a_silent_store(self) -> None:
-        """Health, and what is measured of the member, are told all the same."""
+        """Health, and what is measured of the member, are shown all the same."""
         self.make(100.0)
         self.begin()
         wait_until(lambda: f'bully_node_live{page.labels(self.NAMES[1])} 1' in self.get('/metrics')[2])

@@ -263,7 +263,8 @@ os.kill(os.getpid(), signal.SIGSTOP)
         with contextlib.closing(LogView(self.opened())) as shown:
             self.assertEqual(list(shown.show().behind), ['the only'])
         self.assertEqual(member.end(), 1)
-        self.assertIn(' s; the lease of its node ends by itself\n', member.said)
+        told = 'the worker was killed, and has not ended for [0-9]+[.][0-9] s; the lease of its node ends by itself\n'
+        self.assertRegex(member.said, told)
         self.assertEqual(list(log.snapshot(1, 0).holders), ['the only'], 'nothing is given back')
         self.assertEqual(command.main([*resize, str(PATIENCE)]), 0)
         self.assertEqual(log.epochs()[-1], 2)

@@ -209,7 +209,7 @@ class Running(Threads):
         member.leave()
         member.end_with(KeyError('here'))
         thread.join(PATIENCE)
-        self.assertIsNone(member.failure)
+        self.assertEqual((thread.is_alive(), member.failure), (False, None))
 
     def test_a_log_that_fails(self) -> None:
         """Work stops once, whether or not it is stopping when its member ends by a fault of the log."""
@@ -299,7 +299,7 @@ class Running(Threads):
 
     def test_who_comes_again_and_again(self) -> None:
         """Its node is Down in the log, and it is admitted only once it has stayed, so that the others work on
-        meanwhile. A view that has read snapshots before knows for how long each session has to stay; a new one
+        meanwhile. A view that has read snapshots before knows for how long each session must stay; a new one
         doesn't."""
         log = MemoryLog(OPENING)
         rebalanced_without(log, '3')

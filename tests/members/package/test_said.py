@@ -29,8 +29,8 @@ class Said(unittest.TestCase):
             logger.info('number %d', number)
 
     def test_left_out(self) -> None:
-        """While nobody reads it finds some room, and what finds none is counted: that is told with the next message, or
-        at the end. All else is written, also if the pipe is one that doesn't block."""
+        """While nobody reads some messages find room, and the others are counted: the next message reports that, or the
+        end does. All else is written, also if the pipe is one that doesn't block."""
         for blocks, ends in ((True, False), (False, False), (True, True)):
             with self.subTest(blocks=blocks, ends=ends):
                 self.leave_out(blocks, ends)
@@ -97,8 +97,10 @@ class Services(InFolder):
             self.addCleanup(thread.join)
             self.addCleanup(member.leave)
             told.start()
-            yield lambda: manager.recv(1000)
-            told.close()
+            try:
+                yield lambda: manager.recv(1000)
+            finally:
+                told.close()
 
     def test_a_stuck_member(self) -> None:
         """It doesn't hear that a member goes on which takes no step."""

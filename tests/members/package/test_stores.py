@@ -1,9 +1,9 @@
 """Tests of logs in memory and in files by the laws of all stores."""
 from __future__ import annotations
 
-import threading
 import time
 import unittest
+from collections.abc import Callable
 from unittest import mock
 
 from bully import Setup, settings, sqlite
@@ -68,19 +68,20 @@ class WaitsInFile(WithLogs, Waits):
         """A wait goes on at the pace that one without news had reached, and starts fast again after news."""
         log, other = self.pair()
         sleeps: list[float] = []
+        news: list[Callable[[], object]] = []  # it comes at the next sleep
 
         def sleep(seconds: float, *descriptors: int | None) -> list[int]:
             sleeps.append(seconds)
+            while news:
+                news.pop()()
             return sleep_until_ready(seconds, *descriptors)
 
         with mock.patch.object(sqlite, 'sleep_until_ready', sleep):
             log.wait(1, 0, {}, Until.NEWS, 20 * sqlite.LONGEST_SLEEP)
             self.assertEqual(sleeps[0], sqlite.SHORTEST_SLEEP)
             sleeps.clear()
-            later = threading.Timer(0.1, other.acquire, ['1', A, EMPTY, self.LONG])
-            later.start()
+            news.append(lambda: other.acquire('1', A, EMPTY, self.LONG))
             log.wait(1, 0, {}, Until.NEWS, PATIENCE)
-            later.join()
             self.assertEqual(sleeps[0], sqlite.LONGEST_SLEEP)
             sleeps.clear()
             log.wait(1, 0, log.snapshot(1, 0).sessions, Until.NEWS, 0.1)

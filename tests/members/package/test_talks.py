@@ -122,7 +122,7 @@ class Talks(Below):
         workers.stop(assigned(0))
 
     def test_until(self) -> None:
-        """It is killed at that moment if it is at work, and else it stays."""
+        """It is killed at that moment if it is at work, otherwise it stays."""
         workers = self.begin('talks')
         worker = self.worker()
         workers.stop(assigned(0))

@@ -180,7 +180,7 @@ class Watchdogs(Below):
             wait_until(lambda: not thread.is_alive())
 
     def test_until(self) -> None:
-        """It is killed at that moment, also while it is stopped, and with what it started. Whose worker it was is told
+        """It is killed at that moment, also while it is stopped, and with what it started. Its member hears of that
         then."""
         workers = self.begin('stubborn', seconds=3.0)
         os.kill(self.worker, signal.SIGSTOP)
@@ -274,7 +274,7 @@ class Watchdogs(Below):
         self.assertEqual(self.failures, [])
 
     def test_stuck(self) -> None:
-        """A worker that doesn't end though it was killed is told of, and isn't waited for by a member that is to leave.
+        """A worker that doesn't end though it was killed is reported, and a member that must leave doesn't wait for it.
         Its watchdog is there until it has ended."""
         workers = self.made([sys.executable, '-c', WORKER, str(self.folder), 'stubborn'], 0.1, ttl=1.0)
         self.begin_again(workers)
@@ -418,8 +418,8 @@ class Watchdogs(Below):
         self.assertEqual((self.failures, self.lost), ([], []))
 
     def test_another_user(self) -> None:
-        """What can't be killed is told, and nothing is stopped, or begun again, until it is gone, also if its member is
-        to leave."""
+        """What can't be killed is reported, and nothing is stopped, or started again, until it is gone, also if its
+        member must leave."""
         if os.getuid() != 0:
             self.skipTest('only root can be somebody else')
         rooted = self.folder / 'rooted'
@@ -491,7 +491,7 @@ class Watchdogs(Below):
         workers.stop(assigned(0))
 
     def test_a_watchdog_that_is_stopped(self) -> None:
-        """It hears of no renewal, for which nobody waits. Behind that a worker begins all the same."""
+        """It hears of no renewal, for which nobody waits. After that a worker starts all the same."""
         workers = self.made(['sleep', '1000'], seconds=-1.0)
         self.addCleanup(os.kill, workers._watchdog.pid, signal.SIGCONT)
         os.kill(workers._watchdog.pid, signal.SIGSTOP)
@@ -557,8 +557,14 @@ os.kill(os.getpid(), signal.SIGSTOP)
         os.close(writes)
         self.assertEqual(ran.stdout, b'goes on\n')
 
+    def look_at(self, watch: watchdog.MemberWatchdog, *moments: int) -> None:
+        """It looks at its member at these moments."""
+        for moment in moments:
+            with mock.patch.object(watchdog, 'nanoseconds_of_boot', lambda: moment):
+                watch.look()
+
     def test_who_is_stopped(self) -> None:
-        """Who is stopped is killed in the middle of a write alone, and only if that lasts."""
+        """A member that is stopped is killed only in the middle of a write, and only if that lasts."""
         words = [sys.executable, '-c', WRITER, str(self.folder / 'group.db')]
         pipes: dict[str, Any] = {name: subprocess.PIPE for name in ('stdin', 'stdout')}
         with subprocess.Popen(words, universal_newlines=True, **pipes) as writer:
@@ -573,12 +579,9 @@ os.kill(os.getpid(), signal.SIGSTOP)
                     self.assertEqual(writer.stdout.readline(), said)
                     writer.send_signal(signal.SIGSTOP)
                     wait_until(lambda: processes.is_stopped(writer.pid))
-                    for moment in (0, watch.span - 1, watch.span - 1):
-                        with mock.patch.object(watchdog, 'nanoseconds_of_boot', lambda: moment):
-                            watch.look()
+                    self.look_at(watch, 0, watch.span - 1, watch.span - 1)
                     self.assertTrue(processes.is_stopped(writer.pid))
-                    with mock.patch.object(watchdog, 'nanoseconds_of_boot', lambda: 2 * watch.span):
-                        watch.look()
+                    self.look_at(watch, 2 * watch.span)
                     if said == 'idle\n':
                         self.assertTrue(processes.is_stopped(writer.pid))
                         writer.send_signal(signal.SIGCONT)

@@ -64,7 +64,7 @@ class Inits(WithLog):
         self.assertEqual(self.init(), (7, '', f'bully-member: {self.path}: something is there already\n'))
 
     def test_both_at_once(self) -> None:
-        """Another one makes the log after the snapshot."""
+        """Another process makes the log between the check that there is none and the creation."""
 
         def make(store: store_options.FileStore, opening: Opening) -> Log:
             made(store, opening).close()
@@ -109,7 +109,7 @@ class Inits(WithLog):
             with self.subTest(name=name):
                 status, said, told = call(name, '--log', self.log, *words)
                 self.assertEqual((status, said), (6, ''))
-                self.assertIn('a log of form 2, by an older version', told)
+                self.assertIn('a log of format 2, by an older version', told)
         self.path.write_text('something else')
         self.assertEqual(self.init('--if-missing')[0], 6)
 
@@ -218,7 +218,7 @@ class Configurations(WithLog):
                 self.assertEqual(self.init(), (3, '', f'bully-member: {self.config}{place}\n'))
 
     def test_what_groups_do_not_use(self) -> None:
-        """Neither `events` nor `turns` is needed; what is there has to be right."""
+        """Neither `events` nor `turns` is needed; what is there must be right."""
         for number, (missing, mark) in enumerate(((('events',), b''), (('turns',), b''), (('events', 'turns'), codecs.BOM_UTF8))):
             self.path = self.folder / f'{number}.db'
             self.log = f'sqlite:{self.path}'

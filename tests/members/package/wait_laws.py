@@ -159,7 +159,7 @@ class Waits(Tests):
             )
 
     def test_what_was_there(self) -> None:
-        """Nothing is awaited that is there already, also if it came before an earlier wait began, and whoever told of
+        """Nothing is awaited that is there already, also if it came before an earlier wait began, and whoever reported
         these sessions."""
         log, other = self.pair()
         begun = time.monotonic()

@@ -20,13 +20,13 @@ thread_local! {
     static GRANTED: Cell<u64> = const { Cell::new(u64::MAX) };
 }
 
-/// How many allocations this thread has, and hasn't given back.
+/// How many allocations this thread has made, and hasn't given back.
 pub fn held() -> i64 {
     HELD.get()
 }
 
-/// Runs the call, of which all allocations after the first so many are refused. Says whether one was.
-pub fn refused_behind<T>(granted: u64, call: impl FnOnce() -> T) -> (T, bool) {
+/// Runs the call, and refuses all its allocations after the first `granted`. Says whether one was refused.
+pub fn refused_after<T>(granted: u64, call: impl FnOnce() -> T) -> (T, bool) {
     GRANTED.set(granted + 1);
     let given = call();
     let was_refused = GRANTED.replace(u64::MAX) == 0;
@@ -103,7 +103,7 @@ unsafe impl GlobalAlloc for Aside {
     }
 
     unsafe fn dealloc(&self, pointer: *mut u8, _: Layout) {
-        // SAFETY: the place is one of `alloc`.
+        // SAFETY: the pointer is one of `alloc`.
         unsafe { __libc_free(pointer.cast()) }
     }
 }

@@ -22,10 +22,10 @@ pub enum PublishFault {
 }
 
 impl<L: Naming> Locked<L> {
-    /// Shows observers the whole history. Whoever learns what is told of it sees no less from then on. Refused, in this
-    /// order, as `NotWatched`, `Foreign`, never for a seat without an entry, and as `OutOfMemory`, also where the
-    /// publisher has no place for one told more ([`bully_watch::Publisher::publish`]); then observers see what they
-    /// saw.
+    /// Shows observers the whole history. An observer that learns what is told of it sees no less from then on.
+    /// Refused, in this order, as `NotWatched`, `Foreign`, never for a seat without an entry, and as `OutOfMemory`,
+    /// also where the publisher has no place for one told more ([`bully_watch::Publisher::publish`]); then observers
+    /// see what they saw.
     pub fn publish<R: Wait>(&mut self, rt: &R, seat: &Seat) -> Result<Told, PublishFault>
         ensures told { IfOk result (λ told. (L.publisher ≡ Some told.publisher) × (told.entries ≡ self.old.history)) }
         ensures shows { OnOk result (Shows self.old self.new) }

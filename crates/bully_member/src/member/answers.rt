@@ -1,4 +1,4 @@
-//! How a member takes in the answers of the store, and what it is told of its work and its end.
+//! How a member takes in the answers of the store, and what is reported to it of its work and its end.
 ghost use Rattle.std.specs.Prelude.{◌≡◌, None, Some, true};
 ghost use Rattle.bully_member.specs.Told.{answered, end_for, lost_by, renewed_by, acquired_by, to_end_session};
 ghost use Rattle.bully_member.specs.Told.{to_snapshot, to_pause, when_answered, when_appended, when_rolled_over};
@@ -152,7 +152,7 @@ impl Member {
         self.needs_snapshot = true;
     }
 
-    /// The member has to leave in an orderly way.
+    /// The member must leave in an orderly way.
     pub fn leave(&mut self)
         ensures { self.new ≡ end_for self.old Ending.Left self.old.ending }
     {
@@ -168,7 +168,7 @@ impl Member {
         }
     }
 
-    /// The work that was begun by this token has ended outside the member.
+    /// The work that was started by this token has ended outside the member.
     pub fn lost(&mut self, token: u32)
         ensures { self.new ≡ record self.old { work = lost_by self.old.work token } }
     {

@@ -41,14 +41,14 @@ impl Member {
         taken
     }
 
-    /// The rows that a snapshot found can't even be read as rows: the member ends as `Broken`.
+    /// The text that a snapshot found can't be read as rows: the member ends as `Broken`.
     pub fn broken(&mut self)
         ensures { self.new ≡ end_for self.old EndingState.Broken self.old.ending }
     {
         self.end_for(Ending::Broken);
     }
 
-    /// What the current epoch began with: the member goes on there with its session, and has learned nothing of the
+    /// What the current epoch starts with: the member goes on there with its session, and has learned nothing of the
     /// log. Nothing changes if no `Follow` is awaited. If the epoch is no later one than the member's, the member's
     /// isn't over, and it reads a snapshot again after a pause. Refused, and then nothing changes, as the first of
     /// these that holds: `BadNode`, `TableLength`, `BadRowsMax`, `OutOfMemory`.

@@ -26,8 +26,8 @@ use bully_rebalance::{is_stable, may_work};
 
 impl Member {
     /// What it does now: the first rule of docs/REBALANCING.md that applies. The member notes that it does this. As
-    /// long as its last request isn't answered, it asks for nothing else: if nothing else answers the request,
-    /// [`Member::answered`] has to.
+    /// long as its last request isn't answered, it asks for nothing else: if no other call reports the answer,
+    /// [`Member::answered`] must.
     pub fn next(&mut self, now: u64) -> Step
         ensures due { (is_stable are_down : Bool) → (IsTrue is_stable ↔ SeesStable self.old now)
             → (IsTrue are_down ↔ AllAreDown self.old) → result ≡ due self.old now is_stable are_down }
@@ -78,7 +78,7 @@ impl Member {
         self.step_unless_awaiting(now, is_stable, are_down)
     }
 
-    // Nothing has to be stopped.
+    // No work must stop.
     fn step_unless_awaiting(&self, now: u64, is_stable: bool, are_down: bool) -> Step
         ensures { result ≡ step_unless_awaiting self.now now is_stable are_down self.now.asked }
     {
@@ -88,7 +88,7 @@ impl Member {
         }
     }
 
-    // Nothing has to be stopped, and nothing is awaited.
+    // No work must stop, and nothing is awaited.
     fn step_by_work(&self, now: u64, is_stable: bool, are_down: bool) -> Step
         ensures { result ≡ step_by_work self.now now is_stable are_down self.now.work }
     {
@@ -100,7 +100,7 @@ impl Member {
         }
     }
 
-    // Its work has to end. Meanwhile the lease is renewed.
+    // Its work must end. Meanwhile the lease is renewed.
     fn stopping_step(&self, now: u64) -> Step
         ensures { result ≡ stopping_step self.now now self.now.session }
     {
@@ -161,7 +161,7 @@ impl Member {
         may_work(self.learned.replica(), self.terms.node, self.promised)
     }
 
-    // Nothing has to be stopped, and something may be asked for.
+    // No work must stop, and something may be asked for.
     fn session_step(&self, now: u64, is_stable: bool, are_down: bool) -> Step
         ensures { result ≡ session_step self.now now is_stable are_down self.now.session }
     {
@@ -289,7 +289,7 @@ impl Member {
         self.leaving_step(are_down, session)
     }
 
-    // It was told to leave: if it is the last one, it has all nodes crash before it goes.
+    // It was asked to leave: if it is the last one, it has all nodes crash before it goes.
     fn leaving_step(&self, are_down: bool, session: SessionId) -> Step
         ensures { result ≡ leaving_step self.now are_down session }
     {
@@ -346,7 +346,7 @@ impl Member {
 
     /// Whether the group is stable for the member, by its last snapshot: it is stable among the nodes that are admitted
     /// now, by a plan at or after each offset that one of them has promised, and after all that the member's own
-    /// session has promised; and the epoch doesn't have to roll over.
+    /// session has promised; and the epoch needn't roll over.
     pub fn is_stable(&self, now: u64) -> bool
         ensures { IsTrue result ↔ SeesStable self.now now }
     {
@@ -447,7 +447,7 @@ impl Member {
         self.offset() + REBALANCE_MAX * nodes <= self.terms.rows_max
     }
 
-    // Whether the epoch has to roll over.
+    // Whether the epoch must roll over.
     fn is_closing(&self) -> bool
         ensures { result ≡ is_closing self.now }
     {
@@ -517,7 +517,7 @@ fn are_of(leases: &[Lease], node: Node) -> bool
     leases.iter().all(|lease| lease.node == node)
 }
 
-// How much longer the session that holds the lease of a node has to stay until it is admitted.
+// How much longer the session that holds the lease of a node must stay until it is admitted.
 fn stay_left(arrivals: &[Arrival], now: u64, node: Node) -> u64
     ensures { result ≡ stay_left arrivals.now now node }
 {

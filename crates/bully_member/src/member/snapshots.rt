@@ -140,7 +140,7 @@ fn note_arrival(arrivals: &mut [Arrival], lease: Lease, ttl: u64, now: u64)
     }
 }
 
-// What is noted of a session that holds the lease of a node, of which this was noted before.
+// What is noted of a session that holds the lease of a node, after this was noted for that node.
 fn arrived(before: Arrival, session: SessionId, ttl: u64, now: u64) -> Arrival
     requires { ttl ≤ TTL_MAX }
     ensures { result ≡ arrived before session ttl now }
@@ -155,7 +155,7 @@ fn arrived(before: Arrival, session: SessionId, ttl: u64, now: u64) -> Arrival
     }
 }
 
-// How long a new session has to stay.
+// How long a new session must stay.
 fn stay_of(before: Arrival, ttl: u64, now: u64) -> u64
     requires { ttl ≤ TTL_MAX }
     ensures { result ≡ stay_of before ttl now }

@@ -45,7 +45,7 @@ impl<T: Held> Model for Calling<T> {
         IsProcedureState (state_at s.identity (T.point s.held) (T.up s.held) (T.coordinator s.held) s.awaits) };
 }
 
-/// What begins as the state of a procedure.
+/// What starts as the state of a procedure.
 pub trait Begins: Held {
     /// Makes the procedure its node's that holds this.
     fn begin(self, procedure: &mut Procedure, awaits: bool)

@@ -6,7 +6,7 @@ use crate::Procedure;
 use crate::states::{Begins, Calling, Held};
 use bully_base::{Node, NodeSet};
 
-/// An election has begun, as in the 1982 paper: the node asks each higher node in rising order whether it is up.
+/// An election has started, as in the 1982 paper: the node asks each higher node in rising order whether it is up.
 pub type Asking = Calling<Asked>;
 
 /// Which higher node is asked next: one above the last where none is left.

@@ -4,7 +4,7 @@ ghost use Rattle.bully_base.specs.Setup.{IsSetup, IsNode, IsNodeNumber};
 use bully_base::{Node, Setup};
 use std::marker::Model;
 
-/// Whose procedure it is, and of which of its generations.
+/// Which node's procedure it is, and which of its generations.
 #[derive(Clone, Copy, Debug)]
 pub struct Identity {
     pub setup: Setup,

@@ -11,7 +11,7 @@ use std::marker::Model;
 #[derive(Drop, Debug)]
 pub struct Idle {
     pub(crate) identity: Identity,
-    // No call is under way, so it is of no meaning. With a field behind the identity, that stays where it lies when a
+    // No call is under way, so it is of no meaning. With a field after the identity, that stays where it lies when a
     // procedure ends, and isn't copied out and in.
     pub(crate) awaits: bool,
 }

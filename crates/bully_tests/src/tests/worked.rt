@@ -25,7 +25,7 @@ ghost use Rattle.bully_calls.specs.declared.event.Event.{Event};
 ghost use Rattle.bully_calls.specs.declared.event.Refused.{Refused};
 
 /// The scripts come out as this project's profile prints them. A number after a script counts events: `After`, `Goes`
-/// and the claims that a trace saw speak of the world behind the first so many, `IsRefusedAt` and `IsAnsweredAt` of the
+/// and the claims that a trace saw speak of the world after the first so many, `IsRefusedAt` and `IsAnsweredAt` of the
 /// event that follows them, and `EndsAs` of them all. A lawful list leads to one world, so each claim is of *the*
 /// world.
 pub fn worked_scripts()

@@ -30,7 +30,7 @@ impl Sums {
         }
     }
 
-    // Plans from the old table for the members of these bits, and adds the plan. A sum goes on at 0 behind the largest
+    // Plans from the old table for the members of these bits, and adds the plan. A sum goes on at 0 after the largest
     // number. None where there is no plan, as for a table of another length.
     fn add_plan(&mut self, alloc: Global, setup: &Setup, old: &Table, bits: u64) -> Option<()> {
         let members = members_of(bits);
@@ -99,7 +99,7 @@ fn random_table(alloc: Global, setup: &Setup, random: &mut SplitMix64) -> Option
     Table::read_in(alloc, setup, text.trim_start().as_bytes()).ok()
 }
 
-// Random owners, each behind a space.
+// Random owners, each after a space.
 fn write_owners(text: &mut String, random: &mut SplitMix64) -> Option<()> {
     for _ in 0..PARTITIONS {
         let owner = random.next_u64() % u64::from(NODES) + 1;

@@ -394,7 +394,7 @@ fn number_of(coordinator: Option<Node>) -> u64 {
 }
 
 // Looks until no job is left that it waits for, and gives the processor away after each look, since a publish waits
-// for a look that has begun. None where a count falls.
+// for a look that has started. None where a count falls.
 fn look_on(observer: &mut Observer, left: &AtomicU64) -> Option<Watched> {
     let mut seen = 0;
     for looks in 0..u64::MAX {

@@ -25,7 +25,7 @@ pub enum Call {
     Follow(Version),
 }
 
-/// The calls, from the lowest crate's on; `/2` or `/3` stands behind one that is tried with a trace of that version,
+/// The calls, from the lowest crate's on; `/2` or `/3` comes after one that is tried with a trace of that version,
 /// too. `Setup::weighted`, `Walk::apply` and `Replica::learn` take no memory: the last two are tried with all events of
 /// an election.
 pub const CALLS: [(&str, Call); 65] = [

@@ -46,7 +46,7 @@ fn planned<L: Naming>(alloc: Global, opened: &Opened<L>) -> Option<Procedure> {
     }
 }
 
-// The same with the procedure. It is made again on what a refusal left, which has to read as before.
+// The same with the procedure. It is made again on what a refusal left, which must read as before.
 fn change_with<L: Naming, R: Print>(
     trial: &Trial<R>,
     change: Change,

@@ -18,7 +18,7 @@ pub fn finish_call<L: Naming, R: Print + Wait>(
     }
 }
 
-// What came back has to read as before, and is finished then.
+// What came back must read as before, and is finished then.
 fn finish_again<L: Naming, R: Print + Wait>(
     trial: &Trial<R>,
     opened: Opened<L>,

@@ -85,7 +85,7 @@ fn open_by<L: Naming>(
     }
 }
 
-// A call on a group behind those events that come before it. The group is ended then; the call that opened it was
+// A call on a group after those events that come before it. The group is ended then; the call that opened it was
 // refused at first, or not.
 fn opened_call<L: Naming, R: Print + Wait>(
     trial: &Trial<R>,

@@ -66,7 +66,7 @@ fn learn_call<R: Print>(trial: &Trial<R>, replica: &mut Replica) -> Option<Outco
     }
 }
 
-// What the node that plans appends next, where it plans.
+// What the node that plans appends next, when it plans.
 fn next_call<R: Print>(trial: &Trial<R>, replica: &mut Replica) -> Option<Outcome> {
     let node = trial.plan.node();
     if !learns(replica, trial.before_plan) || replica.world().setup().nodes() < node.number() {
@@ -98,7 +98,7 @@ fn owned_call<R: Print>(trial: &Trial<R>, replica: &mut Replica) -> Option<Outco
     trial.outcome(owned(trial.alloc, replica, node, 0), "AllocError")
 }
 
-// Learns the events, and tells whether none was refused.
+// Learns the events, and returns whether none was refused.
 fn learns(replica: &mut Replica, events: &[Event]) -> bool {
     for event in events {
         if replica.learn(event).is_err() {

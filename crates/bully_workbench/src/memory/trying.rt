@@ -45,12 +45,12 @@ impl<'a, R: Print> Trial<'a, R> {
         let _ = self.rt.println("called");
     }
 
-    /// Comes right behind the call.
+    /// Comes right after the call.
     pub fn end(&self) {
         let _ = self.rt.println("answered");
     }
 
-    /// Comes right behind the call, too: what became of it. Its fault for want of memory reads as `refusal`; None for
+    /// Comes right after the call, too: what became of it. Its fault for want of memory reads as `refusal`; None for
     /// another one.
     pub fn outcome<T: Debug + Drop, E: Debug + Drop>(
         &self,
@@ -106,7 +106,7 @@ impl Text {
         Text { text, is_whole }
     }
 
-    /// The text of a value, and behind it that of another one.
+    /// The text of a value, and after it that of another one.
     pub fn of_both<T: Debug, U: Debug>(alloc: Global, first: &T, second: &U) -> Text {
         let mut text = Text::of(alloc, first);
         text.add(second);

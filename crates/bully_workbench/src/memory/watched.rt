@@ -337,7 +337,7 @@ fn shown_by<R: Print + Wait>(
     }
 }
 
-// The observer has to see what it saw, and the history is published.
+// The observer must see what it saw, and the history is published.
 fn shown_again<R: Print + Wait>(
     trial: &Trial<R>,
     publisher: &mut Publisher,

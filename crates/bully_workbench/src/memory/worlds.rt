@@ -142,7 +142,7 @@ fn entry_copy_call<R: Print>(trial: &Trial<R>) -> Option<Outcome> {
     trial.outcome(entry.copy(), "AllocError")
 }
 
-// A view of the world behind all of the events.
+// A view of the world after all of the events.
 fn view_behind_call<R: Print>(trial: &Trial<R>) -> Option<Outcome> {
     match run(trial.alloc, trial.setup, trial.events) {
         Ok((world, _)) => view_call(trial, &world),
@@ -184,7 +184,7 @@ fn walk_view_call<R: Print>(trial: &Trial<R>, walk: &mut Walk) -> Option<Outcome
     trial.outcome(walk.view(), "AllocError")
 }
 
-// Takes the walk behind all of the events, and tells whether it comes there.
+// Takes the walk after all of the events, and tells whether it comes there.
 fn apply(walk: &mut Walk, events: &[Event]) -> bool {
     for event in events {
         if walk.apply(event).is_err() {
@@ -241,7 +241,7 @@ fn prepare_in_place<R: Print>(trial: &Trial<R>, procedure: &mut Procedure) -> Op
     }
 }
 
-// What is left has to read as before, and is prepared.
+// What is left must read as before, and is prepared.
 fn is_prepared_again(alloc: Global, procedure: &mut Procedure, before: &Text) -> bool {
     Text::of(alloc, procedure).is_same(before) && procedure.prepare(alloc, None).is_ok()
 }
@@ -266,7 +266,7 @@ fn prepare<R: Print>(trial: &Trial<R>, planning: Planning) -> Option<Outcome> {
     }
 }
 
-// The planning that came back has to read as before, and is prepared.
+// The planning that came back must read as before, and is prepared.
 fn prepare_again<R: Print>(trial: &Trial<R>, planning: Planning, before: &Text) -> Option<Outcome> {
     if !Text::of(trial.alloc, &planning).is_same(before) {
         return None;

@@ -5,7 +5,7 @@ use bully_rows::{ROWS_MAX, Row, Rows, Trace, write_trace};
 use std::alloc::Global;
 use std::io::Write;
 
-/// A network to simulate: so many nodes, a seed, so many steps, and the premise that is broken.
+/// A network to simulate: the number of nodes, a seed, the number of steps, and the premise that is broken.
 #[derive(Clone, Copy)]
 pub struct Simulation {
     pub nodes: u16,
@@ -73,7 +73,7 @@ fn network_of(alloc: Global, setup: &Setup, simulation: &Simulation) -> Option<N
     Some(network)
 }
 
-// The trace with these rows; none where they are too many.
+// The trace with these rows; none if they are too many.
 fn trace_of(setup: Setup, rows: Vec<Row>) -> Option<Trace> {
     if rows.len() <= ROWS_MAX as usize {
         Some(Trace::new(setup, Rows::from_vec(rows)))

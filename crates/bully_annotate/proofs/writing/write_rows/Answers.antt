@@ -1,6 +1,6 @@
 use Rattle.std.proofs.Common.{refl, rules}
 use Rattle.std.proofs.lemmas.Option.{slice_get_read}
-use Rattle.bully_annotate.proofs.SaysLemmas.{goes-on-at, goes-on-first, goes-on-last, goes-on-too-far}
+use Rattle.bully_annotate.proofs.SaysLemmas.{goes-on-at, goes-on-first}
 use Rattle.bully_annotate.proofs.writing.write_rows.Goals as goal
 
 pub loop-row-init : goal.loop-row-init

@@ -1,5 +1,5 @@
 -- What is written speaks of what the handle has, which stays.
-use Rattle.std.proofs.Common.{ap, refl, subst}
+use Rattle.std.proofs.Common.{refl, subst}
 use Rattle.bully_replica.specs.RowReplica.{RowReplicaState}
 use Rattle.bully_c.specs.Replicas.{IsNextRow, IsWritten, RefusesNext}
 use Rattle.bully_replica.specs.RowReplica.{RowReplicaState}

@@ -73,7 +73,7 @@ pub enum Ask {
 /// A group, watched by two observers or by nobody, whose procedure is held, and what is asked. Then the seats may be
 /// used on another group. A line is told of each ask, and then one of a finish without the last seat, one without the
 /// last pass, and one of the finish with all of them. Of a finished group a line more tells the view of the node; and
-/// where it is watched, there is a look of the first observer then, and one once it is ended. The history begins with
+/// where it is watched, there is a look of the first observer then, and one once it is ended. The history starts with
 /// these entries.
 #[derive(Clone, Copy)]
 pub struct Case {
@@ -178,7 +178,7 @@ fn event_of(alloc: Global, setup: &Setup, action: &Action, number: u16) -> Optio
     })
 }
 
-/// Whether what has to be told of the case is told, and its history is as it has to be.
+/// Whether what must be told of the case is told, and its history is as it must be.
 pub fn tried<R: Wait>(rt: &R, alloc: Global, way: Way, case: &Case) -> bool {
     let Ok(setup) = Setup::new(case.nodes, case.partitions, case.events_max) else {
         return false;
@@ -468,7 +468,7 @@ fn tell_view(text: &mut String, view: &View, number: u16) {
     }
 }
 
-/// Tells of the group's end. Whether this is told of the group, and its history, if it is finished, begins with these
+/// Tells of the group's end. Whether this is told of the group, and its history, if it is finished, starts with these
 /// entries.
 pub fn ends_as<L: Naming, R: Wait>(
     rt: &R,
@@ -514,7 +514,7 @@ fn begins_with(alloc: Global, closed: &Closed, history: &[(u16, Action, u16, Ans
     is_same
 }
 
-// Whether the entry at this place is as it has to be.
+// Whether the entry at this place is as it must be.
 fn is_entry(
     alloc: Global,
     closed: &Closed,

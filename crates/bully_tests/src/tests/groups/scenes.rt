@@ -1,4 +1,4 @@
-//! What is done with watched groups of one node, and what has to be told of it.
+//! What is done with watched groups of one node, and what must be told of it.
 
 use super::asks::{Action, Ask, Call, Case};
 use super::observers::{Place, Watch, Which};

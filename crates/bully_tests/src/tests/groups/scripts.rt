@@ -249,7 +249,7 @@ entries: 8
     ],
 };
 
-// Node 2 is halted while its Ready is under way, and begins a new election; its turn drops the orphan, and the next one
+// Node 2 is halted while its Ready is under way, and starts a new election; its turn drops the orphan, and the next one
 // starts the call of that election.
 const DROPPED_CALL: Case = Case {
     nodes: 3,

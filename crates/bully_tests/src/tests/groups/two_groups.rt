@@ -217,7 +217,7 @@ entries: 2
     ..FOREIGN
 };
 
-/// Whether what has to be told of the second group is told, if there is one. These are the seats of the first.
+/// Whether what must be told of the second group is told, if there is one. These are the seats of the first.
 pub fn used_as_told<R: Wait>(
     rt: &R,
     alloc: Global,

@@ -111,7 +111,7 @@ impl Case {
         best
     }
 
-    // Adds the list of this number as a text, with a space behind each owner.
+    // Adds the list of this number as a text, with a space after each owner.
     // (where there is no memory for it, the text is no such list)
     fn add_list(self, text: &mut String, list: u32) {
         for place in 0..self.partitions {

@@ -1,17 +1,20 @@
-//! What rebalances a group, and on what a node's process may work then.
+//! Which events rebalance a group, and on what a node's process may work then.
 
 use super::replicas::replica_of;
 use super::{set_of, setup};
 use crate::tests::scripts::ALL_UP;
 use bully_base::{Node, Setup};
-use bully_rebalance::{RebalanceFault, is_stable, may_work, owned, rebalance};
+use bully_rebalance::{
+    Keeper, Partitions, RebalanceFault, coming_table, is_stable, leaves, leaves_all, left_of,
+    may_work, owned, rebalance,
+};
 use bully_replica::Replica;
 use bully_table::Table;
 use bully_world::Event;
 use std::alloc::Global;
 
-/// Whom a settled group has: how many events settle it, the last plan's token then, and on what a node's process may
-/// work behind the log that was settled.
+/// A rebalanced group: how many events rebalance it, the last plan's token then, and on what a node's process may work
+/// after the log to which these events are appended.
 struct Settled {
     events: usize,
     token: u32,
@@ -89,7 +92,7 @@ fn owns(alloc: Global, replica: &Replica, place: u32, want: &Settled) -> bool {
     }
 }
 
-// Whether so many events rebalance the group of this log, and what comes of them.
+// Whether this many events rebalance the group of this log, and this comes of them.
 fn is_settled(alloc: Global, text: &str, numbers: &[u16], want: &Settled) -> bool {
     let Some(mut replica) = replica_of(alloc, text) else {
         return false;
@@ -172,4 +175,39 @@ fn keeps_to(alloc: Global, setup: Setup, text: &str) -> bool {
 fn a_table_of_the_epoch_before(rt: HostRuntime) {
     assert!(rt; keeps_to(rt.alloc(), setup(&rt, 3, 3, 26), "3 1 2"));
     assert!(rt; !keeps_to(rt.alloc(), setup(&rt, 3, 3, 26), "3 1 1"));
+}
+
+// The coming table of a rebalance of this log among these nodes.
+fn table_of(alloc: Global, text: &str, numbers: &[u16]) -> Option<Table> {
+    let replica = replica_of(alloc, text)?;
+    let live = set_of(numbers);
+    if live.is_empty() || !replica.world().setup().has_all(&live) {
+        return None;
+    }
+    coming_table(alloc, &replica, &live, None).ok()
+}
+
+/// Three nodes own a partition each, and node 3 dies: which of these partitions the coming table leaves node 1.
+const LEFT: [(&[u16], &[u16]); 4] = [(&[], &[]), (&[0], &[0]), (&[0, 1, 2], &[0, 2]), (&[1], &[])];
+
+// Whether that table leaves node 1 exactly these of the partitions, and all only if these are all.
+fn is_left(alloc: Global, kept: &[u16], want: &[u16]) -> Option<bool> {
+    let table = table_of(alloc, ALL_UP, &[1, 2])?;
+    let node = Node::new(1)?;
+    let partitions = Partitions::from_vec(Vec::from_slice(alloc, kept).ok()?);
+    let keepers = [Keeper { node, partitions }];
+    let left = left_of(alloc, &table, node, kept).ok()?;
+    let are_all = left.len() == kept.len();
+    Some(
+        left.as_slice() == want
+            && leaves(&table, node, kept) == are_all
+            && leaves_all(&table, &keepers) == are_all,
+    )
+}
+
+#[test]
+fn what_a_rebalance_leaves(rt: HostRuntime) {
+    for (kept, want) in LEFT.iter() {
+        assert_eq!(rt; is_left(rt.alloc(), *kept, *want), Some(true));
+    }
 }

@@ -11,7 +11,7 @@ use bully_world::{Event, Refused, World};
 use std::alloc::Global;
 
 /// What a view shows: how many events there were and how many nodes there are; and of each node the status, the
-/// coordinator, and its task's owners, of which there are none without a task.
+/// coordinator, and its task's owners, none without a task.
 struct ExpectedView {
     events: u32,
     nodes: u16,

@@ -33,7 +33,7 @@ const READS: [(usize, u32); 9] = [
     (111, 14),
 ];
 
-// Whether a script of so many bytes, behind which the reader fails, is neither judged nor upgraded nor read, for that
+// Whether a script of so many bytes, after which the reader fails, is neither judged nor upgraded nor read, for that
 // at this row, and nothing is written.
 fn fails_behind(alloc: Global, bytes: usize, row: u32) -> bool {
     let Some(text) = OTHERS_DOWN.as_bytes().get(..bytes) else {
@@ -118,7 +118,7 @@ fn fault_of(alloc: Global, writing: Writing, writer: &mut Failing) -> Option<Tra
     }
 }
 
-// Whether this is told of a writer that fails behind so many bytes, and it has taken just the first of the text.
+// Whether this is told of a writer that fails after so many bytes, and it has taken just the first of the text.
 fn takes_a_prefix(
     alloc: Global,
     writing: Writing,
@@ -134,7 +134,7 @@ fn takes_a_prefix(
     told == fault && text.as_bytes().get(..bytes) == Some(writer.taken.as_slice())
 }
 
-// Behind how many bytes a failed write isn't told, or more or others were taken than these; none is wanted.
+// After how many bytes a failed write isn't told, or more or others were taken than these; none is wanted.
 fn first_wrong(alloc: Global, writing: Writing, text: &str) -> Option<usize> {
     for bytes in 0..text.len() {
         if !takes_a_prefix(alloc, writing, text, bytes, Some(UNWRITTEN)) {

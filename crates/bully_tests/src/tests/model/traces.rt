@@ -37,7 +37,7 @@ fn upgrades_to(alloc: Global, text: &str, rows: u32, expected: &str) -> bool {
     told == Ok(rows) && output.as_slice() == expected.as_bytes()
 }
 
-/// A trace, how many rows it has behind its header, and what an upgrade writes.
+/// A trace, how many rows it has after its header, and what an upgrade writes.
 const UPGRADES: [(&str, u32, &str); 9] = [
     (ALONE, 6, ALONE_UPGRADED),
     (ALONE_UPGRADED, 6, ALONE_UPGRADED),

@@ -257,7 +257,7 @@ fn refused_reply(agent: &mut Agent, reply: Reply) -> Option<Refused> {
     agent.replied(reply).err()
 }
 
-// Whether the node, which recovers and begins a call, refuses a reply to another one, and takes one to this call, once.
+// Whether the node, which recovers and starts a call, refuses a reply to another one, and takes one to this call, once.
 fn takes_its_reply(agent: &mut Agent) -> Option<bool> {
     let recovered = agent.apply(NodeEventKind::Recover).err();
     let started = agent.apply(NodeEventKind::Start).err();

@@ -20,7 +20,7 @@ pub enum Rule {
     Open,
     /// Nodes 1 and 2 wait for each other before their first turns.
     Meeting,
-    /// Node 1 waits before its first turn until the operator has taken its own, behind which the operator waits until
+    /// Node 1 waits before its first turn until the operator has taken its own, after which the operator waits until
     /// node 1 has taken all of its six.
     OperatorFirst,
     /// The operator and three nodes wait for the turn before their own: in each turn the operator goes first, and then
@@ -81,7 +81,7 @@ impl Keeper {
         }
     }
 
-    // Behind a turn, where the operator goes first.
+    // After a turn, where the operator goes first.
     fn pass_on(&self, actor: u16, turn: u32) {
         match (actor, turn) {
             (0, 1) => {

@@ -12,7 +12,7 @@ use std::alloc::Global;
 use std::sync::Wait;
 use std::thread::Threads;
 
-/// What the finished group has to be.
+/// What the finished group must be.
 #[derive(Clone, Copy)]
 enum Wanted {
     /// Nothing happens.
@@ -30,7 +30,7 @@ enum Wanted {
 /// What each run of node threads keeps and comes to.
 const RUNS: [(&str, Rule, Wanted); 6] = [
     (BOTH_DOWN, Rule::Meeting, Wanted::Nothing),
-    // The operator's turn comes before what is called behind it: else nothing would come of node 1's turns.
+    // The operator's turn comes before what is called after it: else nothing would come of node 1's turns.
     (ONE_NODE, Rule::OperatorFirst, Wanted::Election),
     (ALL_RECOVER, Rule::Open, Wanted::Recoveries),
     // The bound on events is reached by the recovery.

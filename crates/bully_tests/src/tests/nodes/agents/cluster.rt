@@ -74,7 +74,7 @@ impl Cluster {
         None
     }
 
-    // One turn of the node at this place, and its call, where it begins one, comes back before anything else happens.
+    // One turn of the node at this place, and its call, where it starts one, comes back before anything else happens.
     // Whether it did something.
     fn turn(&mut self, place: usize) -> Option<bool> {
         let agent = self.agents.get_mut(place)?;
