@@ -356,7 +356,8 @@ class Group:
         processes = {name: [member.pid, *children(member.pid)] for name, member in self.members.items()}
         rows, spans, shares = self.show().rows, 0, [math.inf] * len(processes)
         while spans < SPANS and max(shares) >= most:
-            shares, spans = list(map(min, shares, shares_over(seconds, processes))), spans + 1
+            shares = [min(pair) for pair in zip(shares, shares_over(seconds, processes))]
+            spans += 1
         self.count(self.show().rows == rows, 'an idle group has more rows')
         self.count(max(shares) < most, f'an idle member took {max(shares):.2f} % of a processor')
         memory = sorted(sum(map(own_memory, each)) for each in processes.values())
