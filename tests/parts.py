@@ -64,6 +64,7 @@ PARTS = [
     Part('over-etcd', f'{MEMBERS} --over-etcd', 'library', short='--to 20', whole='--to 100', full='--to 10000', limit=7200),
     Part('epochs-over-etcd', f'{MEMBERS} --over-etcd --epochs', 'library', short='--to 12', whole='--to 60', full='--to 3000', limit=7200),
     Part('told', f'{MEMBERS} --told', 'library', short='--to 12', whole='--to 60', full='--to 3000', limit=7200),
+    Part('law', 'tests/members/run law', short='--walks 4000', whole='--walks 4000', full='--walks 100000', limit=7200),
     Part('etcd', 'tests/members/run compare BUILT/library', 'library', 'etcd', short='--requests 1000 --logs 300'),
     Part('kills', 'tests/members/run try BUILT/library', 'library', short='--kills 2 --pauses 2 --epochs 1 --maintenance 1 --share 3',
          whole='--kills 4 --pauses 6 --share 3', full='--kills 100 --pauses 50 --share 1', limit=7200),
