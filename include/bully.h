@@ -86,6 +86,7 @@ enum {
     BULLY_BAD_ROWS_MAX = 33,   /* rows_max: below 22 for each node, or more than BULLY_EVENTS_MAX */
     BULLY_BAD_TTL = 34,        /* ttl: below BULLY_TTL_MIN, or more than BULLY_TTL_MAX */
     BULLY_BAD_ANSWER = 35,     /* no number of an answer of a store */
+    BULLY_BAD_KEPT = 36,       /* leases keep more or fewer partitions than are given */
 
     /* The first fault of a line, from its left, as `docs/FORMATS.md` lists them. */
     BULLY_LINE_WORD = 40,   /* it doesn't start with `ask` or `tell`, or isn't UTF-8 */
@@ -408,13 +409,15 @@ typedef struct bully_member {
 
 /* Opens the handle: a member that has learned nothing, and asked for nothing, of an epoch whose log starts with this
  * header, for the node that has its name there. rows_max: how many rows the log may have, from 22 for each node to
- * BULLY_EVENTS_MAX. The old table is as `bully_replica_rebalance` takes one. process: a number that no other process of
- * the group ever has. ttl: for how long a lease lasts after its last renewal.
+ * BULLY_EVENTS_MAX. The old table is as `bully_replica_rebalance` takes one. is_cooperative: not 0 if a change of the
+ * group stops only the work that moves; 0 if it stops all work (eager). All members of a group must agree on that. In a
+ * cooperative group a resource must keep the highest token of each partition.
+ * process: a number that no other process of the group ever has. ttl: how long a lease lasts after its last renewal.
  * BULLY_NULL, BULLY_OPEN; BULLY_BAD_HEADER: it is none, or rows come after it; BULLY_BAD_NODE, BULLY_TABLE_LENGTH,
  * BULLY_TABLE_OWNER, BULLY_BAD_ROWS_MAX, BULLY_BAD_TTL, BULLY_OUT_OF_MEMORY. */
 bully_status bully_member_open(bully_member *member, const char *header, size_t length, uint32_t epoch, uint16_t node,
-                               uint32_t rows_max, const uint16_t *old, size_t old_count, uint64_t process,
-                               uint64_t ttl);
+                               uint32_t rows_max, const uint16_t *old, size_t old_count, uint32_t is_cooperative,
+                               uint64_t process, uint64_t ttl);
 
 /* Closes the handle, and gives back all that was kept. BULLY_NULL, BULLY_CLOSED. */
 bully_status bully_member_close(bully_member *member);
@@ -422,41 +425,68 @@ bully_status bully_member_close(bully_member *member);
 /* What a step is. */
 enum {
     BULLY_STEP_ASK = 1,      /* send `request` to the store, and report its answer to the member */
-    BULLY_STEP_BEGIN = 2,    /* start work by `token` on what `bully_member_owned` gives; nothing is written first */
-    BULLY_STEP_STOP = 3,     /* stop all work, and call `bully_member_stopped` when it has ended */
+    BULLY_STEP_BEGIN = 2,    /* start work by `token` on what `bully_member_owned` gives; nothing is written first.
+                                Where it works already the work goes on, by this token from now on */
+    BULLY_STEP_STOP = 3,     /* stop the work on the partitions that `bully_member_activities` shows as stopping, and
+                                call `bully_member_stopped` or `bully_member_stopped_on` when that has ended. In an
+                                eager group that is all work */
     BULLY_STEP_WAIT = 4,     /* wait for `until`, or for `at_most` nanoseconds, and then call `bully_member_woke` */
     BULLY_STEP_BACK_OFF = 5, /* do nothing for `at_most` nanoseconds, or until something is reported to the member */
     BULLY_STEP_END = 6       /* do nothing more: the member has ended, for the reason `ending` */
 };
 
 /* Requests to the store. A session is the pair of `process` and `number`, and an epoch is the member's. Each request is
- * done at one moment, or not at all. */
+ * done at one moment, or not at all. For a promise, an append or a roll-over read the rows, who is affected, and what
+ * the member works on before anything else is reported to it. */
 enum {
-    BULLY_ASK_ACQUIRE = 1,   /* the node's lease for this session, which promises `offset`: if nobody has it, and the
-                                log ends at `offset` */
+    BULLY_ASK_ACQUIRE = 1,   /* the node's lease for this session, which promises `offset` and keeps nothing: if nobody
+                                has it, and the log ends at `offset` */
     BULLY_ASK_RENEW = 2,     /* renew the lease: if this session has had it without a gap */
     BULLY_ASK_RELEASE = 3,   /* release the lease, if this session has it */
     BULLY_ASK_SNAPSHOT = 4,  /* the rows after all that was learned, and what `bully_member_snapshot_read` is given */
-    BULLY_ASK_PROMISE = 5,   /* this session's promise of `offset`, if it has the lease; a higher promise stays */
+    BULLY_ASK_PROMISE = 5,   /* this session's promise of `offset`, which keeps the partitions that `bully_member_works`
+                                gives now: if it has the lease, and has promised no higher offset */
     BULLY_ASK_APPEND = 6,    /* append the rows of `bully_member_rebalance`: if the log ends at `offset`, somebody holds
                                 a lease, and all holders, also unknown processes, have promised this offset of this
-                                epoch */
-    BULLY_ASK_ROLL_OVER = 7, /* end the epoch and start the next one, on the same conditions */
+                                epoch and keep nothing. In a cooperative group, unless the member ends, nothing is
+                                compared of holders whose node isn't affected (`bully_member_is_affected`). A lease that
+                                is compared may also be as the member knows it: its own with its last promise that was
+                                done, another one as the last snapshot found it */
+    BULLY_ASK_ROLL_OVER = 7, /* end the epoch and start the next one, if the log ends at `offset`, somebody holds a
+                                lease, and all holders have promised this offset of this epoch and keep nothing. In a
+                                cooperative group nothing is compared of holders whose node isn't affected */
     BULLY_ASK_FOLLOW = 8     /* read what the current epoch starts with */
 };
 
-/* What ends a wait early: rows, sessions or requests to resize other than those that were seen; or one of these. */
+/* What ends a wait early: other rows, sessions or requests to resize than were seen, or another holder that is known to
+ * leave; or one of these. */
 enum {
     BULLY_UNTIL_NEWS = 1,     /* nothing else */
-    BULLY_UNTIL_ANY_IDLE = 2, /* a holder of a lease has promised the end of the log, and hadn't when the member last
-                                 read a snapshot */
-    BULLY_UNTIL_ALL_IDLE = 3  /* all holders of leases have promised the end of the log */
+    BULLY_UNTIL_ANY_IDLE = 2, /* a holder of a lease is idle up to the end of the log (it has promised that, and keeps
+                                 nothing), and wasn't when the member last read a snapshot */
+    BULLY_UNTIL_ALL_IDLE = 3, /* all holders of leases are idle up to the end of the log */
+    BULLY_UNTIL_PROMISES = 4  /* a holder of a lease has made another promise than when the member last read a
+                                 snapshot */
+};
+
+/* Why a member waits or backs off: what holds then. The numbers are those of the rules in `docs/REBALANCING.md`. */
+enum {
+    BULLY_REASON_ANSWER = 2,     /* its last request isn't answered yet */
+    BULLY_REASON_STOP = 3,       /* work that it was asked to stop hasn't ended yet */
+    BULLY_REASON_PAUSE = 4,      /* a request was given up as unanswered not long ago */
+    BULLY_REASON_HELD = 11,      /* another process holds the lease of its node */
+    BULLY_REASON_REBALANCE = 12, /* the others haven't rebalanced the group yet since the session before its own
+                                    ended */
+    BULLY_REASON_STABLE = 18,    /* the group is stable, and its node works on all that it owns, if it owns anything */
+    BULLY_REASON_ADMISSION = 19, /* the group is cooperative, and its lease isn't admitted yet */
+    BULLY_REASON_TURN = 21,      /* it isn't its turn to change the log */
+    BULLY_REASON_OTHERS = 22     /* others must promise something before the log changes */
 };
 
 /* Why a member ends. */
 enum {
     BULLY_ENDING_NONE = 0,
-    BULLY_ENDING_LEFT = 1,      /* it was asked to leave */
+    BULLY_ENDING_LEFT = 1,      /* it was told to leave */
     BULLY_ENDING_NOT_THERE = 2, /* the group has no node of its name any more */
     BULLY_ENDING_BROKEN = 3     /* the log has a row that isn't learned, or that has no event */
 };
@@ -469,6 +499,7 @@ typedef struct bully_step {
     uint32_t kind;    /* BULLY_STEP_.. */
     uint32_t request; /* ask: BULLY_ASK_.. */
     uint32_t until;   /* wait: BULLY_UNTIL_.. */
+    uint32_t reason;  /* wait, back off: BULLY_REASON_.. */
     uint32_t offset;  /* acquire, promise, append, roll over */
     uint32_t token;   /* begin */
     uint32_t ending;  /* end: BULLY_ENDING_.. */
@@ -498,35 +529,43 @@ bully_status bully_member_answered(bully_member *member, uint64_t now, uint32_t 
  * stays awaited. The statuses are those of `bully_replica_learn`. */
 bully_status bully_member_learn(bully_member *member, const char *rows, size_t length, size_t *taken);
 
-/* Who holds the lease of a node: the session, and the offset of an epoch that it has promised. */
+/* Who holds the lease of a node: the session, the offset of an epoch that it has promised, how many partitions that
+ * promise keeps, and whether the holder is known to leave, as one that is told to (not 0: yes). Then the others stop at
+ * once what its leaving takes from them. A member's own lease shows it only once the member was told to leave. */
 typedef struct bully_lease {
     uint64_t process;
     uint64_t number;
     uint32_t epoch;
     uint32_t offset;
     uint16_t node;
+    uint16_t kept_count;
+    uint32_t is_leaving;
 } bully_lease;
 
 /* What a snapshot found beside the rows, at the same moment: which epoch is the current one; who holds the lease of a
- * node of it, in rising order of the nodes; whether an unknown process holds a lease, whose name no node of it has (not
- * 0: yes); and whether other settings are requested (not 0: yes). If the epoch isn't the member's, nothing else counts.
- * Nothing changes if no snapshot is awaited.
+ * node of it, in rising order of the nodes; the partitions that their promises keep: first those of the first lease,
+ * and so on, those of each lease in rising order; whether an unknown process holds a lease, whose name no node of it
+ * has (not 0: yes); and whether other settings are requested (not 0: yes). If the epoch isn't the member's, nothing
+ * else counts. Nothing changes if no snapshot is awaited. In a cooperative group the promises of others may be left out
+ * (epoch 0, offset 0, nothing kept), unless no higher node is live, or the member's last wait had BULLY_REASON_OTHERS.
  * BULLY_NULL, BULLY_CLOSED; BULLY_BAD_NODE: a lease's node isn't in the group; or, in another epoch, it is 0 or above
- * BULLY_NODES_MAX; BULLY_OUT_OF_MEMORY. */
+ * BULLY_NODES_MAX; BULLY_BAD_KEPT; BULLY_OUT_OF_MEMORY: nothing changes; or, once the leases were read, the member
+ * reads another snapshot after a pause. */
 bully_status bully_member_snapshot_read(bully_member *member, uint64_t now, uint32_t epoch, const bully_lease *leases,
-                                        size_t lease_count, uint32_t has_unknown, uint32_t has_request);
+                                        size_t lease_count, const uint16_t *kept, size_t kept_count,
+                                        uint32_t has_unknown, uint32_t has_request);
 
 /* Instead of any other answer: the member's epoch is over, and its log was removed. BULLY_NULL, BULLY_CLOSED. */
 bully_status bully_member_passed(bully_member *member);
 
 /* What the current epoch starts with: the member continues there with its session, and has learned nothing of the log.
- * Nothing changes if no follow is awaited, and it counts as unanswered if the epoch is the member's. The arguments are
- * those of `bully_member_open`.
+ * Nothing changes if no follow is awaited. It counts as unanswered if the epoch isn't after the member's, or if the
+ * member works on something. The arguments are those of `bully_member_open`.
  * BULLY_NULL, BULLY_CLOSED; BULLY_BAD_HEADER: it is none, or rows come after it; BULLY_BAD_NODE, BULLY_TABLE_LENGTH,
  * BULLY_TABLE_OWNER, BULLY_BAD_ROWS_MAX, BULLY_OUT_OF_MEMORY. */
 bully_status bully_member_followed(bully_member *member, uint64_t now, const char *header, size_t length,
                                    uint32_t epoch, uint16_t node, uint32_t rows_max, const uint16_t *old,
-                                   size_t old_count);
+                                   size_t old_count, uint32_t is_cooperative);
 /* The current epoch's group has no node of the member's name: the member ends. Nothing changes if no follow is awaited.
  * BULLY_NULL, BULLY_CLOSED. */
 bully_status bully_member_not_there(bully_member *member);
@@ -534,13 +573,20 @@ bully_status bully_member_not_there(bully_member *member);
 bully_status bully_member_woke(bully_member *member);
 /* The member must leave in an orderly way. BULLY_NULL, BULLY_CLOSED. */
 bully_status bully_member_leave(bully_member *member);
-/* The work that was started by this token has ended outside the member. BULLY_NULL, BULLY_CLOSED. */
+/* All work has ended by itself. token: that of the last BULLY_STEP_BEGIN, also for work that was started before. Nothing
+ * changes with another one. BULLY_NULL, BULLY_CLOSED. */
 bully_status bully_member_lost(bully_member *member, uint32_t token);
-/* All work has ended. BULLY_NULL, BULLY_CLOSED. */
+/* All work has ended. Even if there was none, the member promises again before a change that affects it. BULLY_NULL,
+ * BULLY_CLOSED. */
 bully_status bully_member_stopped(bully_member *member);
+/* The work on this partition has ended, whether or not the member was asked to stop it. If the node still owns the
+ * partition, the member begins again there. Even if there was no such work or partition, the member promises again
+ * before a change that affects it. BULLY_NULL, BULLY_CLOSED. */
+bully_status bully_member_stopped_on(bully_member *member, uint16_t partition);
 
 /* The rows of an append, each with its line end: they rebalance the group among the live nodes, as
- * `bully_replica_rebalance` does, or, if the member ends, among none.
+ * `bully_replica_rebalance` does, or in a cooperative group among those that are admitted; if the member ends, among
+ * none.
  * BULLY_NULL, BULLY_CLOSED; BULLY_FULL: the log has no room for all of them; BULLY_OUT_OF_MEMORY; BULLY_SHORT, with the
  * length. */
 bully_status bully_member_rebalance(bully_member *member, char *rows, size_t room, size_t *length);
@@ -550,17 +596,37 @@ bully_status bully_member_owned(bully_member *member, uint32_t *token, uint16_t 
                                 size_t *count);
 
 /* What the holder of this lease owns, by a plan after what its session has promised in the member's epoch, as
- * `bully_replica_owned` shows it: on these partitions its process may work.
+ * `bully_replica_owned` shows it: on these partitions its process may work; in a cooperative group also on what its
+ * promise keeps.
  * BULLY_NULL, BULLY_CLOSED, BULLY_BAD_NODE, BULLY_OUT_OF_MEMORY; BULLY_SHORT, with the token and the count. */
 bully_status bully_member_owned_of(bully_member *member, const bully_lease *lease, uint32_t *token,
                                    uint16_t *partitions, size_t room, size_t *count);
+
+/* What the member's process does on a partition. */
+enum {
+    BULLY_ACTIVITY_IDLE = 0,    /* it doesn't work on the partition */
+    BULLY_ACTIVITY_WORKING = 1,
+    BULLY_ACTIVITY_STOPPING = 2 /* it was asked to stop its work there, and hasn't reported yet that this has ended */
+};
+
+/* What the member's process does on each partition: BULLY_ACTIVITY_.., from partition 0 on. BULLY_NULL, BULLY_CLOSED;
+ * BULLY_SHORT, with the count. */
+bully_status bully_member_activities(bully_member *member, uint16_t *activities, size_t room, size_t *count);
+/* The partitions on which the member's process works, in rising order, also those that it was asked to stop: what a
+ * promise that is asked for now keeps. BULLY_NULL, BULLY_CLOSED, BULLY_OUT_OF_MEMORY; BULLY_SHORT, with the count. */
+bully_status bully_member_works(bully_member *member, uint16_t *partitions, size_t room, size_t *count);
+/* Whether a change of the log affects this node, as the member's last snapshot found: in an eager group each live node,
+ * in a cooperative one each that loses a partition by the coming table. The member of an affected node must promise the
+ * end of the log before the change. (A member that ends affects all.) `is_affected` gets 1, or else 0.
+ * BULLY_NULL, BULLY_CLOSED, BULLY_BAD_NODE. */
+bully_status bully_member_is_affected(bully_member *member, uint16_t node, uint32_t *is_affected);
 /* Whether the group is stable for the member, by its last snapshot, so that there is nothing to do but to work. That is
- * so if all of these hold: the group is stable, as `bully_replica_is_stable` says, among the live nodes that are up in
- * the log or have stayed long enough by now, for each offset that one of them has promised; its plan comes after all
- * that the member's own session has promised; no other settings are requested; and the log has room for one more
- * rebalance. `is_stable` gets 1, or else 0. A member that acquires no lease may observe a group by this call.
+ * so if all of these hold: the group is stable, as `bully_replica_is_stable` says, among the live nodes that were
+ * admitted then, for each offset that one of them has promised; its plan comes after all that the member's own session
+ * has promised; no other settings are requested; and the log has room for one more rebalance. `is_stable` gets 1, or
+ * else 0. A member that acquires no lease may observe a group by this call.
  * BULLY_NULL, BULLY_CLOSED. */
-bully_status bully_member_is_stable(bully_member *member, uint64_t now, uint32_t *is_stable);
+bully_status bully_member_is_stable(bully_member *member, uint32_t *is_stable);
 
 /* Whether the process has the lease of its node. */
 enum {
@@ -573,8 +639,9 @@ enum {
 enum {
     BULLY_WORK_IDLE = 0,
     BULLY_WORK_WORKING = 1,
-    BULLY_WORK_LOST = 2,    /* its work ended outside the member */
-    BULLY_WORK_STOPPING = 3 /* it was asked to stop its work, and hasn't reported yet that the work has ended */
+    BULLY_WORK_LOST = 2,    /* its work has ended by itself */
+    BULLY_WORK_STOPPING = 3 /* it was asked to stop all its work or a part of it, and hasn't reported yet that this has
+                               ended */
 };
 
 typedef struct bully_member_state {
@@ -583,8 +650,8 @@ typedef struct bully_member_state {
     uint64_t since;       /* live: when its last renewal that was done was asked for; else 0 */
     uint64_t sure_left;   /* for how many nanoseconds from now its lease is sure: for that long it may go on working */
     uint32_t session;     /* BULLY_SESSION_.. */
-    uint32_t promised;    /* up to which offset of this epoch its session has promised to be idle, whether or not the
-                             store knows of that */
+    uint32_t promised;    /* the last offset of this epoch that its session has promised, whether or not the store knows
+                             of that */
     uint32_t work;        /* BULLY_WORK_.. */
     uint32_t token;       /* of its work; idle: 0 */
     uint32_t ending;      /* why it ends, if it does: BULLY_ENDING_.. */

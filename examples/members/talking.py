@@ -3,8 +3,9 @@
 
     bully-member run --talk .. -- talking.py FOLDER
 
-    {"begin": TOKEN, "partitions": [0, 5], "coordinator": "c", "settings": {..}}    work on these, by this token
+    {"begin": TOKEN, "partitions": [0, 5], "coordinator": "c", "settings": {..}}    work on these and no others, by this token
     {"stop": true}                                                                  work on nothing, and then answer `stopped`
+    {"stop": [5]}                                                                   the same for these; in a cooperative group
 
 It answers on the descriptor BULLY_ANSWERS. As `worker.py` does it adds a line to the file of each of its partitions, and refuses to if that has
 seen a newer token. What it keeps are the files that it has opened: whoever keeps more has to see whether others have changed it.
@@ -60,6 +61,8 @@ while True:
         continue
     if change is None:
         sys.exit()  # its member is gone
-    token, owned = change.get('begin', 0), change.get('partitions', [])
+    if 'begin' in change:
+        token, owned = change['begin'], change['partitions']
     if 'stop' in change:
+        owned = [] if change['stop'] is True else [each for each in owned if each not in change['stop']]
         print('stopped', file=answers, flush=True)

@@ -35,6 +35,13 @@ while :; do
         if [[ $line =~ ^\{\"begin\":\ ([0-9]+),\ \"partitions\":\ \[([0-9, ]*)\] ]]; then
             token=${BASH_REMATCH[1]}
             read -ra partitions <<<"${BASH_REMATCH[2]//,/}"
+        elif [[ $line =~ ^\{\"stop\":\ \[([0-9, ]*)\] ]]; then
+            kept=()
+            for partition in "${partitions[@]}"; do
+                [[ " ${BASH_REMATCH[1]//,/} " == *" $partition "* ]] || kept+=("$partition")
+            done
+            partitions=(${kept[@]+"${kept[@]}"})
+            echo stopped >&"$BULLY_ANSWERS"
         else
             partitions=()
             echo stopped >&"$BULLY_ANSWERS"

@@ -5,7 +5,7 @@ that has no answer yet. So it may not change what it begins with before its last
 """
 from __future__ import annotations
 
-from collections.abc import Callable, Mapping, Set as AbstractSet
+from collections.abc import Callable, Mapping
 from typing import NamedTuple, TypeVar
 from unittest import mock
 
@@ -13,9 +13,9 @@ from bully import etcd
 from bully.core import Promise, Session, Until
 from bully.encoding import maintenance_of, session_text
 from bully.epochs import Opening
-from bully.etcd import EtcdLog, offset_text
+from bully.etcd import EtcdLog, offset_text, promise_text
 from bully.etcd_client import Address, Client, Json, Refusal, Silent, behind
-from bully.shared_log import Wanted, are_idle
+from bully.shared_log import Holder, Wanted, is_awaited
 from .cluster import SERVERS, Cluster, Outcome
 
 ADDRESS = f'etcd://{",".join(map(str, SERVERS))}/group'
@@ -124,18 +124,20 @@ class KeptLog(EtcdLog):
         """Nobody waits by this."""
 
     def has_news(
-        self, epoch: int, offset: int, sessions: Mapping[str, Session], wanted: Wanted, until: Until, before: AbstractSet[str],
+        self, epoch: int, offset: int, sessions: Mapping[str, Session], wanted: Wanted, until: Until,
+        before: Mapping[str, Holder],
     ) -> bool:  # fmt: skip
         """Whether a wait is over before its time after a snapshot that found these settings requested, this
-        maintenance, and these nodes idle: of etcd as it is, whatever a server knows."""
+        maintenance, and these holders of leases: of etcd as it is, whatever a server knows."""
         there, here = self.client.cluster.keys, offset_text(Promise(epoch, offset)).encode()
-        end, requested_settings = there.get(self._keys.offset).value, there.get(self._keys.next).value
+        end, requested_settings = there.get(self._keys.offset).value, there.get(self._keys.requested).value
         maintenance = maintenance_of(self.address, there.get(self._keys.maintenance).value)
         if end != here or (None if requested_settings is None else Opening.parse(requested_settings.decode()), maintenance) != wanted:
             return True
         told = {name.encode(): session_text(session).encode() for name, session in sessions.items()}
-        return self._below(self._keys.sessions) != told or are_idle(
-            until, self._below(self._keys.promises), here, {name.encode() for name in before}
+        promised = {name.encode(): promise_text(each.promise, each.kept).encode() for name, each in before.items()}
+        return self._below(self._keys.sessions) != told or is_awaited(
+            until, self._below(self._keys.promises), here, promised
         )
 
     def _below(self, prefix: bytes) -> dict[bytes, bytes | None]:

@@ -9,8 +9,10 @@ from bully.core import Promise, Session
 from bully.epochs import Opening
 from bully.maintenance import Maintenance
 from bully.memory import MemoryLog
-from bully.shared_log import Log, LogError
+from bully.shared_log import Known, Log, LogError, found_in
 from .steps import LONG, plain_snapshot
+
+WRITER = 'w'  # a member that is there for one change
 
 
 def answer_of(ask: Callable[[Log], object], log: Log) -> object:
@@ -22,11 +24,14 @@ def answer_of(ask: Callable[[Log], object], log: Log) -> object:
 
 
 class Meant(NamedTuple):
-    """What calls of a log are made with: for whom, and where; which rows, settings, opening, maintenance and note."""
+    """What calls of a log are made with: for whom, and where; what is kept, and whom a change affects; which rows,
+    settings, opening, maintenance and note."""
 
     name: str
     session: Session
     here: Promise
+    kept: tuple[int, ...]
+    affected: frozenset[str]
     is_odd: bool  # `here` may be another offset than the end of the log
     rows: list[str]
     requested: Opening
@@ -40,15 +45,21 @@ class Meant(NamedTuple):
 
 def calls_with(meant: Meant) -> list[tuple[int, str, Callable[[Log], object]]]:
     """Each call of a log: how often it is made compared with the others, its name, and the call."""
-    name, session, here, _, rows, requested, opening, maintenance, known, gave_up, other, its = meant
+    name, session, here, kept, affected, _, rows, requested, opening, maintenance, known, gave_up, other, its = meant
     epoch, offset, many, some = here.epoch, here.offset, 8, 4
     return [
         (some, f'acquire {name} {session} {here}', lambda log: log.acquire(name, session, here, LONG)),
         (2, f'renew {name} {session}', lambda log: log.renew(name, session, LONG)),
         (some, f'release {name} {session}', lambda log: log.release(name, session)),
-        (some, f'promise {name} {session} {here}', lambda log: log.promise(name, session, here)),
+        (some, f'promise {name} {session} {here} {kept}', lambda log: log.promise(name, session, here, kept)),
         (many, f'append {here} {rows}', lambda log: log.append(epoch, offset, rows)),
         (some, f'roll_over {here} {opening}', lambda log: log.roll_over(epoch, offset, opening)),
+        (some, f'append {here} {rows} {affected}', lambda log: by_member(
+            log, here, lambda seen: log.append(epoch, offset, rows, seen._replace(affected=affected))
+        )),
+        (some, f'roll_over {here} {opening} {affected}', lambda log: by_member(
+            log, here, lambda seen: log.roll_over(epoch, offset, opening, seen._replace(affected=affected))
+        )),
         (some, f'snapshot {here}', lambda log: (plain_snapshot(log, epoch, offset), dict(log.snapshot(0, 0).failing))),
         (1, f'read {here}', lambda log: list(log.read(epoch, offset))),
         (1, f'ask {requested} {epoch}', lambda log: log.ask(requested, epoch)),
@@ -60,6 +71,16 @@ def calls_with(meant: Meant) -> list[tuple[int, str, Callable[[Log], object]]]:
         (1, f'opening {epoch}', lambda log: log.opening(epoch)), (1, 'opening', lambda log: log.opening()),
         (1, f'prune {epoch - 1}', lambda log: log.prune(epoch - 1)),
     ]  # fmt: skip
+
+
+def by_member(log: Log, here: Promise, change: Callable[[Known], bool]) -> bool:
+    """A member that is there for this alone makes a change. Whether it was done."""
+    session = Session(3, 1)
+    log.acquire(WRITER, session, here, LONG)
+    found = found_in(log)
+    done = change(Known(frozenset(), found.holders, found.revision))
+    log.release(WRITER, session)
+    return done
 
 
 class Calls:
@@ -110,4 +131,7 @@ class Calls:
         known = choice.choice([memory.maintenance, memory.maintenance, before, None])
         gave_up, other = choice.choice([None, None, None, None, False, True]), choice.choice([*memory.holders, name])
         its = memory.holders[other].session if other in memory.holders else session
-        return Meant(name, session, here, is_odd, rows, requested, opening, maintenance, known, gave_up, other, its)
+        kept = tuple(sorted(choice.sample(range(4), choice.choice([0, 0, 1, 2, 3]))))
+        affected = frozenset(choice.sample(['a', 'b', 'c', WRITER], choice.randrange(5)))
+        leases = name, session, here, kept, affected
+        return Meant(*leases, is_odd, rows, requested, opening, maintenance, known, gave_up, other, its)

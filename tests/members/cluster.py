@@ -9,18 +9,21 @@ no leader ends a lease earlier than the ttl after a renewal that was done under 
 """
 from __future__ import annotations
 
+import operator
 import random
 from base64 import b64decode, b64encode
 from bisect import bisect_left, bisect_right, insort
 from collections.abc import Callable
 from dataclasses import dataclass, field
 from functools import partial
-from typing import NamedTuple, Union
+from typing import Any, NamedTuple, Union
 
 from bully.etcd_client import KV_RANGE, KV_TXN, LEASE_GRANT, LEASE_KEEPALIVE, Endpoint, Json, Refusal, Silent
 
 SERVERS = tuple(Endpoint(f's{number}', 2379) for number in range(3))
 NO_LEADER, NOT_FOUND, INVALID = 14, 5, 3  # codes of gRPC
+
+COMPARED: dict[str, Callable[[Any, Any], bool]] = {'LESS': operator.lt, 'EQUAL': operator.eq, 'GREATER': operator.gt}
 
 Outcome = Union[Json, Refusal, Silent]
 Reply = Callable[[Outcome], None]
@@ -297,14 +300,13 @@ class Cluster:
         key, end = interval(condition)
         versions = [version for _, version in self.keys.found(key, end, revision)] or [Version()]
         target = condition['target']
+        compared = COMPARED[condition['result']]
         if target == 'VALUE':
-            value, is_less = b64decode(condition['value']), condition['result'] == 'LESS'
-            return all(
-                each.value is not None and (each.value < value if is_less else each.value == value) for each in versions
-            )
+            value = b64decode(condition['value'])
+            return all(each.value is not None and compared(each.value, value) for each in versions)
         wanted = int(condition[{'VERSION': 'version', 'CREATE': 'create_revision', 'MOD': 'mod_revision'}[target]])
         numbers = [{'VERSION': each.version, 'CREATE': each.created, 'MOD': each.modified}[target] for each in versions]
-        return all(number > wanted if condition['result'] == 'GREATER' else number == wanted for number in numbers)
+        return all(compared(number, wanted) for number in numbers)
 
     def found(self, asked: Json, revision: int | None) -> Json:
         """What a range finds."""

@@ -20,8 +20,8 @@ from typing import Any
 
 from bully.etcd import EtcdLog, same
 from bully.etcd_client import (
-    KV_RANGE, KV_TXN, LEASE_GRANT, LEASE_KEEPALIVE, Json, coded, exists, number_is, put_at, range_at, range_below,
-    ranges, value_is,
+    KV_RANGE, KV_TXN, LEASE_GRANT, LEASE_KEEPALIVE, Json, coded, exists, is_before, number_is, put_at, range_at,
+    range_below, ranges, value_is,
 )  # fmt: skip
 from bully.memory import MemoryLog
 from bully.shared_log import Log
@@ -135,8 +135,16 @@ class Pair:
             value_is(key, b'%d' % self.choice.randint(0, 3)),
             {**range_below(b'g/b/'), **number_is(b'g/b/', 'version', 0)}, {**self.value(key), 'result': 'LESS'},
             {**self.value(b'g/a/'), **range_below(b'g/a/')}, {**self.value(b'g/b/'), **range_below(b'g/b/')},
-            {**self.value(b'g/c/'), **range_below(b'g/c/')},
+            {**self.value(b'g/c/'), **range_below(b'g/c/')}, self.before(), self.before(),
+            {**number_is(key, self.choice.choice(['version', 'create_revision']), revision), 'result': 'LESS'},
         ])  # fmt: skip
+
+    def before(self) -> Json:
+        """The condition that some keys, maybe none, were put before some revision: mostly one near that of one of
+        them."""
+        begin, end = sorted(self.choice.sample([*KEYS, b'g/b', b'g/c', b'g/d'], 2))
+        newest = max((version.modified for _, version in self.cluster.keys.found(begin, end)), default=9)
+        return is_before(max(0, newest + self.choice.choice([-1, 0, 1, 1, 2, 50])), begin, end)
 
     def value(self, key: bytes) -> Json:
         return value_is(key, b'%d' % self.choice.randint(0, 3))

@@ -1,15 +1,18 @@
-"""Members of a simulated group, which are driven by their rules, and their workers."""
+"""Members of a simulated group, which are driven by their rules."""
 from __future__ import annotations
 
 from collections.abc import Callable
-from dataclasses import dataclass
 from typing import TYPE_CHECKING
 
 from bully import shared_log
 from bully.adapter import core_opening_of
-from bully.core import Ask, BackOff, Begin, Core, End, Ending, Promise, Request, Session, StoreAnswer, Wait
+from bully.core import Activity, Ask, BackOff, Begin, Core, End, Ending, Promise, Request, Session, StoreAnswer, Wait
 from bully.epochs import Opening, Token
+from bully.shared_log import Holder
+from bully.values import Owned
+from .expected import Expected
 from .judged import Snapshot, table_of
+from .working import Action
 
 if TYPE_CHECKING:
     from .stabilizing import Simulation
@@ -17,92 +20,9 @@ if TYPE_CHECKING:
 NAMES = tuple('abcdefg')
 STEPS = 100  # more than a member takes at one moment
 
-Action = Callable[[], object]
-
 
 class Wrong(Exception):
     """What must not be."""
-
-
-@dataclass
-class Unit:
-    """A unit of work that a worker has surely begun. The lease of its member lasts until `lease`."""
-
-    token: Token
-    partitions: set[int]
-    session: Session
-    lease: int
-    was_paused: bool = False
-
-
-class Worker:
-    """The worker of a member, with its watchdog: it begins no unit from `until` on, whatever the member does."""
-
-    def __init__(self, member: Member) -> None:
-        self.member, self.simulation = member, member.simulation
-        self.work: tuple[int, Token, set[int], Session] | None = None  # with the token as the rules have it
-        self.unit: Unit | None = None
-        self.until = self.paused_until = 0
-        self.is_told = False
-
-    def begin(self, token: int, epoch: int, partitions: set[int], session: Session) -> None:
-        assert self.work is None and self.unit is None
-        self.work, self.is_told = (token, Token.of(epoch, token), partitions, session), False
-        self.soon(self.simulation.some(0.02), self.next_unit)
-
-    def next_unit(self) -> None:
-        simulation = self.simulation
-        if self.work is None or self.unit is not None:
-            return
-        if self.is_told or self.member.is_dead:
-            self.end()
-        elif simulation.now >= self.until or simulation.happens('a worker ends by itself', simulation.trouble.ends):
-            token, self.work = self.work[0], None
-            self.member.soon(0, lambda: self.member.lose(token))
-        else:
-            _, token_over_all, partitions, session = self.work
-            self.unit = Unit(token_over_all, partitions, session, self.until + simulation.ttl // 5)
-            simulation.begin_unit(self)
-            simulation.after(simulation.between(0.004, simulation.trouble.unit), self.end_unit)
-
-    def end_unit(self) -> None:
-        now = self.simulation.now
-        if now < self.paused_until:
-            if self.unit is not None:
-                self.unit.was_paused = True
-            self.simulation.after(self.paused_until - now, self.end_unit)
-        elif self.unit is not None:
-            unit, self.unit = self.unit, None
-            self.simulation.end_unit(self.member, unit)
-            self.soon(self.simulation.some(0.01), self.next_unit)
-
-    def hear_stop(self) -> None:
-        self.is_told = True
-        if self.work is None:
-            self.member.soon(0, self.member.tell_stopped)
-        elif self.unit is None:
-            self.end()
-
-    def end(self) -> None:
-        self.work = None
-        self.member.soon(self.simulation.some(0.03), self.member.tell_stopped)
-
-    def pause(self, end: int) -> None:
-        self.paused_until = max(self.paused_until, end)
-        if self.unit is not None:
-            self.unit.was_paused = True
-
-    def die(self) -> None:
-        """Its watchdog ends it, once it isn't paused."""
-        if self.paused_until <= self.simulation.now:
-            self.unit = self.work = None
-
-    def soon(self, span: int, action: Action) -> None:
-        def do() -> None:
-            paused = self.paused_until - self.simulation.now
-            self.simulation.after(paused, do) if paused > 0 else action()
-
-        self.simulation.after(span, do)
 
 
 class Member:
@@ -112,14 +32,19 @@ class Member:
         self.simulation, self.name, self.number = simulation, name, number
         self.opening, self.offset = opening, 0
         self.rules = Core(core_opening_of(opening, self.node), number, simulation.ttl)
+        self.expected = Expected(core_opening_of(opening, self.node), simulation.ttl)
         self.session: Session | None = None
         self.found: Snapshot | None = None  # what the last snapshot found
+        self.own: Holder | None = None  # its lease, with its last promise that was done, since that snapshot
+        self.worked: tuple[int, ...] = ()  # what it worked on when it asked for something last
         self.awaited: Wait | None = None
         self.is_dead: bool = False
-        self.is_leaving = self.is_asking = self.is_stopping = False
+        self.is_leaving = self.is_asking = False
         self.paused_until = self.cut_until = self.turn = 0
         self.stepped_at, self.steps = -1, 0  # when it took its last step, and how many at that moment
-        self.worker = Worker(self)
+        self.token = Token(0)  # by which it was told last to work
+        self.works, self.stopping = frozenset[int](), frozenset[int]()  # the partitions that it works on; those of them that its worker has to stop
+        self.worker = simulation.kind(self)
 
     def __repr__(self) -> str:
         return f'process {self.number} of node {self.name}'
@@ -193,32 +118,35 @@ class Member:
         self.go()
 
     def begin(self, token: int) -> None:
+        """Its work goes on, and starts on what is added."""
         rows = self.simulation.store.epochs[self.epoch - 1].rows
         if not 0 < token <= self.offset or not rows[token - 1].startswith('plan,'):
             raise Wrong(f'{self} begins by the token {token}, which no plan has that it knows of')
-        partitions = {partition for partition, owner in enumerate(table_of(rows[token - 1])) if owner == self.node}
-        if not partitions or self.session is None:
-            raise Wrong(f'{self} begins as {self.session}, and owns {partitions}')
-        self.worker.begin(token, self.epoch, partitions, self.session)
+        partitions = frozenset(partition for partition, owner in enumerate(table_of(rows[token - 1])) if owner == self.node)
+        owned, added = Owned(token, tuple(sorted(partitions))), partitions - self.works
+        if not partitions or self.session is None or not self.works <= partitions or owned != self.rules.owned():
+            raise Wrong(f'{self} begins as {self.session}, works on {self.works}, and owns {partitions}')
+        self.simulation.happened['work goes on by another token'] += bool(self.works)
+        self.token, self.works = Token.of(self.epoch, token), partitions
+        self.worker.session = self.session
+        self.worker.start(self.token, partitions, added)
 
     def stop(self) -> None:
-        self.simulation.stops(self)
-        self.is_stopping = True
-        self.worker.hear_stop()
+        """What stops now, and wasn't told to before."""
+        activities = enumerate(self.rules.activities())
+        stopped = frozenset(partition for partition, activity in activities if activity is Activity.STOPPING) - self.stopping
+        self.simulation.stops(self, stopped)
+        self.stopping |= stopped
+        self.worker.stop(self.token, self.works - self.stopping, stopped)
 
-    def tell_stopped(self) -> None:
-        if self.is_stopping:
-            self.is_stopping = False
+    def ended(self, partitions: frozenset[int]) -> None:
+        """The work on these has ended, whether or not it was told to."""
+        self.works, self.stopping = self.works - partitions, self.stopping - partitions
+        for partition in sorted(partitions) if self.works else ():
+            self.rules.stopped_on(partition)
+        if not self.works:
             self.rules.stopped()
-            self.nudge()
-
-    def lose(self, token: int) -> None:
-        """Its worker has ended by itself."""
-        if self.is_stopping:
-            self.tell_stopped()
-        else:
-            self.rules.lost(token)
-            self.nudge()
+        self.nudge()
 
     def leave(self) -> None:
         self.is_leaving = True
@@ -229,12 +157,13 @@ class Member:
         self.is_dead = True
         self.worker.die()
         self.rules.close()
+        self.expected.close()
 
     def end(self, ending: Ending) -> None:
         self.simulation.happened[f'a member ends: {ending.value}'] += 1
         if ending is Ending.BROKEN or ending is Ending.LEFT and not self.is_leaving:
             raise Wrong(f'{self} ended: {ending}')
-        if self.worker.work is not None:
+        if any(process.works for process in self.worker.processes):
             raise Wrong(f'{self} ended, and works')
         self.die()
 
@@ -244,11 +173,18 @@ class Member:
         """What the request is at the store, whenever it comes there."""
         raise NotImplementedError
 
+    def note(self, ask: Ask) -> None:
+        """What it asks for."""
+        self.worked = self.rules.works()
+        if ask.request in (Request.ACQUIRE, Request.PROMISE):
+            self.expected.promised = ask.offset
+
     def ask(self, ask: Ask) -> None:
         """Asks the store. The request may come long after it was given up."""
         simulation, trouble, call = self.simulation, self.simulation.trouble, self.called(ask)
         self.turn += 1
         turn, self.is_asking = self.turn, True
+        self.note(ask)
 
         def answer(told: object) -> None:
             if turn == self.turn:
@@ -257,8 +193,9 @@ class Member:
                 self.go()
 
         def done() -> None:
-            told = call()
-            simulation.happened['a request comes after its time'] += turn != self.turn
+            told, is_late = call(), turn != self.turn
+            simulation.happened['a request comes after its time'] += is_late
+            simulation.happened['a promise comes late'] += is_late and ask.request is Request.PROMISE
             simulation.tell_all()
             if simulation.now >= self.cut_until and not simulation.happens('an answer is lost', trouble.unanswered):
                 self.soon(simulation.trip(), lambda: answer(told))
@@ -277,14 +214,14 @@ class Member:
         elif isinstance(told, shared_log.Snapshot):
             self.rules.learn(told.rows)
             self.offset += len(told.rows)
-            self.found = Snapshot(told._replace(rows=()), Promise(told.epoch, self.offset))
+            self.found, self.own = Snapshot(told._replace(rows=()), Promise(told.epoch, self.offset)), None
             self.see(told)
         elif isinstance(told, Opening):
             self.follow(told)
         else:
             self.rules.answered(now, StoreAnswer.DONE if told else StoreAnswer.REFUSED)
-            if told and ask.request is Request.ACQUIRE:
-                self.session = ask.session
+            if told and ask.request in (Request.ACQUIRE, Request.PROMISE):
+                self.session, self.own = ask.session, Holder(ask.session, Promise(self.epoch, ask.offset), self.worked)
         self.worker.until = self.rules.sure_until
 
     def see(self, told: shared_log.Snapshot) -> None:
@@ -296,6 +233,9 @@ class Member:
         if self.name not in opening.names:
             self.rules.followed(self.simulation.now, None)
             return
-        if opening.epoch != self.epoch:
-            self.opening, self.offset = opening, 0
-        self.rules.followed(self.simulation.now, core_opening_of(opening, self.node))
+        core_opening = core_opening_of(opening, opening.names.index(self.name) + 1)
+        self.rules.followed(self.simulation.now, core_opening)
+        if self.rules.epoch != self.epoch:
+            self.opening, self.offset, self.own = opening, 0, None
+            self.expected.close()
+            self.expected = Expected(core_opening, self.simulation.ttl)

@@ -2,6 +2,7 @@
 from __future__ import annotations
 
 import contextlib
+import dataclasses
 import http.client
 import itertools
 import json
@@ -33,8 +34,8 @@ QUICK = ('--heartbeat-interval', '50', '--election-timeout', '500')  # milliseco
 Json = dict[str, Any]
 
 
-def coded(word: str) -> str:
-    return b64encode(word.encode()).decode()
+def coded(word: str | bytes) -> str:
+    return b64encode(word.encode() if isinstance(word, str) else word).decode()
 
 
 def decoded(word: str) -> str:
@@ -134,7 +135,7 @@ class Server:
     def delete(self, key: str, end: str = '') -> None:
         self.ask('/v3/kv/deleterange', {'key': coded(key), **({'range_end': coded(end)} if end else {})})
 
-    def put(self, key: str, value: str) -> None:
+    def put(self, key: str, value: str | bytes) -> None:
         self.ask('/v3/kv/put', {'key': coded(key), 'value': coded(value)})
 
     def compact(self) -> None:
@@ -335,8 +336,9 @@ def add_users(server: Server) -> None:
     server.ask('/v3/auth/enable', {})
 
 
-# The traces of the epochs of a log of the form before.
-OLDER = {1: ['bully,1,3,6', *['start,1'] * 1200], 2: ['bully,1,3,6', 'recover,1']}
+# The traces of the epochs of a log of the form before, two rows in each append, and the time of each append.
+OLDER = {1: ['bully,1,3,6', *['start,1', 'move,1'] * 600], 2: ['bully,1,3,6', 'recover,1', 'größer']}
+OLDER_TIME, OLDER_TEXT = 1_700_000_000_007, '2023-11-14T22:13:20.007Z'
 
 
 def older_row(prefix: str, epoch: int, offset: int) -> str:
@@ -346,10 +348,15 @@ def older_row(prefix: str, epoch: int, offset: int) -> str:
 
 def put_older(server: Server, prefix: str) -> None:
     """Puts such a log below the prefix."""
-    for epoch, rows in OLDER.items():
-        server.put(f'{prefix}/opening/{epoch:010}', OPENING.text())
-        for place, row in enumerate([*rows, *(['end,bully,1,3,6'] if epoch + 1 in OLDER else [])]):
-            server.put(older_row(prefix, epoch, place), row)
+    for epoch, (_, *rows) in OLDER.items():
+        opening = dataclasses.replace(OPENING, epoch=epoch)
+        server.put(f'{prefix}/opening/{epoch:010}', opening.text().replace('{', '{"form": 3, ', 1))
+        for offset in range(0, len(rows), 2):
+            server.put(older_row(prefix, epoch, offset), f'{rows[offset]}\n{rows[offset + 1]}\n')
+            server.put(f'{prefix}/time/{epoch:010}/{offset:010}', str(OLDER_TIME))
+    server.put(f'{prefix}/place', f'{epoch:010}/{len(rows):010}')
+    server.put(f'{prefix}/first', f'{min(OLDER):010}')
+    server.put(f'{prefix}/name', '3 0123456789abcdef')
 
 
 def prune_in_part(log: EtcdLog, first: int) -> None:

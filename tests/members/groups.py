@@ -1,6 +1,7 @@
 """A group of members in processes of their own, over a store, which are killed and paused; and what came of them."""
 from __future__ import annotations
 
+import argparse
 import math
 import os
 import signal
@@ -18,8 +19,9 @@ from bully.shared_log import Log, Unanswered
 from bully.store_options import store_of
 from bully.view import GroupView, LogView
 from places import environment
-from .processes import children, close_all, own_memory, processor_seconds, send_all, workers_of
+from .processes import children, close_all, is_running, own_memory, processor_seconds, send_all, workers_of
 from .tables import kept, most_kept, owners_by_name
+from .waiting import wait_until
 
 HERE = Path(__file__).resolve().parent
 NAMES = 'abcde'
@@ -35,6 +37,20 @@ PATIENCE = 60.0  # seconds that anything may take: a node that comes again and a
 ROW = 64  # bytes that a row of a worker has at most
 SPANS = 6  # how often an idle member is looked at
 MEMORY = 24.0  # MiB that an idle member and its watchdog have of their own
+
+
+KINDS = {'whole': (), 'each': ('--each',), 'talk': ('--talk',)}  # of workers: the words of `run`
+
+
+def add_modes(words: argparse.ArgumentParser) -> None:
+    """Options for the mode of a group, and for the kind of its workers."""
+    words.add_argument('--cooperative', action='store_true', help='a change stops only the work that moves')
+    words.add_argument('--kind', choices=KINDS, default='whole', help='one worker, one for each partition, or one that stays')
+
+
+def init_words(options: argparse.Namespace) -> list[str]:
+    """The words of `init` for these."""
+    return ['--rebalance', 'cooperative'] if options.cooperative else []
 
 
 def told_seconds(what: str, seconds: Sequence[float]) -> str:
@@ -74,17 +90,18 @@ class Work:
         files = [self.folder / str(partition) for partition in range(self.partitions)]
         return [file.stat().st_size if file.exists() else 0 for file in files]
 
-    def last_tokens(self) -> list[int]:
-        """The token of the last unit on each partition."""
-        return [self._last_token(partition) for partition in range(self.partitions)]
+    def last_units(self) -> list[tuple[int, str]]:
+        """Token and node of the last unit on each partition."""
+        return [self._last_unit(partition) for partition in range(self.partitions)]
 
-    def _last_token(self, partition: int) -> int:
+    def _last_unit(self, partition: int) -> tuple[int, str]:
         if not (self.folder / str(partition)).exists():
-            return 0
+            return 0, ''
         with open(self.folder / str(partition), 'rb') as file:
             file.seek(max(0, file.seek(0, os.SEEK_END) - 2 * ROW))
-            rows = file.read().split(b'\n')[-2:-1]  # of the whole ones
-        return int(rows[0].split()[0]) if rows else 0
+            rows = file.read().decode().split('\n')[-2:-1]  # of the whole ones
+        token, node = rows[0].split() if rows else ('0', '')
+        return int(token), node
 
     def units(self, partition: int) -> list[list[str]]:
         """The units on a partition that were done: token and node of each."""
@@ -103,11 +120,11 @@ class Group:
     def __init__(
         self, folder: Path, stores: dict[str, str], ttl: float, within: Callable[[str], Sequence[str]] = lambda _: (),
         names: Sequence[str] = NAMES, partitions: int = PARTITIONS, words: Sequence[str] = (),
-        work: Callable[[Path, int], Work] = Work,
+        work: Callable[[Path, int], Work] = Work, init: Sequence[str] = (),
     ) -> None:  # fmt: skip
         """A new group. `stores` has the address of the log for each member, and for the view of the group ('').
-        `within` has the words by which a process is begun where a member is; `words` are more ones for each member; and
-        `work` makes what has the work, in a folder."""
+        `within` has the words by which a process is begun where a member is; `words` are more ones for each member, and
+        `init` for the making of the log; and `work` makes what has the work, in a folder."""
         self.folder, self.ttl, self.words = folder, ttl, list(words)
         self.stores, self.within = stores, within
         self.configs = 0
@@ -116,7 +133,8 @@ class Group:
         self.members: dict[str, subprocess.Popen[bytes]] = {}
         self.passed = self.failed = 0
         self.times: dict[str, Times] = {}
-        self.count(self.command('init', '--config', str(self.config)).wait(PATIENCE) == 0, 'no log can be made')
+        made = self.command('init', '--config', str(self.config), *init).wait(PATIENCE)
+        self.count(made == 0, 'no log can be made')
         self.view = LogView(self.opened())
         self.shown = self.view.show()  # as it was seen last
         self.all_live = 0.0  # the last time when all nodes that were live before the last change still were
@@ -212,18 +230,22 @@ class Group:
         return None
 
     def goes_on(self, end: float, but: str = '') -> float | None:
-        """Waits until one more unit is done on each partition by the token of the table, except on those of the node
-        `but`, which have no owner while it may not work on them. When that was."""
+        """Waits until one more unit is done on each partition by its owner, in an eager group by the token of the
+        table, except on those of the node `but`, which have no owner while it may not work on them. When that was."""
         before, left_out = self.work.sizes(), (but, None) if but else ()
         while time.monotonic() < end:
-            shown, sizes, tokens = self.snapshot(), self.work.sizes(), self.work.last_tokens()
-            owners = enumerate(shown.owners if shown is not None else ())
-            others = [partition for partition, owner in owners if owner not in left_out]
+            shown, sizes, units = self.snapshot(), self.work.sizes(), self.work.last_units()
+            owners = dict(enumerate(shown.owners if shown is not None else ()))
+            others = [partition for partition, owner in owners.items() if owner not in left_out]
             are_done = all(sizes[partition] > before[partition] for partition in others)
-            if shown is not None and are_done and {tokens[partition] for partition in others} == {shown.token}:
+            if shown is not None and are_done and all(self.is_of(units[each], shown, owners[each]) for each in others):
                 return time.monotonic()
             time.sleep(0.01)
         return None
+
+    def is_of(self, unit: tuple[int, str], shown: GroupView, owner: str | None) -> bool:
+        """Whether the unit is its owner's, in an eager group by the token of the table."""
+        return unit[1] == owner and (shown.mode == 'cooperative' or unit[0] == shown.token)
 
     def become_stable(self, what: str, change: Callable[[], object], steady: float = 0.0) -> None:
         """Makes a change, and waits until the group is stable after it, and works. It notes how long that took, and how
@@ -438,10 +460,12 @@ class Group:
             print(f'{what}: {times}')
 
     def close(self) -> None:
-        """Whatever is left is ended."""
+        """Whatever is left is ended. A watchdog may yet release the lease of its member."""
+        watchdogs = [child for member in self.members.values() for child in children(member.pid)]
         for member in self.members.values():
             member.kill()
             member.wait(PATIENCE)
+        wait_until(lambda: not any(map(is_running, watchdogs)))
         self.view.close()
 
 

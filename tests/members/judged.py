@@ -2,7 +2,7 @@
 settings are requested."""
 from __future__ import annotations
 
-from collections.abc import Callable, Mapping, Set as AbstractSet
+from collections.abc import Callable, Mapping
 from dataclasses import dataclass
 from functools import cached_property
 from typing import Protocol
@@ -16,10 +16,11 @@ from bully.settings import Settings
 
 @dataclass(frozen=True)
 class Lease:
-    """The session that holds a lease, what it has promised, and until when it holds the lease."""
+    """The session that holds a lease, what it has promised, which partitions that keeps, and until when it holds the lease."""
 
     session: Session
     promise: Promise
+    kept: tuple[int, ...]
     until: int
 
 
@@ -56,12 +57,6 @@ class Snapshot:
         """Whose sessions it found, by name."""
         return self.told.sessions
 
-    @cached_property
-    def idle(self) -> frozenset[str]:
-        """Who had promised the end of the log."""
-        return self.told.idle(self.end)
-
-
 class Watchable(shared_log.Log, Protocol):
     """A log that says whether a wait is over."""
 
@@ -72,10 +67,9 @@ class Watchable(shared_log.Log, Protocol):
         sessions: Mapping[str, Session],
         wanted: shared_log.Wanted,
         until: Until,
-        before: AbstractSet[str],
+        before: Mapping[str, shared_log.Holder],
     ) -> bool:
-        """The same after a snapshot that found these settings and this maintenance, and these nodes idle at that
-        offset."""
+        """The same after a snapshot that found these settings and this maintenance, and these holders of leases."""
 
 
 class LogStore:
@@ -103,7 +97,7 @@ class LogStore:
         return lease is not None and lease.session == session
 
     def has_news(self, epoch: int, found: Snapshot, until: Until) -> bool:
-        return self.log.has_news(epoch, found.end.offset, found.sessions, found.told.wanted, until, found.idle)
+        return self.log.has_news(epoch, found.end.offset, found.sessions, found.told.wanted, until, found.told.holders)
 
     # The requested settings, the maintenance, and old epochs.
 
@@ -130,5 +124,5 @@ class LogStore:
         self.log.prune(self.epoch.number)
 
 
-# Makes a store for these settings. The second says how many rows an epoch of so many nodes may have, and the third is a clock.
-StoreMaker = Callable[[Settings, Callable[[int], int], Callable[[], int]], LogStore]
+# Makes a store for an epoch that starts with this, with a clock.
+StoreMaker = Callable[[Opening, Callable[[], int]], LogStore]

@@ -8,6 +8,7 @@ from pathlib import Path
 
 from bully.learned import Learned
 from .over_memory import OverMemory
+from .stabilizing import Mode
 from .trouble import Trouble
 
 NODES = 5
@@ -34,11 +35,11 @@ class Little(Trouble):
 class Long:
     """A group in which one member stays for good, and the others die, leave and come back."""
 
-    def __init__(self) -> None:
+    def __init__(self, is_cooperative: bool) -> None:
         self.choice = random.Random(1)
-        self.simulation = OverMemory(1, Little)
+        self.simulation = OverMemory(1, Little, Mode(is_cooperative))
         self.memory: list[float] = []
-        self.open = self.rows = self.processes = 0
+        self.open = self.rows = 0
 
     def run(self, changes: int) -> None:
         """So many times somebody goes or comes. Raises Wrong, and an AssertionError, if the memory grows."""
@@ -67,9 +68,7 @@ class Long:
             simulation.begin(name)
         for member in alive:
             self.choice.choice([member.die, member.leave])()
-        self.processes += len(simulation.members)
         simulation.members = simulation.alive()
-        self.processes -= len(simulation.members)
 
     def tidy(self) -> None:
         """Old epochs are judged and taken away, and the memory is measured."""
@@ -88,7 +87,7 @@ class Long:
     def __str__(self) -> str:
         simulation = self.simulation
         return (
-            f'{self.processes + len(simulation.members)} processes, {simulation.store.epoch.number} epochs, '
+            f'{simulation.mode}: {simulation.begun} processes, {simulation.store.epoch.number} epochs, '
             f'{self.rows + len(simulation.store.epoch.rows)} rows, {simulation.now // simulation.ttl} ttl; '
             f'{" ".join(f"{each:.1f}" for each in self.memory)} MB, {self.open} members open'
         )

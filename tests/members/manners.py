@@ -7,12 +7,15 @@ from __future__ import annotations
 import random
 from collections import Counter
 from collections.abc import Callable
+from functools import partial
 
+from bully import operations
 from bully.core import Ask, Request
 from bully.epochs import Opening
+from bully.maintenance import Maintenance
 from .driven import Member, Wrong
 from .over_memory import LogMember, OverMemory
-from .stabilizing import Simulation
+from .stabilizing import Simulation, each_mode
 from .trouble import Trouble
 
 REMEMBERED = 61  # ttl: after so long nobody knows that a node came before
@@ -28,7 +31,7 @@ class Nothing(Trouble):
         self.lost = self.unanswered = self.slow = self.late = self.ends = self.renewal_pauses = 0.0
         self.pauses = self.deaths = self.leaves = self.cuts = self.joins = self.loops = self.resizes = self.prunes = 0.0
         self.trip, self.patience, self.room, self.unit, self.slowest = 0.002, PATIENCE, 10_000, 0.01, None
-        self.nodes_least, self.nodes = 2, 4
+        self.nodes_least, self.nodes, self.notes_leaves = choice.choice([2, 3, 3]), 4, True
 
 
 class Mannered(LogMember):
@@ -61,8 +64,8 @@ class Manners(OverMemory):
     member = Mannered
 
     def __init__(self, seed: int) -> None:
-        super().__init__(seed, Nothing)
-        self.is_calm, self.acquires_late = True, False
+        super().__init__(seed, Nothing, each_mode(seed))
+        self.is_calm, self.acquires_late, self.leaver = True, False, ''
         self.asks: Counter[Request] = Counter()
 
     def run(self) -> None:
@@ -70,7 +73,8 @@ class Manners(OverMemory):
         for name in names:
             self.begin(name)
         self.become_stable()
-        for turn in (self.one_comes, self.one_comes_late, self.one_is_cut_off_and_leaves, self.works_for_long):
+        turns = self.one_comes, self.one_comes_late, self.one_leaves, self.one_is_drained, self.one_is_cut_off_and_leaves, self.works_for_long
+        for turn in turns:
             turn(self.choice.choice(names))
             self.become_stable()
 
@@ -108,6 +112,37 @@ class Manners(OverMemory):
         self.acquires_late = True
         self.begin(name)
         self.await_all(name, PATIENCE + 3 * PROMPT)
+
+    def stops(self, member: Member, stopped: frozenset[int]) -> None:
+        if self.leaver and self.leaver not in self.store.held():
+            raise Wrong(f'{member} stops work only after {self.leaver} is gone')
+        super().stops(member, stopped)
+
+    def one_leaves(self, name: str) -> None:
+        """While a member that leaves stops its work the others stop what they lose, so that is one round."""
+        self.leave_in_one_round(name, self.process(name).leave)
+        self.begin(name)
+
+    def one_is_drained(self, name: str) -> None:
+        """The same of a node that is drained."""
+        self.leave_in_one_round(name, partial(self.set_maintenance, partial(operations.drain, self.store.log, name, takes_last=False)))
+        self.live(self.now + self.ttl)
+        self.set_maintenance(partial(operations.undrain, self.store.log, name))
+
+    def set_maintenance(self, change: Callable[[], Maintenance]) -> None:
+        self.last_set = change()
+        self.tell_all()
+
+    def leave_in_one_round(self, name: str, leave: Callable[[], object]) -> None:
+        """It leaves, and takes a while to stop."""
+        before, works = self.happened['an append'], self.process(name).works
+        self.process(name).worker.pause(self.now + self.ttl // 2)
+        leave()
+        self.leaver = name if works else ''
+        self.live(self.now + self.ttl)
+        self.leaver, appends = '', self.happened['an append'] - before
+        if appends != 1 or name in self.store.held():
+            raise Wrong(f'{name} leaves, and its group is rebalanced {appends} times')
 
     def one_is_cut_off_and_leaves(self, name: str) -> None:
         """A member that must end, and isn't sure of its lease, asks once to release it, and ends."""

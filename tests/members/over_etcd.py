@@ -13,9 +13,9 @@ from functools import partial
 from bully import shared_log
 from bully.clocks import SECOND
 from bully.core import Ask, Promise, Request as Asked, Until, Wait
-from bully.encoding import maintenance_of, session_of
+from bully.encoding import maintenance_of, session_of, unpacked
 from bully.epochs import FIRST, Opening
-from bully.etcd import FEW, WATCH_AGAIN, offset_of
+from bully.etcd import FEW, WATCH_AGAIN, offset_of, promise_of
 from bully.etcd_client import Json, Silent, behind
 from bully.maintenance import Maintenance
 from bully.settings import Settings
@@ -25,6 +25,7 @@ from .cluster import SERVERS, Cluster, Outcome, Version, Weather, interval, pair
 from .driven import Member, Wrong
 from .judged import Epoch, Lease, LogStore
 from .over_memory import LogMember, OverMemory
+from .stabilizing import Mode
 from .trouble import Trouble
 
 SHORTEST = 10_000_000  # nanoseconds until somebody asks again
@@ -36,11 +37,11 @@ class EtcdStore(LogStore):
 
     log: KeptLog
 
-    def __init__(self, cluster: Cluster, settings: Settings, limit: int) -> None:
+    def __init__(self, cluster: Cluster, opening: Opening) -> None:
         self.cluster = cluster
         self._epochs: list[Epoch] = []
         self.leases: dict[str, Lease] = {}
-        self.log = made(cluster, Opening.first(settings.setup.header(), settings.names, limit))
+        self.log = made(cluster, opening)
         self.see([self.log._keys.opening(FIRST)])
 
     @property
@@ -70,12 +71,12 @@ class EtcdStore(LogStore):
                 if here != Promise(self.epoch.number, len(self.epoch.rows)):
                     end = f'offset {len(self.epoch.rows)} of epoch {self.epoch.number}'
                     raise Wrong(f'rows are at {here}, and the log ends at {end}')
-                self.epoch.rows.extend(value.decode().splitlines())
+                self.epoch.rows.extend(unpacked(value).decode().splitlines())
         if any(key.startswith(keys.holders) for key in changed):
             sessions, promises = self.below(keys.sessions), self.below(keys.promises)
             none = b'%010d/%010d' % (0, 0)
             self.leases = {
-                name: Lease(session_of(session.decode()), offset_of(promises.get(name, none).decode()), 0)
+                name: Lease(session_of(session.decode()), *promise_of(promises.get(name, none).decode()), 0)
                 for name, session in sessions.items()
             }
         return what
@@ -88,7 +89,7 @@ class EtcdStore(LogStore):
         return maintenance_of(self.log.address, self.cluster.keys.get(self.log._keys.maintenance).value)
 
     def requested_settings(self) -> Settings | None:
-        requested_settings = self.cluster.keys.get(self.log._keys.next).value
+        requested_settings = self.cluster.keys.get(self.log._keys.requested).value
         return None if requested_settings is None else Opening.parse(requested_settings.decode()).settings
 
 
@@ -97,7 +98,7 @@ class Call:
 
     def __init__(self, member: EtcdMember, call: Callable[[], object], tell: Callable[[object], None]) -> None:
         self.member, self.call, self.tell = member, call, tell
-        self.simulation = member.simulation
+        self.simulation, self.asked = member.simulation, member.asked
         self.client = member.kept.client
         self.journal = self.client.begun()
         self.awaited: Request | None = None
@@ -134,7 +135,9 @@ class Call:
             member.soon(self.until(request.reached), lambda: self.hear(request, silent))
 
     def arrive(self, request: Request) -> None:
-        self.simulation.happened['a request comes after its time'] += self.awaited is not request
+        is_late, is_promise = self.awaited is not request, self.asked is not None and self.asked.request is Asked.PROMISE
+        self.simulation.happened['a request comes after its time'] += is_late
+        self.simulation.happened['a promise comes late'] += is_late and is_promise
         self.simulation.cluster.receive(
             request.server, request.path, request.told, lambda outcome: self.answer(request, outcome)
         )
@@ -180,6 +183,7 @@ class EtcdMember(LogMember):
         call = self.called(ask)
         self.turn += 1
         turn, self.is_asking, self.asked = self.turn, True, ask
+        self.note(ask)
 
         def answer(told: object) -> None:
             if turn != self.turn:
@@ -200,11 +204,11 @@ class OverEtcd(OverMemory):
 
     member: type[Member] = EtcdMember
 
-    def __init__(self, seed: int, trouble: type[Trouble] = Trouble) -> None:
+    def __init__(self, seed: int, trouble: type[Trouble] = Trouble, mode: Mode = Mode()) -> None:
         self.of_etcd = random.Random(f'{seed} etcd')
         self.weather = self.new_weather()
         self.cluster = Cluster(self.of_etcd, self.weather, lambda: self.now / SECOND, self.after_seconds)
-        super().__init__(seed, trouble, self.new_store)
+        super().__init__(seed, trouble, mode, self.new_store)
         self.ttl = int(self.weather.ttl * SECOND)
         self.patience = min(self.ttl // 5, int(self.trouble.patience * self.ttl))
         self.cluster.changed, self.cluster.ends = self.see_change, self.see_end
@@ -212,8 +216,8 @@ class OverEtcd(OverMemory):
     def new_weather(self) -> Weather:
         return weather_of(self.of_etcd)
 
-    def new_store(self, settings: Settings, limit: Callable[[int], int], clock: Callable[[], int]) -> EtcdStore:
-        return EtcdStore(self.cluster, settings, limit(settings.setup.nodes))
+    def new_store(self, opening: Opening, clock: Callable[[], int]) -> EtcdStore:
+        return EtcdStore(self.cluster, opening)
 
     @property
     def there(self) -> EtcdStore:
@@ -294,9 +298,7 @@ class Watched(EtcdMember):
         log, found = self.kept, self.found
         assert found is not None
         here = Promise(self.epoch, self.offset)
-        known, idle = log._seen_idle
-        before = idle if known == here else frozenset()
-        return log._news.awaited(here, found.sessions, wait.until, log._seen_wanted, before)()
+        return log._news.awaited(here, found.sessions, wait.until, log._seen_wanted, log._seen)()
 
     def hear(self, wait: Wait) -> bool:
         """Whether there is what it waits for, once what is due has been reported."""

@@ -11,16 +11,17 @@ from dataclasses import replace
 from functools import partial
 
 from bully import Status, operations, shared_log
-from bully.adapter import Requester, awaited, seen_of
+from bully.adapter import Requester, awaited, known_of, note_leaving, seen_of
 from bully.core import Ask, Ending, Promise, Request, Seen, Session, Wait
 from bully.epochs import FIRST, Opening
 from bully.maintenance import Maintenance
 from bully.memory import MemoryLog
 from bully.settings import Settings
+from bully.shared_log import Known
 from bully.store_options import BadWords
 from .driven import Member, Wrong
 from .judged import Epoch, Lease, LogStore, StoreMaker, table_of
-from .stabilizing import Simulation
+from .stabilizing import Mode, Simulation
 from .trouble import Trouble
 
 
@@ -30,6 +31,7 @@ TROUBLES_OF_MAINTENANCE = [
     'a node is drained', 'a drained node comes back', 'a group is paused',
     'members work on in a pause beside one that is gone', 'a change is finished in a pause',
 ]  # fmt: skip
+TROUBLES_OF_KEPT_WORK = ['a node is drained while a promise keeps work', 'a group is paused while a promise keeps work']
 
 
 class MemoryStore(LogStore):
@@ -37,8 +39,7 @@ class MemoryStore(LogStore):
 
     log: MemoryLog
 
-    def __init__(self, settings: Settings, limit: Callable[[int], int], clock: Callable[[], int]) -> None:
-        opening = Opening.first(settings.setup.header(), settings.names, limit(settings.setup.nodes))
+    def __init__(self, opening: Opening, clock: Callable[[], int]) -> None:
         self.log = MemoryLog(opening, clock)
         self._epochs: list[Epoch] = []
 
@@ -51,7 +52,7 @@ class MemoryStore(LogStore):
 
     def held(self) -> dict[str, Lease]:
         there = self.log.holders
-        return {name: Lease(holder.session, holder.promise, self.log.leases[name].until) for name, holder in there.items()}
+        return {name: Lease(*holder, self.log.leases[name].until) for name, holder in there.items()}
 
     @property
     def maintenance(self) -> Maintenance:
@@ -66,7 +67,7 @@ class LogMember(Member):
 
     simulation: OverMemory
     seen = Seen(0)  # what the rules were told last
-    is_frozen = is_drained = has_lost = False
+    is_frozen = is_drained = False
     asked_at = 0  # when it asked for the last snapshot
 
     def __init__(self, simulation: Simulation, name: str, number: int, opening: Opening) -> None:
@@ -78,21 +79,35 @@ class LogMember(Member):
         assert isinstance(self.simulation.store, MemoryStore)
         return self.simulation.store.log
 
-    def noted(self, what: str, done: bool) -> bool:
-        """What came of an append, or of the end of an epoch, at the moment when it is done."""
-        return self.simulation.changed(what, done)
-
     def called(self, ask: Ask) -> Callable[[], object]:
         """The call of the package's own driver, and what is noted of it here."""
-        self.note(ask)
+        rules, lease, known = self.rules, self.simulation.lease, self.known() if ask.request in CHANGES else None
         requester = Requester(
-            self.log, self.name, self.opening, self.offset, self.simulation.lease, self.rules.rebalance, self.after
+            self.log, self.name, self.opening, self.offset, lease, rules.rebalance, self.after, rules.works, lambda: known
         )
         call = requester.call(ask)
-        return (lambda: self.noted(CHANGES[ask.request], bool(call()))) if ask.request in CHANGES else call
+        if ask.request not in CHANGES:
+            return call
+        return partial(self.change, CHANGES[ask.request], call, known)
+
+    def known(self) -> Known | None:
+        """What a change compares of leases."""
+        assert self.found is not None
+        return known_of(self.rules, self.opening, self.found.told, self.name, self.own)
+
+    def change(self, what: str, call: Callable[[], object], known: Known | None) -> bool:
+        """What came of an append, or of the end of an epoch."""
+        done = bool(call())
+        self.simulation.happened['a change that affects nobody'] += done and known is not None and not known.affected
+        return self.noted(what, done)
+
+    def noted(self, what: str, done: bool) -> bool:
+        """The same, at the moment when it is done."""
+        return self.simulation.changed(what, done)
 
     def note(self, ask: Ask) -> None:
         """What it asks for, by which it is judged what may be in a pause."""
+        super().note(ask)
         here = Promise(self.epoch, ask.offset)
         if ask.request in (Request.ACQUIRE, Request.PROMISE):
             self.simulation.promised.add((ask.session, here))
@@ -117,6 +132,8 @@ class LogMember(Member):
         numbers = {name: number for number, name in enumerate(self.opening.names, 1)}
         self.seen = seen_of(told, end, self.name, numbers, self.is_up)
         self.is_frozen = told.epoch == self.epoch and told.is_frozen(end)
+        if self.opening.is_cooperative and self.rules.fault is None:
+            self.expected.snapshot_read(self.simulation.now, told.rows, self.seen)
         self.rules.snapshot_read(self.simulation.now, self.seen)
         self.simulation.happened['unknown processes are seen'] += self.seen.has_unknown
         if told.maintenance.takes_out(self.name, self.rules.sure_until > 0) and not self.is_leaving:
@@ -130,13 +147,17 @@ class LogMember(Member):
     def waits(self, wait: Wait) -> Wait:
         return replace(wait, until=awaited(wait.until, self.seen))
 
-    def begin(self, token: int) -> None:
-        self.has_lost = False
-        super().begin(token)
+    def stop(self) -> None:
+        super().stop()
+        if self.is_leaving and self.session is not None and self.simulation.trouble.notes_leaves:
+            self.simulation.after(self.simulation.trip(), partial(self.note_leaving, self.session))
 
-    def lose(self, token: int) -> None:
-        self.has_lost = True
-        super().lose(token)
+    def note_leaving(self, session: Session) -> None:
+        """It notes that it leaves, as `bully.member.Member` does while its work stops."""
+        before = self.simulation.store.maintenance
+        note_leaving(self.simulation.store.log, self.name, session)
+        self.simulation.happened['a member notes that it leaves'] += self.simulation.store.maintenance != before
+        self.simulation.tell_all()
 
     def end(self, ending: Ending) -> None:
         super().end(ending)
@@ -149,11 +170,11 @@ class OverMemory(Simulation):
 
     member: type[Member] = LogMember
 
-    def __init__(self, seed: int, trouble: type[Trouble] = Trouble, store: StoreMaker = MemoryStore) -> None:
+    def __init__(self, seed: int, trouble: type[Trouble] = Trouble, mode: Mode = Mode(), store: StoreMaker = MemoryStore) -> None:
         self.promised: set[tuple[Session, Promise]] = set()  # what sessions have asked to promise
         self.asked: set[Promise] = set()  # where somebody who couldn't know of a pause has asked to append
         self.halted_at = NEVER  # when the pause began
-        super().__init__(seed, store, trouble)
+        super().__init__(seed, store, trouble, mode)
         self.end = Promise(FIRST, 0)  # of the log, after its last change
         self.last_set = Maintenance()  # the maintenance that was set last
 
@@ -172,12 +193,14 @@ class OverMemory(Simulation):
             self.end = Promise(self.store.epoch.number, len(self.store.epoch.rows))
         return super().changed(what, done)
 
-    def stops(self, member: Member) -> None:
-        """In a pause no member stops work because of others."""
+    def stops(self, member: Member, stopped: frozenset[int]) -> None:
+        """In a pause no member stops work because of others, unless its log is full: in a cooperative group it may work on till then."""
         assert isinstance(member, LogMember)
-        if member.is_frozen and self.now < member.rules.sure_until and not (member.is_leaving or member.has_lost):
-            raise Wrong(f'{member} stops work in a pause')
-        super().stops(member)
+        if member.is_frozen and self.now < member.rules.sure_until and not member.is_leaving:
+            self.happened['work stops in a pause since the log is full'] += member.expected.is_full
+            if not self.is_cooperative or not member.expected.is_full:
+                raise Wrong(f'{member} stops work in a pause')
+        super().stops(member, stopped)
 
     # Maintenance.
 
@@ -187,7 +210,11 @@ class OverMemory(Simulation):
         self.often('a group is paused', self.trouble.halts, self.halt)
         super().run()
 
+    def keeps_work(self) -> bool:
+        return any(lease.kept for lease in self.store.held().values())
+
     def drain(self) -> None:
+        self.happened['a node is drained while a promise keeps work'] += self.keeps_work()
         with suppress(BadWords):  # nobody would work
             self.last_set = operations.drain(
                 self.store.log, self.choice.choice(self.store.epoch.settings.names), takes_last=False
@@ -203,6 +230,7 @@ class OverMemory(Simulation):
     def halt(self) -> None:
         """The group is paused, and goes on some time later."""
         if not self.store.maintenance.is_paused:
+            self.happened['a group is paused while a promise keeps work'] += self.keeps_work()
             self.last_set, self.halted_at = operations.pause(self.store.log), self.now
             self.tell_all()
             rows = self.end
@@ -210,7 +238,7 @@ class OverMemory(Simulation):
 
     def go_on(self, end: Promise) -> None:
         sessions, held = self.store.maintenance.sessions or {}, self.store.held()
-        works = any(member.worker.work is not None for member in self.alive())
+        works = any(process.works for process in self.processes())
         is_gone = any(name not in held or held[name].session != session for name, session in sessions.items())
         self.happened['members work on in a pause beside one that is gone'] += works and is_gone and end == self.end
         self.last_set, self.halted_at = operations.resume(self.store.log), NEVER
@@ -238,6 +266,7 @@ class OverMemory(Simulation):
 
     def instability(self) -> str | None:
         maintenance = self.store.maintenance
-        if maintenance != self.last_set or maintenance.drained & set(self.store.held()):
+        wanted = replace(self.last_set, leaving=maintenance.leaving)
+        if maintenance != wanted or maintenance.drained & set(self.store.held()):
             return f'the maintenance is {maintenance}, and was {self.last_set}; live are {sorted(self.store.held())}'
         return super().instability()

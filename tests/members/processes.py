@@ -122,25 +122,40 @@ class Process(NamedTuple):
         return False
 
 
+def words_of(process: int) -> bytes:
+    """The words by which the process was started."""
+    try:
+        return Path(f'/proc/{process}/cmdline').read_bytes()
+    except OSError:
+        return b''
+
+
+def below(watchdog: int) -> list[int]:
+    """The workers of a watchdog, also those below its keepers, which are forks of it."""
+    there = [(child, words_of(child) == words_of(watchdog)) for child in children(watchdog)]
+    return [worker for child, is_keeper in there for worker in (children(child) if is_keeper else [child])]
+
+
 def workers_of(member: int) -> list[Process]:
     """The workers of a member."""
     found = [
-        (watchdog, Process(worker, os.pidfd_open(worker))) for watchdog in children(member) for worker in children(watchdog)
+        (watchdog, Process(worker, os.pidfd_open(worker))) for watchdog in children(member) for worker in below(watchdog)
     ]
-    return [worker for watchdog, worker in found if worker.number in children(watchdog)]
+    return [worker for watchdog, worker in found if worker.number in below(watchdog)]
 
 
 def family(member: int) -> dict[str, Process]:
-    """A `member` that has not been waited for, its `watchdog` and its `worker`; nobody, if not all three are there."""
+    """A `member` that has not been waited for, its `watchdog` and its first `worker`; nobody, if not all three are
+    there."""
     watchdogs = children(member)
-    workers = [worker for watchdog in watchdogs for worker in children(watchdog)]
-    if len(watchdogs) != 1 or len(workers) != 1:
+    workers = [worker for watchdog in watchdogs for worker in below(watchdog)]
+    if len(watchdogs) != 1 or not workers:
         return {}
     found: dict[str, Process] = {}
     with contextlib.suppress(ProcessLookupError):
         for name, number in (('member', member), ('watchdog', watchdogs[0]), ('worker', workers[0])):
             found[name] = Process(number, os.pidfd_open(number))
-    if len(found) == 3 and children(watchdogs[0]) == workers and not any(each.has_ended for each in found.values()):
+    if len(found) == 3 and below(watchdogs[0]) == workers and not any(each.has_ended for each in found.values()):
         return found
     close_all(found.values())
     return {}

@@ -16,6 +16,7 @@ from collections import Counter
 
 from .driven import Member, Wrong
 from .over_memory import OverMemory
+from .stabilizing import each_mode
 from .trouble import TTL, Trouble
 
 FOR = 60  # ttl
@@ -42,15 +43,15 @@ class Restarting(OverMemory):
     """The group."""
 
     def __init__(self, seed: int) -> None:
-        super().__init__(seed, Restarts)
+        super().__init__(seed, Restarts, each_mode(seed))
         assert isinstance(self.trouble, Restarts)
         self.restarts, self.is_calm = self.trouble, True
         self.name = ''  # of the node
         self.stopped: Counter[tuple[str, str]] = Counter()  # by member, and whether the node is live
         self.sessions = 0
 
-    def stops(self, member: Member) -> None:
-        super().stops(member)
+    def stops(self, member: Member, stopped: frozenset[int]) -> None:
+        super().stops(member, stopped)
         if self.name and member.name != self.name:
             self.stopped[member.name, 'come' if self.name in self.store.held() else 'gone'] += 1
 

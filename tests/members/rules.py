@@ -1,6 +1,7 @@
 """Tries rebalances, how members behave where nothing goes wrong, and all states of a small store.
 
-    tests/members/run rules LIBRARY_FOLDER [--rebalance COUNT] [--restarts COUNT] [--manners COUNT] [--explore MOST]
+    tests/members/run rules LIBRARY_FOLDER [--rebalance COUNT] [--restarts COUNT] [--manners COUNT] [--broken SEEDS]
+        [--explore MOST]
 
 LIBRARY_FOLDER is what `bin/library` wrote. If nothing more is said all of this is tried, in sizes for each day:
 
@@ -10,6 +11,7 @@ LIBRARY_FOLDER is what `bin/library` wrote. If nothing more is said all of this 
 - `--restarts`: so many groups, of which one node comes and goes again and again: how often does that stop the others'
   work?
 - `--manners`: so many groups in which nothing goes wrong: how long do their members wait, and how often do they ask?
+- `--broken`: groups of the simulation, of so many seeds at most, whose workers have a bug: each is found.
 - `--explore`: all states of a small store, or so many; and the same without each of its conditions, by which a wrong
   state must be reached.
 
@@ -25,12 +27,13 @@ from pathlib import Path
 
 from counts import Counts
 from places import ROOT
+from .broken import BROKEN as BROKEN_WORKERS, found
 from .exploring import ALL, CONDITIONS, WHOLE, Bounds, Explorer
 from .manners import Manners
 from .restarting import Restarting
 from .rebalanced import BROKEN, prefix_cases, random_cases, try_case, wrong_answer
 
-LOGS, SETS, RESTARTS, MANNERS, STATES = 300, 2, 10, 10, 50_000
+LOGS, SETS, RESTARTS, MANNERS, SEEDS, STATES = 300, 2, 12, 12, 200, 50_000
 FEW = 20  # logs, among which each rebalancer with a bug is found
 
 
@@ -64,6 +67,14 @@ def try_groups(counts: Counts, group: type[Restarting] | type[Manners], last: in
     print(f'{group.__name__}: {last} groups', *(f'  {what}: {times}' for what, times in sorted(happened.items())), sep='\n')
 
 
+def try_broken(counts: Counts, seeds: int) -> None:
+    """Each bug of a worker is found."""
+    for name, worker in BROKEN_WORKERS.items():
+        first = found(worker, seeds)
+        counts.hold(first is not None, f'a worker that {name} is not found')
+        print(f'a worker that {name}: {first}'[:200])
+
+
 def explore(counts: Counts, most: int) -> None:
     """All states of a small store."""
     for bounds in WHOLE:
@@ -82,7 +93,7 @@ def explore(counts: Counts, most: int) -> None:
 def words() -> argparse.Namespace:
     parser = argparse.ArgumentParser(description=__doc__, formatter_class=argparse.RawDescriptionHelpFormatter)
     parser.add_argument('library', type=Path)
-    for part in ('--rebalance', '--restarts', '--manners'):
+    for part in ('--rebalance', '--restarts', '--manners', '--broken'):
         parser.add_argument(part, type=int, metavar='COUNT')
     parser.add_argument('--explore', type=int, metavar='MOST')
     return parser.parse_args()
@@ -91,7 +102,7 @@ def words() -> argparse.Namespace:
 def main() -> int:
     options, counts = words(), Counts()
     os.environ['BULLY_LIBRARY'] = str(options.library.resolve())
-    is_all = not any((options.rebalance, options.restarts, options.manners, options.explore))
+    is_all = not any((options.rebalance, options.restarts, options.manners, options.broken, options.explore))
     if is_all or options.rebalance:
         try_rebalances(counts, options.rebalance or LOGS)
     if is_all or options.explore:
@@ -100,6 +111,8 @@ def main() -> int:
         try_groups(counts, Restarting, options.restarts or RESTARTS)
     if is_all or options.manners:
         try_groups(counts, Manners, options.manners or MANNERS)
+    if is_all or options.broken:
+        try_broken(counts, options.broken or SEEDS)
     return counts.end()
 
 

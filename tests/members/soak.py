@@ -2,7 +2,7 @@
 workers do.
 
     tests/members/run soak LIBRARY_FOLDER [--store sqlite|etcd] [--seconds SECONDS] [--seed SEED] [--stable SHARE]
-        [--nodes COUNT] [--ttl SECONDS] [--talk] [--program PATH] [--folder FOLDER]
+        [--nodes COUNT] [--ttl SECONDS] [--cooperative] [--kind KIND] [--program PATH] [--folder FOLDER]
 
 LIBRARY_FOLDER is what `bin/library` wrote. Members, their watchdogs and their workers are killed and paused, by a seed,
 also a member with its worker and with its watchdog at one moment; so are the servers, one or all. Whatever has ended is
@@ -28,7 +28,7 @@ from pathlib import Path
 
 from .etcd_servers import PROGRAM, Servers
 from .faults import addresses
-from .groups import NAMES, Group
+from .groups import KINDS, NAMES, Group, add_modes, init_words
 from .soaking import Recorded, Soak, see_faults
 
 NODES_MAX = 5
@@ -45,7 +45,7 @@ def words() -> argparse.Namespace:
     )
     parser.add_argument('--nodes', type=int, choices=range(2, NODES_MAX + 1), default=NODES_MAX)
     parser.add_argument('--ttl', type=float, default=2.0)
-    parser.add_argument('--talk', action='store_true', help='the workers stay over changes')
+    add_modes(parser)
     parser.add_argument('--program', type=Path, help='the program `bully`, by which the log is annotated')
     parser.add_argument('--folder', type=Path, help='keep the log and the work there')
     return parser.parse_args()
@@ -69,8 +69,9 @@ def begun(
     """A group with a recorder."""
     folder.mkdir(exist_ok=True)
     group = Group(
-        folder, stores, options.ttl, names=NAMES[:nodes], words=['--talk'] if options.talk else (), work=Recorded
-    )
+        folder, stores, options.ttl, names=NAMES[:nodes], words=KINDS[options.kind], work=Recorded,
+        init=init_words(options),
+    )  # fmt: skip
     assert isinstance(group.work, Recorded)
     closing.callback(group.work.close)
     closing.callback(group.close)
@@ -78,7 +79,8 @@ def begun(
 
 
 def see_faults_in(folder: Path, options: argparse.Namespace) -> Group:
-    """The recorder's own try."""
+    """The recorder's own try, with one worker that its watchdog alone ends."""
+    options = argparse.Namespace(**{**vars(options), 'kind': 'whole'})
     with contextlib.ExitStack() as closing:
         stores = dict.fromkeys(['', *NAMES], f'sqlite:{folder / "group.db"}')
         group = begun(closing, folder, stores, 2, options)

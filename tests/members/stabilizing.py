@@ -6,10 +6,12 @@ worker or without it, or the worker alone; they die, leave, join, are cut off, a
 once; workers end by themselves; logs are soon full; other settings are requested; old epochs are taken away. At each
 moment
 
-- no two work on one partition, but for one that was paused beyond its lease;
-- nobody who holds a lease works where rows are appended, or an epoch ends;
-- no worker that wasn't paused uses an old token, and no token on a partition serves two sessions;
-- no log has more rows than it may have.
+- no two processes work on one partition, but for one that was paused beyond its lease;
+- where rows are appended, or an epoch ends, nobody who holds a lease works, but in a cooperative group on what its node keeps by the last plan;
+- no worker that wasn't paused uses a token that is lower than another one before it, in a cooperative group on the same partition; and no token on a
+  partition serves two sessions;
+- in a cooperative group nobody who holds a lease works on what the log's last plan doesn't give its node, and nothing is stopped for nothing;
+- no log has more rows than it may have, and none changes more than 20 times within a ttl.
 
 Then there is no more trouble: the group must become stable, and stay so, with the settings that were requested last
 and with each partition worked on, and the log of each epoch must be lawful.
@@ -21,15 +23,35 @@ import random
 from collections import Counter
 from collections.abc import Callable, Sequence
 from functools import partial
+from typing import NamedTuple
 
 from bully import Replica, Setup, check
 from bully.core import Ask, Session
-from bully.epochs import Token
+from bully.epochs import Opening, Token
 from bully.settings import Settings
-from .driven import NAMES, Action, Member, Unit, Worker, Wrong
+from .driven import NAMES, Member, Wrong
+from .expected import last_table
 from .judged import Epoch, LogStore, StoreMaker, table_of
 from .rebalanced import fewest, is_stable, moves
-from .trouble import STABLE_WITHIN, TROUBLE_FOR, TTL, Trouble
+from .trouble import OFTEN, STABLE_WITHIN, TROUBLE_FOR, TTL, Trouble
+from .working import KINDS, Action, Process, Talk, Unit
+
+
+class Mode(NamedTuple):
+    """Whether a group is cooperative, and the kind of its workers; None for what follows from the seed."""
+
+    is_cooperative: bool | None = None
+    kind: str | None = None
+
+    def of_seed(self, seed: int) -> tuple[bool, str]:
+        choice = random.Random(f'{seed} mode')
+        is_cooperative, kind = choice.random() < 0.5, choice.choice(sorted(KINDS))
+        return is_cooperative if self.is_cooperative is None else self.is_cooperative, self.kind or kind
+
+
+def each_mode(seed: int) -> Mode:
+    """One mode after the other."""
+    return Mode(seed % 2 == 0, sorted(KINDS)[seed // 2 % len(KINDS)])
 
 
 class Simulation:
@@ -37,18 +59,24 @@ class Simulation:
 
     member: type[Member] = Member
 
-    def __init__(self, seed: int, store: StoreMaker, trouble: type[Trouble] = Trouble) -> None:
+    def __init__(self, seed: int, store: StoreMaker, trouble: type[Trouble] = Trouble, mode: Mode = Mode()) -> None:
         self.choice = random.Random(seed)
         self.trouble = trouble(self.choice)
+        self.is_cooperative, kind = mode.of_seed(seed)
+        self.kind, self.mode = KINDS[kind], f'{"cooperative" if self.is_cooperative else "eager"}, {kind}'
         self.now, self.count, self.is_calm, self.ttl = 0, 0, False, TTL
         self.events: list[tuple[int, int, Action]] = []
-        self.store: LogStore = store(
-            self.settings(), lambda nodes: min(self.trouble.room * nodes, 1_000_000), lambda: self.now
-        )
+        self.store: LogStore = store(self.opening(), lambda: self.now)
         self.wanted: Settings | None = None  # the settings that were requested last, unless the request was taken back
         self.members: list[Member] = []
+        self.begun = 0  # how many there were
         self.happened: Counter[str] = Counter()
+        self.number, self.rows = self.store.epoch.number, 0  # of the current epoch, and its rows, at the last change
+        self.changes: list[int] = []  # when they were, within the last ttl
+        self.table: tuple[int, ...] = ()  # of the log's last plan, unless all nodes are down by then
+        self.units: set[Unit] = set()  # that there are
         self.highest: dict[int, tuple[Token, Session]] = {}  # of each partition: the token used last, and whose
+        self.fence = Token(0)  # the highest token that was used
 
     # Chance and time.
 
@@ -83,6 +111,11 @@ class Simulation:
             Setup(len(names), self.choice.choice([3, 12, 20]), weights=weights, keeps=self.choice.random() < 0.3), names
         )
 
+    def opening(self) -> Opening:
+        settings = self.settings()
+        limit = min(self.trouble.room * settings.setup.nodes, 1_000_000)
+        return Opening.first(settings.setup.header(), settings.names, limit, is_cooperative=self.is_cooperative)
+
     def after(self, span: int, action: Action) -> None:
         self.count += 1
         heapq.heappush(self.events, (self.now + span, self.count, action))
@@ -100,13 +133,37 @@ class Simulation:
         self.happened[what] += done
         if not done:
             return False
-        for member in self.members:
-            work = member.worker.work
-            if work is not None and self.store.holds(member.name, work[3]):
-                raise Wrong(f'{member} is live and works at {what}')
-        if len(self.store.epoch.rows) > self.store.epoch.opening.limit:
-            raise Wrong(f'the log has {len(self.store.epoch.rows)} rows of {self.store.epoch.opening.limit}')
+        self.judge_often()
+        epoch = self.store.epoch
+        appended = epoch.rows[self.rows :] if epoch.number == self.number else []
+        self.number, self.rows, self.table = epoch.number, len(epoch.rows), last_table(appended) or ()
+        for process in self.processes():
+            may_work = self.owned(process) if self.is_cooperative else frozenset()
+            if process.works and self.holds(process):
+                self.happened['work goes on over a change'] += 1
+                if not process.works <= may_work:
+                    raise Wrong(f'{process.worker.member} is live and works at {what} on what it may not keep')
+        if len(epoch.rows) > epoch.opening.limit:
+            raise Wrong(f'the log has {len(epoch.rows)} rows of {epoch.opening.limit}')
         return True
+
+    def judge_often(self) -> None:
+        """Members that disagree on what is due would change the log again and again."""
+        self.changes = [moment for moment in self.changes if self.now - self.ttl <= moment] + [self.now]
+        if len(self.changes) > OFTEN:
+            raise Wrong(f'the log changes {len(self.changes)} times within a ttl')
+
+    def processes(self) -> list[Process]:
+        """All that work, or may."""
+        return [process for member in self.members for process in member.worker.processes]
+
+    def holds(self, process: Process) -> bool:
+        return self.store.holds(process.worker.member.name, process.session)
+
+    def owned(self, process: Process) -> frozenset[int]:
+        """What the last plan gives its node."""
+        names = ('', *self.store.epoch.opening.names)
+        return frozenset(each for each, owner in enumerate(self.table) if names[owner] == process.worker.member.name)
 
     def tell(self, member: Member) -> None:
         """It wakes, if what it waits for is there."""
@@ -124,34 +181,42 @@ class Simulation:
 
     # The resource.
 
-    def begin_unit(self, worker: Worker) -> None:
-        assert worker.unit is not None
-        for member in self.members:
-            other = member.worker.unit
-            if other is None or other is worker.unit or not worker.unit.partitions & other.partitions:
-                continue
-            if not other.was_paused or self.now < other.lease:
-                raise Wrong(f'{worker.member} works on what {member} works on')
-            self.happened['a unit beside one that was paused beyond its lease'] += 1
+    def begin_unit(self, unit: Unit) -> None:
+        member = unit.process.worker.member
+        for other in self.units:
+            if unit.partitions & other.partitions:
+                if not other.was_paused or self.now < other.lease:
+                    raise Wrong(f'{member} works on what {other.process.worker.member} works on')
+                self.happened['a unit beside one that was paused beyond its lease'] += 1
+        if self.holds(unit.process) and not unit.partitions <= self.owned(unit.process):
+            raise Wrong(f'{member} is live and works on {sorted(unit.partitions)}, which its node does not own')
+        self.units.add(unit)
 
-    def end_unit(self, member: Member, unit: Unit) -> None:
+    def end_unit(self, unit: Unit) -> None:
+        self.units.discard(unit)
         for partition in unit.partitions:
-            highest, user = self.highest.get(partition, (Token(0), unit.session))
-            if unit.token < highest:
+            highest, user = self.highest.get(partition, (Token(0), unit.process.session))
+            fence = highest if self.is_cooperative else self.fence
+            if unit.token < fence:
                 self.happened['an old token is refused'] += 1
                 if not unit.was_paused:
-                    raise Wrong(f'{member} was not paused, and works by the old token {unit.token}')
-            elif unit.token == highest and user != unit.session:
-                raise Wrong(f'{unit.session} and {user} use partition {partition} by the token {unit.token}')
+                    raise Wrong(f'{unit.process.worker.member} was not paused, and works by the old token {unit.token}')
+            elif unit.token == highest and user != unit.process.session:
+                raise Wrong(f'{unit.process.session} and {user} use partition {partition} by the token {unit.token}')
             else:
-                self.highest[partition] = unit.token, unit.session
+                self.highest[partition], self.fence = (unit.token, unit.process.session), max(self.fence, unit.token)
                 self.happened['units'] += 1
 
     # What happens.
 
-    def stops(self, member: Member) -> None:
-        """A member stops work."""
+    def stops(self, member: Member, stopped: frozenset[int]) -> None:
+        """A member stops work on these partitions: in a cooperative group only because they move, or it has to end."""
         self.happened['a member stops work'] += 1
+        if self.is_cooperative:
+            moving, for_nothing = member.expected.judged(member.rules, self.now, stopped)
+            self.happened['partitions are stopped that move'] += len(moving)
+            if for_nothing:
+                raise Wrong(f'{member} stops {sorted(for_nothing)} for nothing')
 
     def begin(self, name: str) -> Member | None:
         """A process for the node of that name, if the group has it."""
@@ -159,7 +224,8 @@ class Simulation:
         if name not in opening.names:
             return None
         self.happened['a process begins'] += 1
-        member = self.member(self, name, len(self.members) + 1, opening)
+        self.begun += 1
+        member = self.member(self, name, self.begun, opening)
         self.members.append(member)
         self.after(0, member.go)
         return member
@@ -310,10 +376,11 @@ class Simulation:
             replica.learn(epoch.rows)
             if not live or not is_stable(replica, live, idle):
                 return f'not stable: {held}'
-            token = Token.of(epoch.number, replica.token or 0)
-        works = [member.worker.work for member in self.alive() if member.worker.work is not None]
-        worked = sorted(partition for _, by, partitions, _ in works if by == token for partition in partitions)
-        return None if worked == list(range(epoch.settings.setup.partitions)) else f'worked on are {worked}'
+            token, table = Token.of(epoch.number, replica.token or 0), replica.last_table or ()
+        works = [(process, each) for process in self.processes() for each in process.works]
+        worked = sorted((partition, process.worker.member.node) for process, partition in works)
+        are_last = self.is_cooperative and self.kind is not Talk or all(process.token == token for process, _ in works)
+        return None if are_last and worked == list(enumerate(table)) else f'worked on are {worked} of {table}'
 
     def is_as_wanted(self, epoch: Epoch) -> bool:
         wanted = self.wanted

@@ -4,7 +4,7 @@ from __future__ import annotations
 from bully.clocks import SECOND
 from bully.core import Promise, Session
 from bully.epochs import Opening
-from bully.shared_log import Holder, Log
+from bully.shared_log import Holder, Known, Log
 
 HEADER = 'bully,1,3,6'
 OPENING = Opening.first(HEADER)
@@ -47,6 +47,16 @@ def be_idle(log: Log, *holders: tuple[str, Session], here: Promise | None = None
     for name, session in holders:
         assert log.promise(name, session, there), (name, session, there)
     return there
+
+
+def known_to(log: Log, *affected: str, **holders: Holder) -> Known:
+    """What a change that affects these names compares, by a snapshot that finds all but these holders."""
+    found = log.snapshot(*where(end_of(log)))
+    return Known(frozenset(affected), {**found.holders, **holders}, found.revision)
+
+
+def where(here: Promise) -> tuple[int, int]:
+    return here.epoch, here.offset
 
 
 def add(log: Log, rows: list[str], name: str = 'a', session: Session = A) -> Promise:

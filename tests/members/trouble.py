@@ -7,6 +7,7 @@ from bully.core import Request
 
 TTL = 1_000_000_000
 TROUBLE_FOR, STABLE_WITHIN = 16, 25  # ttl
+OFTEN = 20  # changes of the log within a ttl, which are never as many
 
 TROUBLES = (
     'a pause', 'a pause before a step', 'a pause with a renewal', 'a death', 'a cut', 'a join', 'a loop',
@@ -15,6 +16,11 @@ TROUBLES = (
     'a request to resize is taken back', 'old epochs are taken away', 'the end of an epoch', 'an append',
     'unknown processes are seen', 'an old token is refused', 'a unit beside one that was paused beyond its lease',
     'a plan keeps to the epoch before', 'a member ends: left', 'a member ends: not there',
+    'a message of a worker is late', 'a promise comes late', 'a member notes that it leaves',
+)  # fmt: skip
+TROUBLES_OF_COOPERATIVE = (
+    'work goes on over a change', 'work goes on by another token', 'a change that affects nobody', 'partitions are stopped that move',
+    'a process starts anew', 'a worker is paused while it starts anew', 'the start of a process is called off',
 )  # fmt: skip
 
 
@@ -33,6 +39,8 @@ class Trouble:
         self.ends = some(0.02)  # units after which a worker ends by itself
         self.resizes, self.prunes = some(0.3), some(0.5)  # requests to resize, and old epochs that are removed
         self.drains = self.halts = 0.0  # nodes that are drained, and groups that are paused
+        self.notes_leaves = choice.random() < 0.5  # whether members that leave note it
+        self.late_messages, self.restart_pauses = some(0.1), some(0.5)  # of messages of workers, and of starts anew
         self.room = choice.choice([22, 22, 26, 40, 10_000])  # rows of an epoch, for each node
         self.late = some(0.3)  # by how much of a ttl a lease ends late at most
         self.trip = choice.choice([0.0, 0.002, 0.002, 0.02, 0.02])
@@ -71,6 +79,7 @@ class Maintained(Trouble):
     def __init__(self, choice: random.Random) -> None:
         super().__init__(choice)
         self.drains, self.halts = choice.choice([0.0, 0.5, 1.0]), choice.choice([0.3, 0.3, 1.0])
+        self.notes_leaves = True
 
 
 class SlowAcquires(Trouble):

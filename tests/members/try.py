@@ -1,7 +1,7 @@
 """Tries members in processes of their own over a log in a file, or in etcd: kills and pauses them.
 
     tests/members/run try LIBRARY_FOLDER [--kills COUNT] [--pauses COUNT] [--epochs COUNT] [--maintenance COUNT]
-        [--store etcd] [--ttl SECONDS] [--seed SEED] [--share PERCENT] [--folder FOLDER] [--talk]
+        [--store etcd] [--ttl SECONDS] [--seed SEED] [--share PERCENT] [--folder FOLDER] [--cooperative] [--kind KIND]
 
 LIBRARY_FOLDER is what `bin/library` wrote. Three members share 12 partitions; while they work the group gets five nodes
 and 24 partitions. These five are killed and come back, and are paused, or their workers, or both, for less and for more
@@ -23,7 +23,7 @@ import tempfile
 from pathlib import Path
 
 from .etcd_servers import Servers
-from .groups import NAMES, Group
+from .groups import KINDS, NAMES, Group, add_modes, init_words
 
 FEW, PARTITIONS_OF_FEW, PARTITIONS = 3, 12, 24  # how many nodes there are first, and their partitions; and those of all
 
@@ -40,7 +40,7 @@ def words() -> argparse.Namespace:
     parser.add_argument('--store', choices=['sqlite', 'etcd'], default='sqlite')
     parser.add_argument('--ttl', type=float, default=2.0)
     parser.add_argument('--seed', type=int, default=1)
-    parser.add_argument('--talk', action='store_true', help='the workers stay over changes')
+    add_modes(parser)
     parser.add_argument('--idle', type=float, default=10.0, help='seconds for which an idle group is looked at')
     parser.add_argument('--share', type=float, default=1.0, help='percent of a processor that an idle member may take')
     parser.add_argument('--folder', type=Path, help='keep the log and the work there')
@@ -108,7 +108,7 @@ def main() -> int:
         stores = dict.fromkeys(['', *NAMES], store)
         group = Group(
             folder, stores, options.ttl, names=NAMES[:FEW], partitions=PARTITIONS_OF_FEW,
-            words=['--talk'] if options.talk else (),
+            words=KINDS[options.kind], init=init_words(options),
         )  # fmt: skip
         closing.callback(group.close)
         run(group, options)

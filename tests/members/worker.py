@@ -74,8 +74,11 @@ def hear() -> None:
         if not line:
             sys.exit()
         told = json.loads(line)
-        token, partitions = told.get('begin', 0), list(map(str, told.get('partitions', ())))
-        if 'stop' in told:
+        if 'begin' in told:
+            token, partitions = told['begin'], list(map(str, told['partitions']))
+        else:
+            left = () if told['stop'] is True else set(map(int, partitions)).difference(told['stop'])
+            partitions = list(map(str, sorted(left)))
             os.write(int(answers), b'stopped\n')
 
 

@@ -312,7 +312,7 @@ void rebalance() {
 class Member {
 public:
     Member() {
-        EXPECT(bully_member_open(&handle, header.data(), header.size(), 1, 1, 22, nullptr, 0, 9, BULLY_TTL_MAX) == BULLY_OK);
+        EXPECT(bully_member_open(&handle, header.data(), header.size(), 1, 1, 22, nullptr, 0, 0, 9, BULLY_TTL_MAX) == BULLY_OK);
     }
 
     Member(const Member &) = delete;
@@ -337,7 +337,7 @@ public:
         std::size_t taken = 77;
         EXPECT(next(now).request == BULLY_ASK_SNAPSHOT);
         EXPECT(bully_member_learn(&handle, rows.data(), rows.size(), &taken) == BULLY_OK);
-        EXPECT(bully_member_snapshot_read(&handle, now + 1, show(now).epoch, leases.data(), leases.size(), 0, 0) == BULLY_OK);
+        EXPECT(bully_member_snapshot_read(&handle, now + 1, show(now).epoch, leases.data(), leases.size(), nullptr, 0, 0, 0) == BULLY_OK);
     }
 
     // It asks for this, and that is done.
@@ -376,6 +376,18 @@ public:
         });
     }
 
+    Owners works() {
+        return list_of([&](std::uint16_t *items, std::size_t room, std::size_t *count) {
+            return bully_member_works(&handle, items, room, count);
+        });
+    }
+
+    Owners activities() {
+        return list_of([&](std::uint16_t *items, std::size_t room, std::size_t *count) {
+            return bully_member_activities(&handle, items, room, count);
+        });
+    }
+
     const std::string header = "bully,1,1,1\n";
 
 private:
@@ -385,8 +397,8 @@ private:
 // Process 9 acquires the lease of its node, rebalances its group, works, stops, and goes on in another epoch, where it
 // isn't there.
 void act() {
-    const std::vector<bully_lease> own = {{9, 1, 1, 0, 1}};
-    std::uint32_t token = 77, is_stable = 77;
+    const std::vector<bully_lease> own = {{9, 1, 1, 0, 1, 0, 0}};
+    std::uint32_t token = 77, is_stable = 77, is_affected = 77;
     bully_group shown = {};
     bully_state state = {};
     Member member;
@@ -396,13 +408,17 @@ void act() {
     member.ask(30, BULLY_ASK_APPEND);
     member.read_snapshot(40, member.rebalance(), own);
     EXPECT(member.next(50).kind == BULLY_STEP_BEGIN && member.owned(&token) == Owners{0} && token == 5 && member.planned() == Owners{1});
-    EXPECT(member.owned_of(own[0], &token) == Owners{0} && bully_member_is_stable(*member, 50, &is_stable) == BULLY_OK && is_stable == 1);
+    EXPECT(member.owned_of(own[0], &token) == Owners{0} && bully_member_is_stable(*member, &is_stable) == BULLY_OK && is_stable == 1);
     EXPECT(bully_member_group(*member, &shown) == BULLY_OK && shown.events == 6);
     EXPECT(bully_member_node(*member, 1, &state) == BULLY_OK && state.status == BULLY_NORMAL);
+    EXPECT(member.works() == Owners{0} && member.activities() == Owners{BULLY_ACTIVITY_WORKING});
+    EXPECT(bully_member_is_affected(*member, 1, &is_affected) == BULLY_OK && is_affected == 1);
+    EXPECT(bully_member_stopped_on(*member, 0) == BULLY_OK && member.works() == Owners{});
+    EXPECT(member.next(50).kind == BULLY_STEP_BEGIN && member.works() == Owners{0});
     EXPECT(bully_member_woke(*member) == BULLY_OK && bully_member_lost(*member, 5) == BULLY_OK);
     EXPECT(member.next(60).kind == BULLY_STEP_STOP && bully_member_stopped(*member) == BULLY_OK);
     EXPECT(bully_member_passed(*member) == BULLY_OK && member.next(70).request == BULLY_ASK_FOLLOW);
-    EXPECT(bully_member_followed(*member, 80, member.header.data(), member.header.size(), 2, 1, 22, nullptr, 0) == BULLY_OK);
+    EXPECT(bully_member_followed(*member, 80, member.header.data(), member.header.size(), 2, 1, 22, nullptr, 0, 0) == BULLY_OK);
     EXPECT(member.show(80).epoch == 2 && bully_member_passed(*member) == BULLY_OK && member.next(90).request == BULLY_ASK_FOLLOW);
     EXPECT(bully_member_not_there(*member) == BULLY_OK && bully_member_leave(*member) == BULLY_OK);
     member.ask(100, BULLY_ASK_RELEASE);

@@ -20,7 +20,7 @@ struct beginning {
 };
 
 static bully_status begin(bully_member *member, const struct beginning *with) {
-    return bully_member_open(member, with->header, strlen(with->header), 7, with->node, with->rows_max, with->old, with->old_count, 5,
+    return bully_member_open(member, with->header, strlen(with->header), 7, with->node, with->rows_max, with->old, with->old_count, 0, 5,
                              with->ttl);
 }
 
@@ -67,24 +67,32 @@ static void try_bad_beginning(void) {
 /* ---- Leases ---- */
 
 static void try_bad_leases(bully_member *member) {
-    static const bully_lease of_none[] = {{5, 1, 7, 0, 1}, {6, 1, 7, 0, 0}};
-    static const bully_lease of_third[] = {{5, 1, 7, 0, 3}}, of_far[] = {{5, 1, 7, 0, 1025}};
+    static const bully_lease of_none[] = {{5, 1, 7, 0, 1, 0, 0}, {6, 1, 7, 0, 0, 0, 0}};
+    static const bully_lease of_third[] = {{5, 1, 7, 0, 3, 0, 0}}, of_far[] = {{5, 1, 7, 0, 1025, 0, 0}};
+    static const bully_lease of_more[] = {{5, 1, 7, 0, 1, 2, 0}};
+    static const uint16_t kept[] = {0, 1, 0};
     bully_step step;
     ANSWERS(OK, bully_member_next(member, 0, &step));
     EXPECT(step.request == BULLY_ASK_SNAPSHOT);
-    ANSWERS(BAD_NODE, bully_member_snapshot_read(member, 1, 7, of_none, 2, 0, 0));
-    ANSWERS(BAD_NODE, bully_member_snapshot_read(member, 1, 7, of_third, 1, 0, 0));
-    ANSWERS(BAD_NODE, bully_member_snapshot_read(member, 1, 8, of_none, 2, 0, 0));
-    ANSWERS(BAD_NODE, bully_member_snapshot_read(member, 1, 8, of_far, 1, 0, 0));
+    ANSWERS(BAD_NODE, bully_member_snapshot_read(member, 1, 7, of_none, 2, NULL, 0, 0, 0));
+    ANSWERS(BAD_NODE, bully_member_snapshot_read(member, 1, 7, of_third, 1, NULL, 0, 0, 0));
+    ANSWERS(BAD_NODE, bully_member_snapshot_read(member, 1, 8, of_none, 2, NULL, 0, 0, 0));
+    ANSWERS(BAD_NODE, bully_member_snapshot_read(member, 1, 8, of_far, 1, NULL, 0, 0, 0));
+    /* (a lease of no node comes first) */
+    ANSWERS(BAD_NODE, bully_member_snapshot_read(member, 1, 7, of_none, 2, kept, 1, 0, 0));
+    ANSWERS(BAD_KEPT, bully_member_snapshot_read(member, 1, 7, of_more, 1, NULL, 0, 0, 0));
+    ANSWERS(BAD_KEPT, bully_member_snapshot_read(member, 1, 7, of_more, 1, kept, 1, 0, 0));
+    ANSWERS(BAD_KEPT, bully_member_snapshot_read(member, 1, 7, of_more, 1, kept, 3, 0, 0));
+    ANSWERS(BAD_KEPT, bully_member_snapshot_read(member, 1, 7, NULL, 0, kept, 1, 0, 0));
     /* (the snapshot is still awaited, and the third node may be one of another epoch) */
-    ANSWERS(OK, bully_member_snapshot_read(member, 1, 8, of_third, 1, 0, 0));
+    ANSWERS(OK, bully_member_snapshot_read(member, 1, 8, of_third, 1, NULL, 0, 0, 0));
     ANSWERS(OK, bully_member_next(member, 2, &step));
     EXPECT(step.request == BULLY_ASK_FOLLOW);
 }
 
 void try_member_arguments(void) {
     bully_member member = BULLY_MEMBER_CLOSED;
-    ANSWERS(OK, bully_member_open(&member, header, LENGTH, 7, 1, 44, old, 2, 5, BULLY_TTL_MIN));
+    ANSWERS(OK, bully_member_open(&member, header, LENGTH, 7, 1, 44, old, 2, 0, 5, BULLY_TTL_MIN));
     try_bad_leases(&member);
     ANSWERS(OK, bully_member_close(&member));
     try_bad_beginning();

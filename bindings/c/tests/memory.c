@@ -176,12 +176,13 @@ static bully_status owned(void) {
 
 static bully_status open_member(void) {
     static const uint16_t old[2] = {2, 0};
-    return bully_member_open(&opened_member, MEMBER_HEADER, strlen(MEMBER_HEADER), 1, 1, ROWS_MAX, old, 2, 9, BULLY_TTL_MIN);
+    return bully_member_open(&opened_member, MEMBER_HEADER, strlen(MEMBER_HEADER), 1, 1, ROWS_MAX, old, 2, 0, 9, BULLY_TTL_MIN);
 }
 
 static bully_status find(void) {
-    static const bully_lease leases[2] = {{9, 1, 1, 0, 1}, {8, 1, 1, 0, 2}};
-    return bully_member_snapshot_read(&member, 40, 1, leases, 2, 0, 0);
+    static const bully_lease leases[2] = {{9, 1, 1, 0, 1, 1, 0}, {8, 1, 1, 0, 2, 0, 0}};
+    static const uint16_t kept[1] = {0};
+    return bully_member_snapshot_read(&member, 40, 1, leases, 2, kept, 1, 0, 0);
 }
 
 static bully_status rebalance_member(void) {
@@ -201,13 +202,13 @@ static bully_status own(void) {
 }
 
 static bully_status own_of(void) {
-    static const bully_lease lease = {9, 1, 1, 0, 1};
+    static const bully_lease lease = {9, 1, 1, 0, 1, 0, 0};
     return bully_member_owned_of(&member, &lease, &token, owners, 2, &length);
 }
 
 static bully_status follow(void) {
     static const uint16_t old[3] = {1, 0, 2};
-    return bully_member_followed(&member, 90, "bully,1,2,3\n", 12, 2, 2, ROWS_MAX, old, 3);
+    return bully_member_followed(&member, 90, "bully,1,2,3\n", 12, 2, 2, ROWS_MAX, old, 3, 0);
 }
 
 /* ---- Refusing ---- */
@@ -381,7 +382,7 @@ static void refuse_of_rebalance(void) {
 static void acquire_lease(void) {
     bully_step step;
     ANSWERS(OK, bully_member_next(&member, 0, &step));
-    ANSWERS(OK, bully_member_snapshot_read(&member, 5, 1, NULL, 0, 0, 0));
+    ANSWERS(OK, bully_member_snapshot_read(&member, 5, 1, NULL, 0, NULL, 0, 0, 0));
     ANSWERS(OK, bully_member_next(&member, 10, &step));
     ANSWERS(OK, bully_member_answered(&member, 20, BULLY_STORE_DONE));
     ANSWERS(OK, bully_member_next(&member, 30, &step));

@@ -60,7 +60,7 @@ void try_names(const char *version, const char *header_folder) {
     EXPECT(BULLY_LINE_WORD == 40 && BULLY_LINE_ANSWER == 46 && BULLY_BAD_HEADER == 50 && BULLY_TOO_MANY_ROWS == 52);
     EXPECT(BULLY_ROW_DIFFERS == 53 && BULLY_ROW_END == 54);
     EXPECT(BULLY_EVENT_CRASH == 1 && BULLY_EVENT_RECOVER == 2 && BULLY_EVENT_CHECK == 3);
-    EXPECT(BULLY_BAD_ROWS_MAX == 33 && BULLY_BAD_TTL == 34 && BULLY_BAD_ANSWER == 35);
+    EXPECT(BULLY_BAD_ROWS_MAX == 33 && BULLY_BAD_TTL == 34 && BULLY_BAD_ANSWER == 35 && BULLY_BAD_KEPT == 36);
     EXPECT(BULLY_EVENT_TIMEOUT == 4 && BULLY_EVENT_DROP == 5);
     EXPECT(is_shown("version", bully_version(), strlen(bully_version()), version));
 }

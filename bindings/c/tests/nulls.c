@@ -59,7 +59,7 @@ static void try_open(void) {
     static const char header[] = "bully,1,1,1\n";
     ANSWERS(OK, bully_agent_open(&agent, &setup, NULL, 0, 1, 0, NULL, 0));
     ANSWERS(OK, bully_replica_open(&replica, header, sizeof header - 1));
-    ANSWERS(OK, bully_member_open(&member, header, sizeof header - 1, 7, 1, 22, NULL, 0, 5, BULLY_TTL_MIN));
+    ANSWERS(OK, bully_member_open(&member, header, sizeof header - 1, 7, 1, 22, NULL, 0, 0, 5, BULLY_TTL_MIN));
     is_open = 1;
     try_numbers();
     EXPECT(claims(&agent, "saw,1,down,-,-,-,-\n") && logged(&agent, ""));

@@ -5,13 +5,13 @@ so it rebalances nothing.
 """
 from __future__ import annotations
 
-from collections.abc import Callable, Iterable, Mapping, Sequence
+from collections.abc import Callable, Container, Iterable, Mapping, Sequence
 from dataclasses import dataclass
 from typing import Union
 
-from .core import Ask, CoreOpening, Lease, Promise, Request, Seen, Session, Until
+from .core import Ask, Core, CoreOpening, Lease, Promise, Request, Seen, Session, Until
 from .epochs import Opening
-from .shared_log import Holder, Log, Snapshot
+from .shared_log import Holder, Known, Log, Snapshot, found_in
 
 Result = Union[bool, Snapshot, Opening]  # what a call of the log returns
 
@@ -23,7 +23,8 @@ Result = Union[bool, Snapshot, Opening]  # what a call of the log returns
 class Requester:
     """Makes a member's requests to its log. It has the log; the name of the member's node; its epoch, and how many rows
     of that it has learned; for how long a lease is acquired; and functions for the rows of a rebalance and for the
-    opening of the next epoch, by what was learned."""
+    opening of the next epoch, by what was learned; for the partitions that a promise keeps; and for what a change
+    compares of leases (`known_of`)."""
 
     log: Log
     name: str
@@ -32,6 +33,8 @@ class Requester:
     ttl: Callable[[], int]
     rebalance: Callable[[], Sequence[str]]
     after: Callable[[], Opening]
+    works: Callable[[], tuple[int, ...]]
+    known: Callable[[], Known | None]
 
     def call(self, ask: Ask) -> Callable[[], Result]:
         """The call of the log for this request. It uses what is known now, whenever it runs."""
@@ -45,18 +48,34 @@ class Requester:
         if ask.request is Request.RENEW:
             return lambda: log.renew(name, session, self.ttl())
         if ask.request is Request.PROMISE:
-            return lambda: log.promise(name, session, here)
-        if ask.request is Request.APPEND:
-            rows = self.rebalance()
-            return lambda: log.append(here.epoch, here.offset, rows)
-        if ask.request is Request.ROLL_OVER:
-            after = self.after()
-            return lambda: log.roll_over(here.epoch, here.offset, after)
+            kept = self.works()
+            return lambda: log.promise(name, session, here, kept)
+        if ask.request in (Request.APPEND, Request.ROLL_OVER):
+            return self._change(ask.request, here)
         return lambda: self._release(session)
+
+    def _change(self, request: Request, here: Promise) -> Callable[[], bool]:
+        """An append, or the end of the epoch."""
+        log, known = self.log, self.known()
+        if request is Request.APPEND:
+            rows = self.rebalance()
+            return lambda: log.append(here.epoch, here.offset, rows, known)
+        after = self.after()
+        return lambda: log.roll_over(here.epoch, here.offset, after, known)
 
     def _release(self, session: Session) -> bool:
         self.log.release(self.name, session)
         return True
+
+
+def known_of(core: Core, opening: Opening, found: Snapshot, name: str, own: Holder | None) -> Known | None:
+    """What a change that the core asks for compares of leases: all, in an eager group, or if the member ends. The
+    snapshot is the last one that the core was shown; `own` is what its session, for the node of this name, was last
+    known to have promised."""
+    if not opening.is_cooperative or core.ending is not None:
+        return None
+    affected = frozenset(each for number, each in enumerate(opening.names, 1) if core.is_affected(number))
+    return Known(affected, {**found.holders, **({name: own} if own is not None else {})}, found.revision)
 
 
 # ---- What the core is shown
@@ -64,25 +83,49 @@ class Requester:
 
 def core_opening_of(opening: Opening, node: int) -> CoreOpening:
     """The opening of this epoch, for a core that acts for this node."""
-    return CoreOpening(opening.header, opening.epoch, node, opening.limit, opening.table or None)
+    table = opening.table or None
+    return CoreOpening(opening.header, opening.epoch, node, opening.limit, table, opening.is_cooperative)
 
 
-def leases_of(holders: Mapping[str, Holder], numbers: Mapping[str, int]) -> tuple[Lease, ...]:
-    """The leases of nodes of the group, in rising order of the nodes."""
-    known = [(numbers[name], holder) for name, holder in holders.items() if name in numbers]
-    return tuple(sorted(Lease(number, holder.session, holder.promise) for number, holder in known))
+def leases_of(
+    holders: Mapping[str, Holder], numbers: Mapping[str, int], leaving: Container[str] = ()
+) -> tuple[Lease, ...]:  # fmt: skip
+    """The leases of nodes of the group, in rising order of the nodes. The nodes of these names are known to leave."""
+    return tuple(sorted(
+        Lease(numbers[name], holder.session, holder.promise, holder.kept, name in leaving)
+        for name, holder in holders.items() if name in numbers
+    ))  # fmt: skip
 
 
 def seen_of(found: Snapshot, end: Promise, name: str, numbers: Mapping[str, int], is_up: Callable[[int], bool]) -> Seen:
     """What the core is shown of a snapshot. The log ends at `end` for the core, which acts for the node of this name;
     `numbers` has the numbers of all names, and `is_up` says which numbers are up in the log. During a pause the core is
-    shown an unknown process, for which it waits."""
+    shown an unknown process, for which it waits in an eager group. Its own lease is shown as that of a session that
+    stays; but during a pause, if it was acquired since, or its node isn't up, as that of one that leaves: so it isn't
+    admitted, and in a cooperative group it waits, too."""
     is_frozen = found.is_frozen(end)
     up = [each for each, number in numbers.items() if is_up(number)] if is_frozen else []
     holders = frozen(found, name, up) if is_frozen else found.holders
-    there = leases_of(holders, numbers)
+    was_there = name in up and found.sessions.get(name) == (found.maintenance.sessions or {}).get(name)
+    there = leases_of(holders, numbers, known_to_leave(found) - {name} | ({name} if is_frozen and not was_there else set()))
     has_unknown, has_request = is_frozen or len(there) < len(holders), found.requested is not None and not is_frozen
     return Seen(found.epoch, there, has_unknown, has_request)
+
+
+def known_to_leave(found: Snapshot) -> set[str]:
+    """The nodes whose holders are known to leave."""
+    return {each for each, session in found.sessions.items() if found.maintenance.is_known_to_leave(each, session)}
+
+
+def note_leaving(log: Log, name: str, session: Session) -> None:
+    """Notes in the log that this session of that node leaves, so that all others stop at once what its leaving takes
+    from them, and not only after it has stopped. Nothing is noted if that is known, if the session holds no lease or
+    is alone, in a pause, or if others change the maintenance at the same moment: then they stop later."""
+    found = found_in(log)
+    maintenance, sessions = found.maintenance, found.sessions
+    is_known = maintenance.is_paused or maintenance.is_known_to_leave(name, session)
+    if sessions.get(name) == session and len(sessions) > 1 and not is_known:
+        log.set_maintenance(maintenance.with_leaving(name, sessions), maintenance)
 
 
 def frozen(found: Snapshot, name: str, up: Iterable[str]) -> dict[str, Holder]:

@@ -1,7 +1,7 @@
 """The clock of leases in a file: CLOCK_BOOTTIME of one boot of the machine, in one time namespace.
 
 A time namespace shifts that clock, while the id of the boot stays the same. The machine's own namespace shifts nothing,
-and adds nothing to the name of the clock, as in earlier versions.
+and adds nothing to the name of the clock.
 """
 from __future__ import annotations
 
@@ -59,7 +59,6 @@ def machine_boot(name: str) -> str:
     return name.split(' ')[0]
 
 
-def moments(now: int, own: str, other: str) -> set[int]:
-    """The possible moments by the clock `other`, if it is `now` by the clock `own`: by the offset in its name, and the
-    same moment, because earlier versions didn't write their namespace."""
-    return {now, now - offset_of(own) + offset_of(other)}
+def moment_of(now: int, own: str, other: str) -> int:
+    """The moment by the clock `other`, if it is `now` by the clock `own`."""
+    return now - offset_of(own) + offset_of(other)

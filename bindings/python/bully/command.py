@@ -1,6 +1,7 @@
 """Runs your worker, in any language, beside a member: the process that acts for one node of a group.
 
-    bully-member init --config group.toml --log sqlite:group.db [--ttl 5] [--epoch 1] [--group-access] [--if-missing]
+    bully-member init --config group.toml --log sqlite:group.db [--ttl 5] [--rebalance cooperative] [--epoch 1]
+                      [--group-access] [--if-missing]
     bully-member run --node b --log sqlite:group.db [--config group.toml] [--ttl 5] [--listen 8081] -- WORKER ARGS..
     bully-member status --log sqlite:group.db [--json]
     bully-member history --log sqlite:group.db [--epoch 1] [--times] | bully check
@@ -12,6 +13,7 @@
     bully-member pause --log sqlite:group.db
     bully-member resume --log sqlite:group.db
     bully-member prune --keep 3 --log sqlite:group.db
+    bully-member release --node b --session-file FILE --log sqlite:group.db
     bully-member repair --log sqlite:group.db [--cut OFFSET]
     bully-member completion bash
 
@@ -38,15 +40,16 @@ import os
 import sys
 import threading
 import time
-from collections.abc import Callable
+from collections.abc import Callable, Iterable
 from typing import TYPE_CHECKING, TypeVar
 
 from . import __version__
 from .clocks import seconds_of_boot
 from .completion import completion
 from .config_file import settings_in
-from .core import Ending
+from .core import Ending, Session
 from .display import shown_name
+from .encoding import session_of
 from .epochs import FIRST, LATEST, TTL, Opening
 from .faults import BullyError
 from .library import NoLibrary
@@ -59,10 +62,11 @@ from .repair import damage_of, repair, takes_back
 from .settings import ConfigFault, Settings
 from .shared_log import DamagedLog, ForeignLog, Log, LogError, LogExists, NoLog, OtherLog, Unanswered, found_in
 from .store_options import BadWords, EtcdStore, FileStore, add_words, store_of
+from .sessions import SessionNotes, is_alone, releases_of, session_in
 from .systemd import Service
-from .view import GroupView, LogView
+from .view import Doing, GroupView, LogView
 from .work_failures import GIVE_UP, Failures
-from .worker import ChildrenUnlisted, WatchdogLost, WorkerEnded, WorkerStuck, Workers, listed_children
+from .worker import ChildrenUnlisted, Kind, WatchdogLost, WorkerEnded, WorkerStuck, Workers, listed_children
 
 if TYPE_CHECKING:
     from .page import Page
@@ -72,6 +76,7 @@ UNWRITTEN = (errno.ENOSPC, errno.EDQUOT, errno.EFBIG, errno.EIO)  # errors of a 
 NOBODY_READS = 128 + signal.SIGPIPE  # as a shell reports a program that ended by that signal
 STATUS_WAIT = 1.0  # the longest wait of `status` for nodes that aren't idle, in seconds
 
+EAGER, COOPERATIVE = 'eager', 'cooperative'  # how a group rebalances
 SHELLS = ('bash', 'zsh', 'fish')
 
 _Answer = TypeVar('_Answer')
@@ -112,6 +117,12 @@ def parser() -> argparse.ArgumentParser:
     of['resize'].add_argument('--all-new', action='store_true', help=all_new)
     keep = 'how many epochs to keep, including the current one'
     of['prune'].add_argument('--keep', type=count, required=True, metavar='COUNT', help=keep)
+    of['release'].add_argument('--node', required=True, metavar='NODE', help='the name of the node')
+    session = of['release'].add_mutually_exclusive_group(required=True)
+    session.add_argument('--session', type=session_word, metavar='P.N', help='the session that holds the lease')
+    session.add_argument('--session-file', metavar='FILE', help='a file with the session, as of run --session-file')
+    alone = 'first wait up to a ttl until no other process is in the control group (cgroup) of this one, or do nothing'
+    of['release'].add_argument('--alone', action='store_true', help=alone)
     cut = 'cut the damaged rows from this offset on; all members must have stopped'
     of['repair'].add_argument('--cut', type=int, metavar='OFFSET', help=cut)
     for name in ('drain', 'undrain'):
@@ -126,6 +137,8 @@ def add_words_of_init(init: argparse.ArgumentParser) -> None:
     init.add_argument('--config', required=True, metavar='FILE', help='the configuration of the group')
     about = 'how long a lease lasts without a renewal, for all members (default: each member has its own)'
     add_seconds(init, '--ttl', about)
+    what = 'what a change stops: all work (eager), or only the work that moves (cooperative) (default: eager)'
+    init.add_argument('--rebalance', choices=(EAGER, COOPERATIVE), help=what)
     epoch = 'the number of the first epoch: higher than all epochs of an earlier log, if there was one'
     add_count(init, '--epoch', 'NUMBER', epoch, FIRST)
     group = 'let the group of the folder use the file, too'
@@ -142,8 +155,12 @@ def add_words_of_run(run: argparse.ArgumentParser) -> None:
     about = f'how long the lease lasts without a renewal (default: that of the log, or else {TTL:g})'
     add_seconds(run, '--ttl', about)
     add_seconds(run, '--stop-seconds', 'the time from SIGTERM to SIGKILL of the worker', 10.0)
+    kinds = run.add_mutually_exclusive_group()
     talk = 'keep the worker running during changes, and report them to it as lines of JSON'
-    run.add_argument('--talk', action='store_true', help=talk)
+    kinds.add_argument('--talk', action='store_true', help=talk)
+    kinds.add_argument('--each', action='store_true', help='run a worker for each partition, by itself')
+    file = 'write the session into this file before it may hold the lease of the node, for release'
+    run.add_argument('--session-file', metavar='FILE', help=file)
     run.add_argument('--listen', metavar='HOST:PORT', help='serve a page, probes and metrics over HTTP')
     more = 'also answer requests whose Host is this: a name, an address, or * for any'
     run.add_argument('--allow-host', action='append', default=[], metavar='NAME', help=more)
@@ -177,6 +194,11 @@ def seconds(word: str) -> float:
     return number
 
 
+def session_word(word: str) -> Session:
+    """A session, as P.N."""
+    return session_of(word)
+
+
 def count(word: str) -> int:
     """A number from 1 on."""
     number = int(word)
@@ -201,7 +223,9 @@ def init_command(options: argparse.Namespace) -> int:
     store = store_of(options)
     if options.if_missing and is_there(store, settings, options):
         return OK
-    opening = Opening.first(settings.setup.header(), settings.names, epoch=options.epoch, ttl=options.ttl)
+    names, is_cooperative = settings.names, options.rebalance == COOPERATIVE
+    header, epoch, ttl = settings.setup.header(), options.epoch, options.ttl
+    opening = Opening.first(header, names, epoch=epoch, ttl=ttl, is_cooperative=is_cooperative)
     try:
         store.create(opening).close()
     except LogExists:  # maybe somebody else has just made it
@@ -212,7 +236,7 @@ def init_command(options: argparse.Namespace) -> int:
 
 def is_there(store: FileStore | EtcdStore, settings: Settings, options: argparse.Namespace) -> bool:
     """Whether the log is there. Raises OtherGroup if its group has never had these settings, nor a request for them,
-    or its epoch is earlier than --epoch; BadWords if it has another ttl."""
+    or its epoch is earlier than --epoch; BadWords if it has another ttl, or rebalances in the other way."""
     try:
         log = store.open(reads=True)
     except NoLog:
@@ -225,6 +249,9 @@ def is_there(store: FileStore | EtcdStore, settings: Settings, options: argparse
         if opening.epoch < options.epoch:
             raise OtherGroup(f'the log already exists, in epoch {opening.epoch}, and not in {options.epoch} or later')
         see_ttl(opening.ttl, options.ttl)
+        way = COOPERATIVE if opening.is_cooperative else EAGER
+        if options.rebalance not in (None, way):
+            raise BadWords(f'--rebalance is {options.rebalance}, and the log is {way}')
     return True
 
 
@@ -304,6 +331,22 @@ def prune_command(options: argparse.Namespace) -> int:
     return OK
 
 
+def release_command(options: argparse.Namespace) -> int:
+    """Releases the lease of a session whose process is gone."""
+    session = options.session or session_in(options.session_file)
+    if session is None:
+        print(f'{shown_name(options.node)} has held no lease')
+        return OK
+    with contextlib.closing(store_of(options).open()) as log:
+        if options.alone and not is_alone(log.opening().ttl or TTL):
+            said = 'other processes are left, which may work on; the lease ends by itself'
+            print(f'bully-member: nothing is released: {said}', file=sys.stderr)
+            return FAILED
+        log.release(options.node, session)
+    print(f'{shown_name(options.node)} does not hold a lease by {session.process}.{session.number}')
+    return OK
+
+
 def repair_command(options: argparse.Namespace) -> int:
     """Prints what is damaged in a log, and the rows to cut. Cuts them if --cut is their offset."""
     with contextlib.closing(store_of(options).open()) as log:
@@ -328,7 +371,7 @@ def status_command(options: argparse.Namespace) -> int:
     warn_of_readers(store)
     with contextlib.closing(LogView(store.open(reads=True))) as view:
         end, shown = seconds_of_boot() + STATUS_WAIT, view.show()
-        while shown.behind and seconds_of_boot() < end:
+        while shown.is_changing and seconds_of_boot() < end:
             time.sleep(STATUS_WAIT / 10)
             shown = view.show()
     print(json.dumps(shown.document(), ensure_ascii=False) if options.json else text_of(shown))
@@ -338,14 +381,35 @@ def status_command(options: argparse.Namespace) -> int:
 def text_of(group: GroupView) -> str:
     """The group as text for people."""
     about = f'epoch {group.epoch}, events {group.events}, token {group.token or "-"}'
-    rows = [('node', 'status', 'live', 'coordinator', 'partitions')]
+    about = f'{about}, coordinator {shown_name(group.coordinator)}, {group.mode}{group.told_more}'
+    rows: list[tuple[str, ...]] = [('node', 'status', 'live', 'coordinator', 'partitions')]
     for node in group.nodes:
         name, coordinator = shown_name(node.name), shown_name(node.coordinator)
-        partitions = ' '.join(map(str, node.partitions)) or '-'
-        rows.append((name, str(node.status), node.told_live, coordinator, partitions))
+        rows.append((name, str(node.status), node.told_live, coordinator, words_of(node.partitions)))
+    return '\n'.join([about, *lines_of(rows), *lines_of(unsettled(group))])
+
+
+def words_of(partitions: Iterable[int]) -> str:
+    """Partitions, for people."""
+    return ' '.join(map(str, partitions)) or '-'
+
+
+def unsettled(group: GroupView) -> list[tuple[str, ...]]:
+    """A table of the partitions on which nobody may work, or whose work stops for a change; nothing if there are
+    none. Those with the same owners are in one row."""
+    same: dict[tuple[str, ...], list[int]] = {}
+    for partition, each in enumerate(group.partitions):
+        if each.doing is not Doing.WORKING:
+            row = each.doing.value, shown_name(each.owner), shown_name(each.coming)
+            same.setdefault(row, []).append(partition)
+    rows = [(*row, words_of(partitions)) for row, partitions in same.items()]
+    return [('state', 'owner', 'then', 'partitions'), *rows] if rows else []
+
+
+def lines_of(rows: list[tuple[str, ...]]) -> list[str]:
+    """The rows of a table, as lines with columns of one width each."""
     widths = [max(map(len, column)) for column in zip(*rows)]
-    table = ['  '.join(word.ljust(width) for word, width in zip(row, widths)).rstrip() for row in rows]
-    return '\n'.join([f'{about}, coordinator {shown_name(group.coordinator)}{group.told_more}', *table])
+    return ['  '.join(word.ljust(width) for word, width in zip(row, widths)).rstrip() for row in rows]
 
 
 def address_of(words: str) -> tuple[str, int]:
@@ -445,11 +509,16 @@ def run_command(options: argparse.Namespace) -> int:
         log = ask_until_answered(lambda: store.open(patience=min(1.0, ttl / 5)))
         closing.callback(log.close)
         failures = Failures(options.give_up, ttl)
-        workers = Workers(options.worker, options.node, options.stop_seconds, options.talk, failures)
-        works, sure = (workers.start, workers.stop), workers.hear_until
-        member = ask_until_answered(lambda: Member(log, options.node, *works, ttl, settings, sure, failures))
+        workers = Workers(options.worker, options.node, options.stop_seconds, kind_of(options), failures)
+        sessions = SessionNotes(options.session_file, workers)
+        member = ask_until_answered(
+            lambda: Member(
+                log, options.node, ttl=ttl, settings=settings, sure=workers.hear_until, failures=failures, work=workers,
+                acquires=sessions.acquires,
+            )
+        )  # fmt: skip
         service = Service(member, workers)  # before any process starts that would inherit the environment
-        workers.begin(member, store.path if isinstance(store, FileStore) else '')
+        workers.begin(member, store.path if isinstance(store, FileStore) else '', releases_of(options, store, log))
         closing.callback(workers.close)
         if page is not None:
             page.show(ask_until_answered(lambda: LogView(store.open(reads=True), member.behind, ttl)), member, workers)
@@ -459,15 +528,21 @@ def run_command(options: argparse.Namespace) -> int:
             pruning.start()
         closing.callback(service.close)
         service.start()
-        take_part(member, options.node)
+        take_part(member, options.node, sessions)
     return OK
 
 
-def take_part(member: Member, name: str) -> None:
+def kind_of(options: argparse.Namespace) -> Kind:
+    """Which workers the options ask for."""
+    return Kind.TALKS if options.talk else Kind.EACH if options.each else Kind.WHOLE
+
+
+def take_part(member: Member, name: str, sessions: SessionNotes) -> None:
     """Takes part until the member has left. Raises NotInGroup, and what `Member.run` raises."""
     heard = at_signals(member.leave)
     with member:
         member.run()
+        sessions.forget()
         if heard:
             _logger.info('node %s: %s told it to leave', shown_name(name), heard[0])
         if member.core.ending is Ending.NOT_THERE:
@@ -492,6 +567,7 @@ COMMANDS: dict[str, tuple[Callable[[argparse.Namespace], int], str]] = {
     'pause': (maintenance_command, 'stop rebalancing the group until resume; members that work continue'),
     'resume': (maintenance_command, 'end a pause'),
     'prune': (prune_command, 'remove old epochs'),
+    'release': (release_command, 'release the lease of a member that is gone, so that others need not wait'),
     'repair': (repair_command, 'show what is damaged in a log, and with --cut remove it'),
     'completion': (completion_command, 'write a script by which a shell completes these commands'),
 }

@@ -9,13 +9,14 @@ from __future__ import annotations
 
 import ctypes
 import enum
-from collections.abc import Callable, Sequence
+from collections.abc import Callable, Iterable, Sequence
 from dataclasses import dataclass
 from typing import Union
 
 from .faults import BullyError, NotLearned, OutOfMemory
 from .learned import Learned
-from .library import STRUCTURES, UINT16_MAX, UINT32_MAX, UINT64_MAX, line_of, number_of, owned_of, owners_of, texts_of
+from .library import STRUCTURES, UINT16_MAX, UINT32_MAX, UINT64_MAX, line_of, list_of, number_of, numbers_of, owned_of
+from .library import owners_of, texts_of
 from .values import Line, Owned
 
 TTL_MIN, TTL_MAX = 1_000_000, 86_400_000_000_000
@@ -26,7 +27,7 @@ TTL_MIN, TTL_MAX = 1_000_000, 86_400_000_000_000
 
 @dataclass(frozen=True, order=True)
 class Promise:
-    """The session works by no plan before that offset of that epoch."""
+    """The session works by no plan before that offset of that epoch, except on the partitions that it keeps."""
 
     epoch: int = 0
     offset: int = 0
@@ -43,31 +44,40 @@ class Session:
 
 @dataclass(frozen=True, order=True)
 class Lease:
-    """Who holds the lease of a node."""
+    """Who holds the lease of a node; which partitions its promise keeps, in rising order: none in an eager group; and
+    whether the holder is known to leave, as one that is told to. Then the others stop at once what its leaving takes
+    from them. A member's own lease shows it only once the member was told to leave."""
 
     node: int
     session: Session
     promise: Promise
+    kept: tuple[int, ...] = ()
+    is_leaving: bool = False
 
 
 @dataclass(frozen=True)
 class CoreOpening:
     """The start of an epoch, for one member: the header of its log; its number; the member's node; how many rows the
-    log may have; and the last table of the epoch before, by the numbers of this epoch, if it had as many partitions. In
-    that table 0 is an owner that isn't in this group."""
+    log may have; the last table of the epoch before, by the numbers of this epoch, if it had as many partitions (in
+    that table 0 is an owner that isn't in this group); and whether the group is cooperative, so that a change stops
+    only the work that moves. All members of a group must agree on whether it is cooperative. If it is, a resource must
+    keep the highest token of each partition."""
 
     header: Line
     epoch: int
     node: int
     rows_max: int
     old: tuple[int, ...] | None = None
+    is_cooperative: bool = False
 
 
 @dataclass(frozen=True)
 class Seen:
     """What a snapshot shows besides the rows, at the same moment: the current epoch; who holds the leases of its nodes,
     in rising order of the nodes; whether an unknown process holds a lease, under a name that none of its nodes has; and
-    whether other settings are requested. If the epoch isn't the member's, only its number matters."""
+    whether other settings are requested. If the epoch isn't the member's, only its number matters. In a cooperative
+    group the promises of others may be left out, as `Promise()` that keeps nothing, unless no higher node is live, or
+    the member's last wait had `Reason.OTHERS`."""
 
     epoch: int
     leases: tuple[Lease, ...] = ()
@@ -90,11 +100,26 @@ class Ending(enum.Enum):
 
 
 class Until(enum.Enum):
-    """What ends a wait before its time: only other rows, sessions or requested settings than were seen; also a holder
-    of a lease that is now idle up to the end of the log, and wasn't when the member last read a snapshot; or also that
-    all are."""
+    """What ends a wait before its time: only other rows, sessions or requested settings than were seen, or another
+    holder that is known to leave; also a holder of a lease that is now idle up to the end of the log (it has promised
+    that, and keeps nothing), and wasn't when the member last read a snapshot; also that all are; or also a holder that
+    has made another promise since then."""
 
-    NEWS, ANY_IDLE, ALL_IDLE = 'news', 'any idle', 'all idle'
+    NEWS, ANY_IDLE, ALL_IDLE, PROMISES = 'news', 'any idle', 'all idle', 'promises'
+
+
+class Reason(enum.Enum):
+    """Why a member waits or backs off, by the number of the rule in `docs/REBALANCING.md`."""
+
+    ANSWER = 2  # its last request isn't answered yet
+    STOP = 3  # work that it was asked to stop hasn't ended yet
+    PAUSE = 4  # a request was given up as unanswered not long ago
+    HELD = 11  # another process holds the lease of its node
+    REBALANCE = 12  # the others haven't rebalanced the group yet since the session before its own ended
+    STABLE = 18  # the group is stable, and its node works on all that it owns, if it owns anything
+    ADMISSION = 19  # the group is cooperative, and its lease isn't admitted yet
+    TURN = 21  # it isn't its turn to change the log
+    OTHERS = 22  # others must promise something before the log changes
 
 
 # ---- Steps
@@ -107,18 +132,27 @@ class Request(enum.Enum):
     RENEW = 2  # the lease again, if this session has held it without a gap
     RELEASE = 3  # the end of the lease, if this session holds it
     SNAPSHOT = 4  # the rows after those that were learned, for `learn`, and the argument of `snapshot_read`
-    PROMISE = 5  # this session's promise of the offset, if it holds the lease; a higher promise stays
+    # This session's promise of the offset, which keeps what `works` returns now: if it holds the lease, and has
+    # promised no higher offset.
+    PROMISE = 5
     # To append the rows of `rebalance`: if the log ends at the offset, somebody holds a lease, and all holders, also
-    # unknown processes, have promised this offset of this epoch.
+    # unknown processes, have promised this offset of this epoch and keep nothing. In a cooperative group, unless the
+    # member ends, nothing is compared of holders whose node isn't affected (`is_affected`). A lease that is compared
+    # may also be as the member knows it: its own with its last promise that was done, another one as the last snapshot
+    # found it.
     APPEND = 6
-    ROLL_OVER = 7  # to end the epoch and start the next one: on the same conditions
+    # To end the epoch and start the next one: if the log ends at the offset, somebody holds a lease, and all holders
+    # have promised this offset of this epoch and keep nothing. In a cooperative group nothing is compared of holders
+    # whose node isn't affected.
+    ROLL_OVER = 7
     FOLLOW = 8  # the opening of the current epoch, for `followed`
 
 
 @dataclass(frozen=True)
 class Ask:
     """Make this request to the store, for this session or at this offset if the request has one, and report the result
-    by `answered`, `snapshot_read`, `followed` or `passed`."""
+    by `answered`, `snapshot_read`, `followed` or `passed`. For a promise, an append or a roll-over read the rows, who
+    is affected, and what the member works on before anything else is reported to it."""
 
     request: Request
     session: Session = Session(0, 0)
@@ -127,14 +161,16 @@ class Ask:
 
 @dataclass(frozen=True)
 class Begin:
-    """Start to work by this token on what `owned` returns. Nothing is written first."""
+    """Start to work by this token on what `owned` returns. Nothing is written first. Where it works already the work
+    goes on, by this token from now on."""
 
     token: int
 
 
 @dataclass(frozen=True)
 class Stop:
-    """Stop all work, and report by `stopped` that it has stopped."""
+    """Stop the work on the partitions that are STOPPING in `activities`, and report by `stopped` or `stopped_on` that
+    it has ended. In an eager group that is all work."""
 
 
 @dataclass(frozen=True)
@@ -143,6 +179,7 @@ class Wait:
 
     at_most: int
     until: Until
+    reason: Reason
 
 
 @dataclass(frozen=True)
@@ -150,6 +187,7 @@ class BackOff:
     """Do nothing for so long, or until there is something to report."""
 
     at_most: int
+    reason: Reason
 
 
 @dataclass(frozen=True)
@@ -181,14 +219,22 @@ class Live:
 
 
 class Way(enum.Enum):
-    """The state of work that was started: it continues, it has ended on its own, or it was told to stop."""
+    """The state of work that was started: it continues; it has ended by itself; or it was asked to stop, all of it or a
+    part, and hasn't reported yet that this has ended."""
 
     WORKING, LOST, STOPPING = 'working', 'lost', 'stopping'
 
 
+class Activity(enum.Enum):
+    """What a process does on a partition: nothing; it works there; or it was asked to stop that, and hasn't reported
+    yet that the work has ended."""
+
+    IDLE, WORKING, STOPPING = 0, 1, 2
+
+
 @dataclass(frozen=True)
 class Work:
-    """Work that was started, with its token."""
+    """Work that was started, with the token by which it began last."""
 
     way: Way
     token: int
@@ -203,8 +249,8 @@ _STEPS: dict[int, Callable[[ctypes.Structure], Step]] = {
     1: lambda raw: Ask(Request(raw.request), Session(raw.process, raw.number), raw.offset),
     2: lambda raw: Begin(raw.token),
     3: lambda raw: Stop(),
-    4: lambda raw: Wait(raw.at_most, _UNTILS[raw.until - 1]),
-    5: lambda raw: BackOff(raw.at_most),
+    4: lambda raw: Wait(raw.at_most, _UNTILS[raw.until - 1], Reason(raw.reason)),
+    5: lambda raw: BackOff(raw.at_most, Reason(raw.reason)),
     6: lambda raw: End(_ENDINGS[raw.ending - 1]),
 }
 
@@ -218,7 +264,8 @@ def _raw_lease(lease: Lease) -> ctypes.Structure:
     process = number_of('a process', session.process, UINT64_MAX)
     number = number_of('a number of a session', session.number, UINT64_MAX)
     epoch, offset = number_of('an epoch', promise.epoch, UINT32_MAX), number_of('an offset', promise.offset, UINT32_MAX)
-    return RAW_LEASE(process, number, epoch, offset, node)
+    kept = number_of('partitions', len(lease.kept), UINT16_MAX)
+    return RAW_LEASE(process, number, epoch, offset, node, kept, lease.is_leaving)
 
 
 class Core(Learned):
@@ -249,7 +296,8 @@ class Core(Learned):
         """An opening, as arguments of the library."""
         header, owners = line_of(opening.header), owners_of(opening.old)
         epoch, node = number_of('an epoch', opening.epoch, UINT32_MAX), number_of('a node', opening.node, UINT16_MAX)
-        return (*header, epoch, node, number_of('rows_max', opening.rows_max, UINT32_MAX), *owners)
+        rows_max = number_of('rows_max', opening.rows_max, UINT32_MAX)
+        return (*header, epoch, node, rows_max, *owners, bool(opening.is_cooperative))
 
     # What to do next.
 
@@ -260,8 +308,8 @@ class Core(Learned):
         return _STEPS[raw.kind](raw)
 
     def rebalance(self) -> list[str]:
-        """The rows to append, without line ends. They make the group stable among the holders of leases; for a member
-        that leaves as the last one, with no node.
+        """The rows to append, without line ends. They make the group stable among the holders of leases, in a
+        cooperative group among those that are admitted; for a member that leaves as the last one, with no node.
 
         Raises Full if the log has no room for them; OutOfMemory."""
         return texts_of(self._room.text(self._function('rebalance')))
@@ -275,16 +323,36 @@ class Core(Learned):
 
     def owned_of(self, lease: Lease) -> Owned | None:
         """What the holder of such a lease owns, by a plan after what its session has promised of this epoch: its
-        process may work on that.
+        process may work on that; in a cooperative group also on what its promise keeps.
 
         Raises BadNode, OutOfMemory."""
         raw = _raw_lease(lease)
         return owned_of(self._partitions, self._function('owned_of'), ctypes.byref(raw))
 
-    def is_stable(self, now: int) -> bool:
-        """Whether the group is stable by the last snapshot, so that there is nothing to do but work: among the nodes
-        that are up in the log, or have stayed for long enough by now."""
-        return bool(self._filled(ctypes.c_uint32(), 'is_stable', _moment(now)).value)
+    def activities(self) -> list[Activity]:
+        """What its process does on each partition, from partition 0 on."""
+        return [Activity(number) for number in list_of(self._partitions, self._function('activities'))]
+
+    def works(self) -> tuple[int, ...]:
+        """The partitions on which its process works, in rising order, also those that it was asked to stop: what a
+        promise that is requested now keeps.
+
+        Raises OutOfMemory."""
+        return list_of(self._partitions, self._function('works'))
+
+    def is_affected(self, node: int) -> bool:
+        """Whether a change of the log affects this node, by the last snapshot: in an eager group each live node, in a
+        cooperative one each that loses a partition by the coming table. The member of an affected node must promise the
+        end of the log before the change. (A member that ends affects all.)
+
+        Raises BadNode."""
+        number = number_of('a node', node, UINT16_MAX)
+        return bool(self._filled(ctypes.c_uint32(), 'is_affected', number).value)
+
+    def is_stable(self) -> bool:
+        """Whether the group is stable by the last snapshot, so that there is nothing to do but work: among the live
+        nodes that were admitted then."""
+        return bool(self._filled(ctypes.c_uint32(), 'is_stable').value)
 
     # What the driver reports.
 
@@ -307,10 +375,12 @@ class Core(Learned):
     def snapshot_read(self, now: int, seen: Seen) -> None:
         """What a snapshot showed besides the rows. Nothing changes if no snapshot is awaited.
 
-        Raises BadNode; OutOfMemory."""
+        Raises BadNode; OutOfMemory, and then nothing changes, or the member reads another one after a pause."""
         count, epoch = len(seen.leases), number_of('an epoch', seen.epoch, UINT32_MAX)
         leases = (RAW_LEASE * count)(*map(_raw_lease, seen.leases))
-        self._call('snapshot_read', _moment(now), epoch, leases, count, bool(seen.has_unknown), bool(seen.has_request))
+        kept = numbers_of('a partition', (partition for lease in seen.leases for partition in lease.kept))
+        others = bool(seen.has_unknown), bool(seen.has_request)
+        self._call('snapshot_read', _moment(now), epoch, leases, count, *kept, *others)
 
     def passed(self) -> None:
         """In place of any other answer: the epoch is over, and its log was pruned. A store needs this call only if its
@@ -336,12 +406,19 @@ class Core(Learned):
         self._call('leave')
 
     def lost(self, token: int) -> None:
-        """The work that was started by this token has ended on its own."""
+        """All work has ended by itself. The token is that of the last Begin, also for work that was started before;
+        nothing changes with another one."""
         self._call('lost', number_of('a token', token, UINT32_MAX))
 
     def stopped(self) -> None:
-        """All work has stopped."""
+        """All work has ended. Even if there was none, the member promises again before a change that affects it."""
         self._call('stopped')
+
+    def stopped_on(self, partition: int) -> None:
+        """The work on this partition has ended, whether or not the member was asked to stop it. If the node still owns
+        the partition, the member begins again there. Even if there was no such work or partition, the member promises
+        again before a change that affects it."""
+        self._call('stopped_on', number_of('a partition', partition, UINT16_MAX))
 
     # The state.
 
@@ -356,15 +433,14 @@ class Core(Learned):
 
     @property
     def sure_until(self) -> int:
-        """Until when its lease is sure: until then it may do the work that it was told to start. 0 if it has no
+        """Until when its lease is sure: until then it may do the work that it was asked to start. 0 if it has no
         lease."""
         shown = self._shown()
         return int(shown.since + shown.sure_left)  # (`sure_left` is of time 0)
 
     @property
     def promised(self) -> int:
-        """Up to which offset of this epoch its session has promised to be idle, whether or not the store has the
-        promise."""
+        """The last offset of this epoch that its session has promised, whether or not the store knows of that."""
         return int(self._shown().promised)
 
     @property

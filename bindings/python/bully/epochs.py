@@ -47,8 +47,8 @@ def room_of(nodes: int, limit: int) -> int:
 @dataclass(frozen=True)
 class Opening:
     """The start of an epoch: its number; its header and the names of its nodes; how many rows it may have; the last
-    table of the epoch before, by the numbers of this epoch, with 0 for an owner that isn't in it; and the ttl, if the
-    log has one."""
+    table of the epoch before, by the numbers of this epoch, with 0 for an owner that isn't in it; the ttl, if the log
+    has one; and whether the group is cooperative, so that a change stops only the work that moves."""
 
     epoch: int
     header: str
@@ -56,15 +56,17 @@ class Opening:
     limit: int
     table: tuple[int, ...] = ()
     ttl: float | None = None
+    is_cooperative: bool = False
 
     @staticmethod
     def first(
-        header: str, names: Sequence[str] = (), limit: int = EVENTS_MAX, epoch: int = FIRST, ttl: float | None = None
+        header: str, names: Sequence[str] = (), limit: int = EVENTS_MAX, epoch: int = FIRST, ttl: float | None = None,
+        is_cooperative: bool = False,
     ) -> Opening:  # fmt: skip
         """The opening of the first epoch, with this number. Nodes without names are called by their numbers."""
         nodes = setup_of(header).nodes
         called = tuple(names) or tuple(map(str, range(1, nodes + 1)))
-        return Opening(epoch, header, called, room_of(nodes, limit), ttl=ttl)
+        return Opening(epoch, header, called, room_of(nodes, limit), ttl=ttl, is_cooperative=is_cooperative)
 
     @staticmethod
     def parse(text: str) -> Opening:
@@ -72,7 +74,10 @@ class Opening:
         document = json.loads(text)
         names, table, limit = tuple(document['names']), tuple(document['table']), int(document['limit'])
         ttl = float(document['ttl']) if 'ttl' in document else None
-        opening = Opening(int(document['epoch']), str(document['header']), names, limit, table, ttl)
+        is_cooperative = document.get('is_cooperative', False)
+        if not isinstance(is_cooperative, bool):
+            raise ValueError(f'{is_cooperative!r} does not say whether the group is cooperative')
+        opening = Opening(int(document['epoch']), str(document['header']), names, limit, table, ttl, is_cooperative)
         setup = setup_of(opening.header)
         setup.header()  # raises an exception if there can be no such group
         if setup.nodes != len(names) or len(table) not in (0, setup.partitions):
@@ -104,7 +109,8 @@ class Opening:
     def requested(self, settings: Settings) -> Opening:
         """The opening of the next epoch with other settings. Its table isn't known before this epoch ends."""
         limit = room_of(settings.setup.nodes, self.limit)
-        return Opening(self.epoch + 1, settings.setup.header(), settings.names, limit, ttl=self.ttl)
+        after = dataclasses.replace(self.bare, epoch=self.epoch + 1, limit=limit)
+        return dataclasses.replace(after, header=settings.setup.header(), names=settings.names)
 
     def after(self, requested: Opening | None) -> Opening:
         """The opening of the next epoch without its table: with the requested settings, or else with those of this

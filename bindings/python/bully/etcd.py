@@ -4,16 +4,16 @@ The keys of a log, below its prefix:
 
 - `name`: a name that no other log has, with the form of the log. Each request is for the log of that name;
 - `opening/EPOCH`; and `first`, the first epoch whose rows are there;
-- `place`: the end of the log, EPOCH/OFFSET of the current epoch; and `log/EPOCH/OFFSET`: the rows of one append, each
-  with its line end, by the offset of the first one;
+- `offset`: the end of the log, EPOCH/OFFSET of the current epoch; and `rows/EPOCH/OFFSET`: the rows of one append,
+  each with its line end and all compressed, by the offset of the first one;
 - `time/EPOCH/OFFSET`: the time of that append by the wall clock of its process, in milliseconds since 1970;
-- `next`: the opening of the next epoch, if settings are requested; and `orders`: the maintenance, if there is any;
-- `failing/NAME`, of a node whose work fails: `fails`, or `gave up` if the node has given up; no watch reports these
-  keys;
-- `presence/life/NAME` and `presence/promise/NAME`: a session, and its promise EPOCH/OFFSET, both under one lease of
-  etcd's.
+- `requested`: the opening of the next epoch, if settings are requested; and `maintenance`, if there is any;
+- `failing/NAME`, of a node whose work fails: `fails`, or `gave up` if the node has given up;
+- `lease/session/NAME` and `lease/promise/NAME`: a session, and its promise, both under one lease of etcd's; no session
+  is put without its promise. A promise is EPOCH/OFFSET, followed by the partitions that it keeps, each after a space.
 
-EPOCH and OFFSET have ten digits, so a later one is greater. A call reads at one revision; no read is `serializable`.
+EPOCH and OFFSET have ten digits, so a later one is greater. A watch reports the keys from `lease/` to `requested`, so
+neither rows nor notes of failing nodes. A call reads at one revision; no read is `serializable`.
 
 A member's lease is renewed by a renewal of etcd's lease, without a write, while etcd has the leader under which that
 was granted. A leader of an earlier term that was paused may answer renewals of which no other server knows, and may end
@@ -23,40 +23,42 @@ the promise. No other write names a lease: a late one would put a key under an o
 """
 from __future__ import annotations
 
+import re
 import ssl
-from collections.abc import Callable, Iterator, Sequence, Set as AbstractSet
+from collections.abc import Callable, Iterator, Mapping, Sequence
 from contextlib import closing
 from typing import NamedTuple
 
 from .clocks import SECOND, seconds_of_boot, sleep_until_ready, wall_clock
 from .core import Promise, Session, Until
 from .encoding import (
-    BY_HISTORY, log_name, maintenance_of, no_epoch, opening_of, requested_of, rows_of, rows_text, see_end, session_of,
-    session_text,
+    FORM, kept_of, kept_text, log_name, maintenance_of, no_epoch, opening_of, packed, requested_of, rows_of, rows_text,
+    see_end, see_form, session_of, session_text,
 )  # fmt: skip
 from .epochs import FIRST, Opening
 from .etcd_client import (
     KV_RANGE, LEASE_GRANT, LEASE_KEEPALIVE, Answer, Client, Compacted, Json, Pair, Silent, Subscription, behind, coded,
-    exists, number_is, pair_of, pairs_of, put_at, range_at, range_below, range_from, ranges, read_address, value_is,
-    value_of,
+    exists, is_before, number_is, pair_of, pairs_of, put_at, put_of, range_at, range_below, range_from, ranges,
+    read_address, value_is, value_of,
 )  # fmt: skip
 from .maintenance import Maintenance
 from .repair import NOWHERE, Kept
 from .shared_log import (
-    BadLease, DamagedLog, ForeignLog, Holder, LogError, LogExists, NoLog, OtherLog, Sessions, Snapshot, Unanswered,
-    are_idle,
+    BadLease, DamagedLog, ForeignLog, Holder, Known, LogError, LogExists, NoLog, OtherLog, Sessions, Snapshot,
+    Unanswered, is_awaited, may_change,
 )  # fmt: skip
 from .values import Rows
 
-FORM = 3
 BEGIN = f'{{"form": {FORM}, '  # the start of an opening; an older version doesn't take it for one
-NAMED = f'{FORM} '.encode()  # the start of a name
-OLDER = b'{"epoch": '  # the start of an opening of an older form
+NAME = re.compile(rb'([0-9]{1,9}) [0-9a-f]{16}')  # of a log: its form, and a name that no other log has
+OLDEST, OF_OLDEST = 2, b'{"epoch": '  # a form without names, and the start of its openings
 FAILS, GAVE_UP = 'fails', 'gave up'  # notes of a node
 PAGE = 500  # appends that are read in one request
 READS = 3  # how often a read is tried, if etcd compacts its revision meanwhile
 WATCH_AGAIN = 0.2  # seconds between the end of a watch that broke and the next watch
 FEW = 64  # leases: while there are no more, each watch reports promises, whatever a wait is for
+
+Told = tuple[Promise, tuple[int, ...]]  # a promise, and the partitions that it keeps
 
 
 def offset_text(promise: Promise) -> str:
@@ -70,16 +72,30 @@ def offset_of(text: str) -> Promise:
     return Promise(int(epoch), int(offset))
 
 
+def promise_text(promise: Promise, kept: tuple[int, ...] = ()) -> str:
+    """A promise as text, with the partitions that it keeps: so one of an earlier offset is less than a later one of an
+    offset alone."""
+    return f'{offset_text(promise)} {kept_text(kept)}'.rstrip()
+
+
+def promise_of(text: str) -> Told:
+    """The promise of such a text, and what it keeps. Raises ValueError."""
+    offset, space, kept = text.partition(' ')
+    if space and not kept:
+        raise ValueError(f'{text!r} is not a promise')
+    return offset_of(offset), kept_of(kept)
+
+
 class Keys:
     """The keys of a log."""
 
     def __init__(self, prefix: str) -> None:
         self.root = f'{prefix}/'.encode()
         self.older = self.opening(FIRST)  # a log of an older form has this key, too
-        words = (b'name', b'first', b'next', b'orders', b'place')
-        self.name, self.first, self.next, self.maintenance, self.offset = (self.root + word for word in words)
-        self.logs, self.times, self.holders = self.root + b'log/', self.root + b'time/', self.root + b'presence/'
-        self.sessions, self.promises = self.holders + b'life/', self.holders + b'promise/'
+        words = (b'name', b'first', b'offset', b'requested', b'maintenance')
+        self.name, self.first, self.offset, self.requested, self.maintenance = (self.root + word for word in words)
+        self.logs, self.times, self.holders = self.root + b'rows/', self.root + b'time/', self.root + b'lease/'
+        self.sessions, self.promises = self.holders + b'session/', self.holders + b'promise/'
         self.failing = self.root + b'failing/'
 
     def opening(self, epoch: int) -> bytes:
@@ -121,13 +137,20 @@ class Keys:
         """The ranges of all but rows: the end of the log, the requested settings, the maintenance, the sessions and
         promises that were put after a revision, and the nodes whose work fails."""
         newer = {'min_mod_revision': str(since + 1)}
-        whole = map(range_at, (self.offset, self.next, self.maintenance))
+        whole = map(range_at, (self.offset, self.requested, self.maintenance))
         holders = (range_below(prefix, **newer) for prefix in (self.sessions, self.promises))
         return [*whole, *holders, range_below(self.failing)]
 
     def watched(self, is_wide: bool) -> Json:
         """The range of a watch, with promises or without them. Rows aren't in it, because a snapshot reads them."""
-        return range_from(self.next, behind(self.holders) if is_wide else self.promises)
+        return range_from(self.holders if is_wide else self.sessions, self.requested + b'\0')
+
+    def same_but(self, name: str, revision: int) -> list[Json]:
+        """The conditions that since this revision no promise was put, so no session either, but for those of this
+        name."""
+        own = self.promise(name)
+        parts = (self.promises, own), (own + b'\0', behind(self.promises))
+        return [is_before(revision + 1, begin, end) for begin, end in parts]
 
 
 class Held(NamedTuple):
@@ -142,6 +165,8 @@ class Held(NamedTuple):
 class EtcdLog:
     """A log in etcd. Only one thread at a time may use it."""
 
+    form, KEYS = FORM, Keys
+
     def __init__(
         self, address: str, patience: float = 1.0, tls: ssl.SSLContext | None = None, user: str = '', password: str = ''
     ) -> None:
@@ -151,11 +176,12 @@ class EtcdLog:
         Raises NoLog, ForeignLog, DamagedLog, Denied, LogError, Unanswered; ValueError if the address isn't valid."""
         read = read_address(address)
         self.address = address
-        self._keys = Keys(read.prefix)
+        self._keys = self.KEYS(read.prefix)
         self._client = Client(read, patience, tls, user, password)
         self._held: Held | None = None
+        self._own: tuple[str, Session] | None = None  # the session that acquired a lease last, and of which name
         self._seen_wanted: tuple[bytes | None, bytes | None] = None, None
-        self._seen_idle: tuple[Promise, frozenset[str]] = (Promise(), frozenset())
+        self._seen: Mapping[str, Told] = {}  # the promises in the last snapshot
         self._news = News(self._keys)
         self._watch: Subscription | None = None
         self._is_wide = False  # whether it reports promises
@@ -188,12 +214,14 @@ class EtcdLog:
         asked = ranges(range_at(keys.name), range_at(keys.older), range_below(keys.root, limit=1))
         named, older, first = self._client.transact([], asked).ranges
         name, opening = value_of(named), value_of(older) or b''
-        if name is not None and name.startswith(NAMED):
+        found = NAME.fullmatch(name or b'')
+        if name is not None and found is not None:
+            see_form(self.address, int(found[1]), self.form)
             return name
         if not pairs_of(first):
             raise NoLog(f'{self.address}: there is no log; bully-member init makes one')
-        if name is None and opening.startswith(OLDER):
-            raise ForeignLog(f'{self.address}: a log of an older version, not of format {FORM}{BY_HISTORY}')
+        if name is None and opening.startswith(OF_OLDEST):
+            see_form(self.address, OLDEST, self.form)
         is_ours = pairs_of(first)[0].key.startswith((keys.failing, keys.first, keys.logs, keys.holders))
         if name is None and (opening.startswith(BEGIN.encode()) or is_ours):
             raise DamagedLog(f'{self.address}: the log has no name')
@@ -218,11 +246,12 @@ class EtcdLog:
             raise no_epoch(self.address, number, self.epochs())
         return opening_of(self.address, number, found[0].value)
 
-    def roll_over(self, epoch: int, offset: int, opening: Opening) -> bool:
+    def roll_over(self, epoch: int, offset: int, opening: Opening, known: Known | None = None) -> bool:
         """Reads the requested settings first; they must be the same at the end."""
         self._client.begin()
         keys = self._keys
-        *asked, there = self._look(range_at(keys.opening(epoch)), range_at(keys.next), range_at(keys.offset)).ranges
+        read = map(range_at, (keys.opening(epoch), keys.requested, keys.offset))
+        *asked, there = self._look(*read).ranges
         end, here = self._end_of(there), Promise(epoch, offset)
         see_end(self.address, end, here)
         found, at_next = map(pairs_of, asked)
@@ -231,18 +260,19 @@ class EtcdLog:
         requested = requested_of(self.address, epoch, at_next[0].value if at_next else None)
         if opening.bare != opening_of(self.address, epoch, found[0].value).after(requested):
             return False
-        is_same = number_is(keys.next, 'mod_revision', at_next[0].modified if at_next else 0)
-        return self._add(epoch, offset, [*keys.begin(opening), removed(range_at(keys.next))], is_same)
+        is_same = number_is(keys.requested, 'mod_revision', at_next[0].modified if at_next else 0)
+        done = [*keys.begin(opening), removed(range_at(keys.requested))]
+        return self._add(here, done, [*self._may_change(here, known, is_append=False), is_same])
 
     def ask(self, requested: Opening, epoch: int) -> bool:
         self._client.begin()
         if requested.epoch != epoch + 1:
             return False
-        return self._change(self._is_current(epoch), [put_at(self._keys.next, requested.bare.text())]).is_done
+        return self._change(self._is_current(epoch), [put_at(self._keys.requested, requested.bare.text())]).is_done
 
     def cancel(self, epoch: int) -> None:
         self._client.begin()
-        self._change(self._is_current(epoch), [removed(range_at(self._keys.next))])
+        self._change(self._is_current(epoch), [removed(range_at(self._keys.requested))])
 
     def set_maintenance(self, maintenance: Maintenance, before: Maintenance | None) -> bool:
         """Reads the maintenance first; it must be the same at the end."""
@@ -298,7 +328,7 @@ class EtcdLog:
         answer = self._look(range_at(keys.session(name), keys_only=True), range_at(keys.offset))
         if answer.ranges[0].get('kvs') or value_of(answer.ranges[1]) != here.encode():
             return False
-        self._held = self._granted(session, ttl, answer.term)
+        self._held, self._own = self._granted(session, ttl, answer.term), (name, session)
         conditions = [number_is(keys.session(name), 'version', 0), value_is(keys.offset, here.encode())]
         under = str(self._held.lease)
         held = put_at(keys.session(name), session_text(session), lease=under)
@@ -323,18 +353,32 @@ class EtcdLog:
         is_held = value_is(keys.session(name), session_text(session).encode())
         self._change([is_held], [removed(range_at(keys.session(name))), removed(range_at(keys.promise(name)))])
 
-    def promise(self, name: str, session: Session, promise: Promise) -> bool:
-        """The promise keeps the lease of etcd's that it has by then."""
+    def promise(self, name: str, session: Session, promise: Promise, kept: tuple[int, ...] = ()) -> bool:
+        """The promise keeps the lease of etcd's that it has by then. Unless it is of a later offset, the one before is
+        read, and must be the same at the end; if it isn't, that is tried once more."""
         self._client.begin()
-        keys, told = self._keys, offset_text(promise).encode()
-        is_held = value_is(keys.session(name), session_text(session).encode())
-        is_later = {**value_is(keys.promise(name), told), 'result': 'LESS'}
-        kept = same(keys.promise(name), value=coded(told), ignore_lease=True)
-        answer = self._change([is_held, is_later], [kept], range_at(keys.session(name)), range_at(keys.promise(name)))
-        if answer.is_done:
-            return True
-        holder, promised = map(value_of, answer.ranges)
-        return holder == session_text(session).encode() and (promised or b'') >= told
+        keys, its, at = self._keys, session_text(session).encode(), self._keys.promise(name)
+        made = same(at, value=coded(promise_text(promise, kept).encode()), ignore_lease=True)
+        as_before = {**value_is(at, offset_text(promise).encode()), 'result': 'LESS'}
+        for _ in range(3):
+            asked = range_at(keys.session(name)), range_at(at)
+            answer = self._change([value_is(keys.session(name), its), as_before], [made], *asked)
+            if answer.is_done:
+                return True
+            holder, before = map(value_of, answer.ranges)
+            if holder != its or before is None:
+                return False
+            found = Holder(session, *self._promise_of(before))
+            if found.after(promise, kept) == found:
+                return True
+            as_before = value_is(at, before)
+        raise Unanswered(f'{self.address}: another promise of this session was done at the same time')
+
+    def _promise_of(self, value: bytes) -> Told:
+        try:
+            return promise_of(value.decode())
+        except ValueError as fault:
+            raise BadLease(f'{self.address}: a lease can not be read: {fault}') from fault
 
     def _keep_alive(self, held: Held) -> int | None:
         """Renews a lease of etcd's. Returns etcd's term before that; None if there is no such lease."""
@@ -373,26 +417,36 @@ class EtcdLog:
 
     # The log.
 
-    def append(self, epoch: int, offset: int, rows: Sequence[str]) -> bool:
-        """All holders of leases are in one comparison, which fails if there is none."""
-        text = rows_text(rows)
+    def append(self, epoch: int, offset: int, rows: Sequence[str], known: Known | None = None) -> bool:
+        value, here = packed(rows_text(rows)), Promise(epoch, offset)
         self._client.begin()
         keys, end, row = self._keys, offset_text(Promise(epoch, offset + len(rows))), self._keys.row(epoch, offset)
-        done = [put_at(row, text), put_at(keys.time(row), str(wall_clock())), put_at(keys.offset, end)]
-        return self._add(epoch, offset, done)
+        done = [put_of(row, value), put_at(keys.time(row), str(wall_clock())), put_at(keys.offset, end)]
+        return self._add(here, done, self._may_change(here, known, is_append=True))
 
-    def _add(self, epoch: int, offset: int, done: Sequence[Json], *more: Json) -> bool:
-        """Does this at the end of the log, while all are idle, and on further conditions. Returns whether it did."""
-        answer = self._change([*more, *self._are_idle(epoch, offset)], done, range_at(self._keys.offset))
+    def _add(self, here: Promise, done: Sequence[Json], conditions: Sequence[Json]) -> bool:
+        """Does this if the log ends there, and on these conditions. Returns whether it did."""
+        keys = self._keys
+        is_end = value_is(keys.offset, offset_text(here).encode())
+        answer = self._change([is_end, *conditions], done, range_at(keys.offset))
         if not answer.is_done:
-            see_end(self.address, self._end_of(answer.ranges[0]), Promise(epoch, offset))
+            see_end(self.address, self._end_of(answer.ranges[0]), here)
         return answer.is_done
 
-    def _are_idle(self, epoch: int, offset: int) -> list[Json]:
-        """The conditions that the log ends there, and that all promises are of that offset; there must be at least
-        one."""
-        keys, here = self._keys, offset_text(Promise(epoch, offset)).encode()
-        return [value_is(keys.offset, here), {**value_is(keys.promises, here), **range_below(keys.promises)}]
+    def _may_change(self, here: Promise, known: Known | None, is_append: bool) -> list[Json]:
+        """The conditions of leases for a change at the end of the log. All promises are in one comparison, which fails
+        if there is none. If something is known all other leases than the writer's must be as they were then."""
+        keys = self._keys
+        if known is None:
+            return [{**value_is(keys.promises, offset_text(here).encode()), **range_below(keys.promises)}]
+        if self._own is None or not may_change(known.holders, here, known, is_append):
+            return [number_is(keys.name, 'version', 0)]  # which is never so
+        name, session = self._own
+        seen = known.holders.get(name)
+        own = seen if seen is not None and seen.session == session else Holder(session, here)
+        is_live = value_is(keys.session(name), session_text(session).encode())
+        promised = value_is(keys.promise(name), promise_text(own.promise, own.kept).encode())
+        return [is_live, *([promised] if name in known.affected else []), *keys.same_but(name, known.revision)]
 
     def read(self, epoch: int, offset: int) -> Rows:
         keys = self._keys
@@ -437,18 +491,15 @@ class EtcdLog:
         last = end.offset if end.epoch == epoch else None  # it isn't known of an epoch that is over
         if last is not None and offset >= last:
             return Rows('')
-        pairs = list(self._pages(epoch, answer.ranges[-1], answer.revision))
-        is_begin = bool(pairs) and pairs[0].key == keys.row(epoch, offset)
-        texts = [] if is_begin else [self._within(epoch, offset, answer.revision)]
-        at = offset + sum(text.count(b'\n') for text in texts)
-        for pair in pairs:
-            if pair.key != keys.row(epoch, at) or not pair.value.endswith(b'\n'):
-                raise self._damaged(epoch, at)
-            texts.append(pair.value)
-            at += pair.value.count(b'\n')
-        if last not in (None, at):
-            raise self._damaged(epoch, at)
-        return rows_of(self.address, epoch, offset, b''.join(texts))
+        appends = [self._append_of(epoch, pair) for pair in self._pages(epoch, answer.ranges[-1], answer.revision)]
+        if not appends or appends[0][0] != offset:
+            appends[:0] = self._within(epoch, offset, answer.revision)
+        return rows_of(self.address, epoch, offset, appends, last)
+
+    def _append_of(self, epoch: int, pair: Pair) -> tuple[int, bytes]:
+        """An append that is kept: its offset, or NOWHERE if it is something else; and its value."""
+        begin = pair.key[len(self._keys.rows(epoch)) :]
+        return int(begin) if begin.isdigit() and len(begin) == 10 else NOWHERE, pair.value
 
     def _pages(self, epoch: int, found: Json, revision: int) -> Iterator[Pair]:
         """The appends of an epoch at one revision; `found` has the first of them. Raises Compacted."""
@@ -459,32 +510,24 @@ class EtcdLog:
                 return
             found = self._more(self._keys.page(pairs[-1].key + b'\0', epoch), revision)
 
-    def _within(self, epoch: int, offset: int, revision: int) -> bytes:
-        """The rows after an offset in the middle of an append, up to the end of that append."""
+    def _within(self, epoch: int, offset: int, revision: int) -> list[tuple[int, bytes]]:
+        """The last append before an offset, if there is one."""
         keys = self._keys
         asked = range_from(keys.rows(epoch), keys.row(epoch, offset), limit=1, sort_order='DESCEND', sort_target='KEY')
-        found = pairs_of(self._more(asked, revision))
-        begin = found[0].key[len(keys.rows(epoch)) :] if found else b''
-        return b'\n'.join(found[0].value.split(b'\n')[offset - int(begin) :]) if begin.isdigit() else b''
+        return [self._append_of(epoch, pair) for pair in pairs_of(self._more(asked, revision))]
 
     def _more(self, asked: Json, revision: int) -> Json:
         """What this range finds at that revision. Raises Compacted."""
         self._client.begin()
         return self._client.ask(KV_RANGE, {**asked, 'revision': str(revision)}, repeats=True)
 
-    def _damaged(self, epoch: int, offset: int) -> DamagedLog:
-        rows = f'rows of epoch {epoch} are missing after offset {offset}'
-        return DamagedLog(f'{self.address}: {rows}, or there is something else between them')
-
     def kept(self) -> Kept:
         self._client.begin()
         answer = self._look(range_at(self._keys.offset))
         end, keys = self._end_of(answer.ranges[0]), self._keys
         page = self._more(keys.page(keys.row(end.epoch, 0), end.epoch), answer.revision)
-        pairs = list(self._pages(end.epoch, page, answer.revision))
-        begins = [pair.key[len(keys.rows(end.epoch)) :] for pair in pairs]
-        offsets = [int(begin) if begin.isdigit() and len(begin) == 10 else NOWHERE for begin in begins]
-        return Kept(end, list(zip(offsets, (pair.value for pair in pairs))))
+        pages = self._pages(end.epoch, page, answer.revision)
+        return Kept(end, [self._append_of(end.epoch, pair) for pair in pages])
 
     def cut(self, end: Promise, append: int, text: str, opening: Opening) -> bool:
         self._client.begin()
@@ -493,7 +536,8 @@ class EtcdLog:
         begin, behind_all = keys.row(end.epoch, append), behind(keys.rows(end.epoch))
         rest = begin + b'\0' * bool(text), behind_all
         gone = [removed(range_from(first, last)) for first, last in (rest, tuple(map(keys.time, rest)))]
-        done = [*gone, *([put_at(begin, text)] if text else []), removed(range_at(keys.next)), *keys.begin(opening)]
+        left = [put_of(begin, packed(text))] if text else []
+        done = [*gone, *left, removed(range_at(keys.requested)), *keys.begin(opening)]
         return self._change([nobody, value_is(keys.offset, offset_text(end).encode())], done).is_done
 
     # Snapshots and waits.
@@ -513,9 +557,9 @@ class EtcdLog:
                 break
         requested = requested_of(self.address, end.epoch, self._news.requested)
         maintenance = maintenance_of(self.address, self._news.maintenance)
-        found = Snapshot(end.epoch, rows or Rows(''), self._news.holders(), requested, maintenance, self._news.failing)
-        self._seen_wanted, self._seen_idle = self._news.wanted, (end, found.idle(end))
-        return found
+        self._seen_wanted, self._seen = self._news.wanted, self._news.promises.copy()
+        holders, failing = self._news.holders(), self._news.failing
+        return Snapshot(end.epoch, rows or Rows(''), holders, requested, maintenance, failing, answer.revision)
 
     def _see_all(self, answer: Answer, since: int) -> bool:
         """Whether this answer was enough to know the state of the log."""
@@ -529,9 +573,7 @@ class EtcdLog:
     ) -> None:  # fmt: skip
         """Waits by a watch. While there are many leases the watch reports promises only to a wait for them."""
         end = seconds_of_boot() + seconds
-        known, idle = self._seen_idle
-        here = Promise(epoch, offset)
-        is_news = self._news.awaited(here, sessions, until, self._seen_wanted, idle if known == here else frozenset())
+        is_news = self._news.awaited(Promise(epoch, offset), sessions, until, self._seen_wanted, self._seen)
         is_wide = until is not Until.NEWS or len(sessions) <= FEW
         self._woken = wake
         while not self._hear(is_news, is_wide, max(0.0, end - seconds_of_boot())):
@@ -625,7 +667,7 @@ class News:
         self.maintenance: bytes | None = None
         self.failing: dict[str, bool] = {}  # as of the last snapshot
         self.sessions: dict[str, Session] = {}
-        self.promises: dict[str, Promise] = {}
+        self.promises: dict[str, Told] = {}
         self._keys = keys
         self._is_odd = False  # whether only a snapshot can tell what happened
 
@@ -647,7 +689,7 @@ class News:
         for pair in pairs_of(found[0]):
             sessions[keys.node(pair.key, keys.sessions)] = session_of(pair.value.decode())
         for pair in pairs_of(found[1]):
-            promises[keys.node(pair.key, keys.promises)] = offset_of(pair.value.decode())
+            promises[keys.node(pair.key, keys.promises)] = promise_of(pair.value.decode())
         if [len(sessions), len(promises)] != [int(each.get('count', 0)) for each in found]:
             return False
         for name in sessions:
@@ -661,7 +703,7 @@ class News:
 
     def holders(self) -> dict[str, Holder]:
         """Who holds a lease."""
-        return {name: Holder(session, self.promises[name]) for name, session in self.sessions.items()}
+        return {name: Holder(session, *self.promises[name]) for name, session in self.sessions.items()}
 
     def see(self, event: Json) -> None:
         """Takes in an event. When a session goes its promise goes, too, and a watch need not report that."""
@@ -672,7 +714,7 @@ class News:
         try:
             if key == keys.offset:
                 self.end = pair.value if is_put else None
-            elif key == keys.next:
+            elif key == keys.requested:
                 self.requested = pair.value if is_put else None
             elif key == keys.maintenance:
                 self.maintenance = pair.value if is_put else None
@@ -683,7 +725,7 @@ class News:
                 self.sessions.pop(name, None)
                 self.promises.pop(name, None)
             elif key.startswith(keys.promises) and is_put:
-                self.promises[keys.node(key, keys.promises)] = offset_of(pair.value.decode())
+                self.promises[keys.node(key, keys.promises)] = promise_of(pair.value.decode())
             elif key.startswith(keys.promises):
                 self.promises.pop(keys.node(key, keys.promises), None)
         except ValueError:
@@ -691,15 +733,15 @@ class News:
 
     def awaited(
         self, here: Promise, sessions: Sessions, until: Until, wanted: tuple[bytes | None, bytes | None],
-        before: AbstractSet[str],
+        before: Mapping[str, Told],
     ) -> Callable[[], bool]:  # fmt: skip
-        """A function that says whether there is what a wait is for, by what was wanted and who was idle before."""
+        """A function that says whether there is what a wait is for, by what was wanted and promised before."""
         end = offset_text(here).encode()
 
         def is_news() -> bool:
             if self._is_odd or self.end != end or self.wanted != wanted or self.sessions != sessions:
                 return True
-            return are_idle(until, self.promises, here, before)
+            return is_awaited(until, self.promises, (here, ()), before)
 
         return is_news
 
@@ -726,7 +768,7 @@ def make(client: Client, address: str, keys: Keys, opening: Opening) -> None:
     answer = client.transact([exists(keys.name)], [], there)  # so that it needn't compare the keys of a long log
     if not answer.is_done and not answer.ranges[-1].get('kvs'):
         is_empty = {**range_below(keys.root), **number_is(keys.root, 'version', 0)}
-        begun = [put_at(keys.name, NAMED.decode() + log_name()), put_at(keys.first, f'{opening.epoch:010}')]
+        begun = [put_at(keys.name, f'{FORM} {log_name()}'), put_at(keys.first, f'{opening.epoch:010}')]
         answer = client.transact([is_empty], [*begun, *keys.begin(opening)], there)
         if answer.is_done:
             return

@@ -145,6 +145,11 @@ def number_is(key: bytes, name: str, number: int) -> Json:
     return {'key': coded(key), 'target': TARGETS[name], 'result': 'EQUAL', name: str(number)}
 
 
+def is_before(revision: int, begin: bytes, end: bytes) -> Json:
+    """The condition that each key of a range, as far as there are any, was put before this revision."""
+    return {**number_is(begin, 'mod_revision', revision), 'result': 'LESS', 'range_end': coded(end)}
+
+
 def value_is(key: bytes, value: bytes) -> Json:
     """The condition that the key is there, with this value."""
     return {'key': coded(key), 'target': 'VALUE', 'result': 'EQUAL', 'value': coded(value)}
@@ -155,9 +160,14 @@ def ranges(*asked: Json) -> list[Json]:
     return [{'request_range': each} for each in asked]
 
 
-def put_at(key: bytes, value: str, **more: str) -> Json:
+def put_of(key: bytes, value: bytes, **more: str) -> Json:
     """Puts a key."""
-    return {'request_put': {'key': coded(key), 'value': coded(value.encode()), **more}}
+    return {'request_put': {'key': coded(key), 'value': coded(value), **more}}
+
+
+def put_at(key: bytes, text: str, **more: str) -> Json:
+    """Puts a key, with a text as its value."""
+    return put_of(key, text.encode(), **more)
 
 
 def exists(key: bytes) -> Json:

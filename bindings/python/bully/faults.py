@@ -162,6 +162,10 @@ class BadTtl(BadArgument, status='BAD_TTL'):
     """A member's ttl must be from a millisecond to a day."""
 
 
+class BadKept(BadArgument, status='BAD_KEPT'):
+    """Leases keep more or fewer partitions than are given. This package always gives as many."""
+
+
 class BadAnswer(BadArgument, status='BAD_ANSWER'):
     """This isn't the number of an answer of a store. This package passes none."""
 

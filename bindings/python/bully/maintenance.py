@@ -1,4 +1,5 @@
-"""Maintenance, which an operator sets over all epochs: nodes that are drained, and a pause of the group.
+"""Maintenance, which an operator sets over all epochs: nodes that are drained, and a pause of the group. Beside it
+members note that they leave.
 
 A drained node takes no part. While a group is paused members that work continue, and nobody rebalances.
 """
@@ -6,7 +7,7 @@ from __future__ import annotations
 
 import json
 from collections.abc import Mapping, Set as AbstractSet
-from dataclasses import dataclass, replace
+from dataclasses import dataclass, field, replace
 from typing import Any
 
 from .core import Session
@@ -14,25 +15,28 @@ from .core import Session
 
 @dataclass(frozen=True)
 class Maintenance:
-    """The names of the drained nodes; and, while the group is paused, the sessions that were live when it was
-    paused."""
+    """The names of the drained nodes; while the group is paused, the sessions that were live when it was paused; and
+    by their nodes the sessions that have noted that they leave."""
 
     drained: frozenset[str] = frozenset()
     sessions: Mapping[str, Session] | None = None
+    leaving: Mapping[str, Session] = field(default_factory=dict)
 
     @staticmethod
     def parse(text: str) -> Maintenance:
         """The maintenance in this text. Raises ValueError, KeyError, TypeError or AttributeError if it has none."""
         document = json.loads(text or '{"drained": []}')
-        sessions = {str(name): Session(*map(int, session)) for name, session in document.get('paused', {}).items()}
-        return Maintenance(frozenset(map(str, document['drained'])), sessions if 'paused' in document else None)
+        paused, leaving = (_sessions_in(document.get(key, {})) for key in ('paused', 'leaving'))
+        drained = frozenset(map(str, document['drained']))
+        return Maintenance(drained, paused if 'paused' in document else None, leaving)
 
     def text(self) -> str:
         """The maintenance as JSON, for a store; empty if there is none."""
         document: dict[str, Any] = {'drained': sorted(self.drained)}
         if self.sessions is not None:
-            sessions = sorted(self.sessions.items())
-            document['paused'] = {name: [session.process, session.number] for name, session in sessions}
+            document['paused'] = _sessions_text(self.sessions)
+        if self.leaving:
+            document['leaving'] = _sessions_text(self.leaving)
         return '' if self == Maintenance() else json.dumps(document, ensure_ascii=False)
 
     @property
@@ -44,6 +48,26 @@ class Maintenance:
         the end of the pause."""
         return name in self.drained and not (self.is_paused and is_live)
 
+    def is_known_to_leave(self, name: str, session: Session) -> bool:
+        """Whether this session, which holds the lease of that node, is known to leave: the node is drained, or the
+        session has noted it. During a pause nobody counts as leaving, because nobody rebalances."""
+        return not self.is_paused and (name in self.drained or self.leaving.get(name) == session)
+
+    def with_leaving(self, name: str, sessions: Mapping[str, Session]) -> Maintenance:
+        """The same once the session of that node has noted that it leaves. These sessions hold leases; what others have
+        noted is dropped."""
+        leaving = {each: session for each, session in self.leaving.items() if sessions.get(each) == session}
+        return replace(self, leaving={**leaving, name: sessions[name]})
+
     def among(self, names: AbstractSet[str]) -> Maintenance:
         """The same without nodes that aren't in the group."""
-        return replace(self, drained=self.drained & names)
+        leaving = {name: session for name, session in self.leaving.items() if name in names}
+        return replace(self, drained=self.drained & names, leaving=leaving)
+
+
+def _sessions_in(document: dict[str, Any]) -> dict[str, Session]:
+    return {str(name): Session(*map(int, session)) for name, session in document.items()}
+
+
+def _sessions_text(sessions: Mapping[str, Session]) -> dict[str, list[int]]:
+    return {name: [session.process, session.number] for name, session in sorted(sessions.items())}

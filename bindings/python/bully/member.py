@@ -1,29 +1,36 @@
 """A member that runs: its rules, which are proved, over a log, a clock and callbacks."""
 from __future__ import annotations
 
+import collections
 import dataclasses
 import logging
 import queue
 import secrets
 import socket
 import threading
-from collections.abc import Callable
+from collections.abc import Callable, Collection
 from contextlib import ExitStack, suppress
-from dataclasses import dataclass, field
-from typing import TypeVar
+from functools import partial
+from typing import Deque, TypeVar
 
-from .adapter import Requester, awaited, core_opening_of, seen_of
+from .adapter import Requester, awaited, core_opening_of, known_of, note_leaving, seen_of
 from .clocks import SECOND, nanoseconds_of_boot, seconds_of_boot, sleep_until_ready
 from .core import (
-    Ask, BackOff, Begin, Core, End, Ending, Promise, Request, Seen, Session, Step, Stop, StoreAnswer, Until, Wait, Way,
+    Activity, Ask, BackOff, Begin, Core, End, Ending, Live, Promise, Reason, Request, Seen, Session, Step, Stop, StoreAnswer,
+    Until, Wait,
 )  # fmt: skip
 from .display import shown_name
 from .epochs import Opening, Token
+from .faults import OutOfMemory
+from .observer import waits_for
 from .settings import Settings
-from .shared_log import DamagedLog, Log, LogError, Snapshot, Unanswered, found_in, openings_of
+from .shared_log import DamagedLog, Holder, Known, Log, LogError, Snapshot, Unanswered, found_in, openings_of
 from .values import Status
 from .view import Behind
 from .work_failures import Failures, GivingUp
+from .working import (
+    Assigned, Assignment as Assignment, Callback, Callbacks, PartitionCallbacks, Revoked, WholeCallbacks, Working,
+)  # fmt: skip
 
 ENDINGS = {
     Ending.LEFT: 'it was told to leave', Ending.NOT_THERE: 'its node is not in the group any more',
@@ -31,21 +38,8 @@ ENDINGS = {
 }  # fmt: skip
 
 
-@dataclass(frozen=True)
-class Assignment:
-    """What the node owns: the token of its table; the coordinator that planned the table; the partitions, counted from
-    0; the settings of the epoch, which number the nodes; and until when that is sure, as far as this process knows."""
-
-    token: Token
-    coordinator: int
-    partitions: tuple[int, ...]
-    settings: Settings
-    until: float = field(default=float('-inf'), compare=False)
-
-
 NOTHING = None, 0.0, False  # what a member without a lease shows
-Callback = Callable[[Assignment], None]
-WorkCall = tuple[bool, Assignment]  # a call of `stop`, or else of `start`
+NONE: frozenset[int] = frozenset()  # no partitions
 _Answered = TypeVar('_Answered')
 _logger = logging.getLogger('bully')
 
@@ -84,20 +78,32 @@ class Member:
     does, the member also ends, but doesn't release its lease, because the work may continue.
 
         with Member(SqliteLog('group.db'), 2, start, stop) as member:
-            member.run()"""
+            member.run()
+
+    In a cooperative group they are called if the set of partitions changes; the work goes on by its earlier token if it
+    doesn't. Callbacks by partition stop only what moves. They are on the same terms:
+
+    - `on_assigned(assignment, partitions)`: the node owns the assignment from now on. The work on these partitions must
+      start; on its others it goes on, by the new token.
+    - `on_revoked(partitions)`: must return only once nothing of these is worked on any more.
+    - `on_lost(partitions)`: the same, in place of `on_revoked`, once the lease of the node isn't sure any more."""
 
     def __init__(
-        self, log: Log, node: int | str, start: Callback, stop: Callback, ttl: float = 5.0,
-        settings: Settings | None = None, sure: Callable[[float], None] | None = None,
-        failures: Failures | None = None,
+        self, log: Log, node: int | str, start: Callback | None = None, stop: Callback | None = None, ttl: float = 5.0,
+        settings: Settings | None = None, sure: Callable[[float], object] | None = None,
+        failures: Failures | None = None, *, on_assigned: Assigned | None = None, on_revoked: Revoked | None = None,
+        on_lost: Revoked | None = None, work: Working | None = None, acquires: Callable[[Session], object] | None = None,
     ) -> None:  # fmt: skip
         """A member of the log's group, for the node of this name, or of this number in the current epoch. When the
-        group's settings change it keeps the name; `run` returns if the group has no such node any more. If `settings`
-        are given, which may be those of an earlier epoch, the log must belong to that group. After each renewal `sure`
-        is called with the time until which ownership is sure, by `clocks.seconds_of_boot`. With `failures`, which the
-        code that does the work counts, the member notes in the log that its work fails, and its node may give up.
+        group's settings change it keeps the name; `run` returns if the group has no such node any more. The work is
+        done by `start` and `stop`, by `on_assigned` and `on_revoked`, or by `work`. If `settings` are given, which may
+        be those of an earlier epoch, the log must belong to that group. After each renewal `sure` is called with the
+        time until which ownership is sure, by `clocks.seconds_of_boot`; before a lease is requested `acquires` is, with
+        the session that may hold it. With `failures`, which the code that does the work counts, the member notes in the
+        log that its work fails, and its node may give up.
 
-        Raises OtherGroup, NotInGroup, BadHeader, BadNode, BadTtl, OutOfMemory, and what the log raises."""
+        Raises TypeError if it isn't given exactly one of these kinds of work; OtherGroup, NotInGroup, BadHeader,
+        BadNode, BadTtl, OutOfMemory, and what the log raises."""
         self.log = log
         opening = log.opening()
         if settings is not None and not is_known(log, settings):
@@ -108,16 +114,17 @@ class Member:
         self.behind = Behind()
         self._take_part(opening, node_number(opening, node))
         self.name = opening.names[self.core.node - 1]
+        self._does = self._work_by((start, stop), (on_assigned, on_revoked), on_lost, work)
         self.is_drained = False  # whether it does nothing because its node is drained
         self.gave_up = False  # whether it does nothing for a while because its work fails, and its node gave up
         self._giving_up = GivingUp(log, self.name, ttl, failures)
-        self._start_work, self._stop_work, self._sure = start, stop, sure
+        self._sure, self._acquires = sure, acquires
         self._is_leaving = False
         self._is_stuck = False  # whether a stop failed, so that work may never stop
-        self._work: Assignment | None = None
-        self._to_call: queue.SimpleQueue[WorkCall | None] = queue.SimpleQueue()
-        self._stopped: list[Assignment] = []
-        self._lost: list[Assignment] = []
+        self._work: Assignment | None = None  # what its node owned when it last began; on some of it work may have ended
+        self._working = self._stopping = NONE  # the partitions on which it works, and those of which work has to end
+        self._to_call: queue.SimpleQueue[Callable[[], None] | None] = queue.SimpleQueue()
+        self._reports: Deque[Collection[int]] = collections.deque()  # partitions on which work has ended
         self._woken: socket.socket  # while it runs: can be read once it is woken
         self._wakes: socket.socket | None = None  # while it runs
         self._ended = threading.Event()
@@ -125,9 +132,25 @@ class Member:
         self._shown: tuple[Assignment | None, float, bool] = NOTHING
         self.stepped = 0.0  # the time of its last step, by `clocks.seconds_of_boot`
 
+    def _work_by(
+        self, whole: tuple[Callback | None, Callback | None], by_partition: tuple[Assigned | None, Revoked | None],
+        on_lost: Revoked | None, work: Working | None,
+    ) -> Working:  # fmt: skip
+        """What does the work: the one kind that is given. Raises TypeError."""
+        (start, stop), (assigned, revoked) = whole, by_partition
+        kinds: list[Working] = [] if work is None else [work]
+        if start is not None and stop is not None:
+            kinds.append(WholeCallbacks(self, self._note_ended, self.name, start, stop))
+        if assigned is not None and revoked is not None:
+            kinds.append(PartitionCallbacks(self, self._note_ended, self.name, assigned, revoked, on_lost))
+        if len(kinds) != 1:
+            raise TypeError('a member needs start and stop, or on_assigned and on_revoked, or work')
+        return kinds[0]
+
     def _take_part(self, opening: Opening, number: int) -> None:
         """It takes part for the node of this number, with a process number of its own."""
         self._process = secrets.randbits(63)
+        self._has_announced = False  # whether it has noted in the log that it leaves
         self.core = Core(core_opening_of(opening, number), self._process, int(self.ttl * SECOND))
         self._enter(opening)
 
@@ -136,6 +159,7 @@ class Member:
         self._numbers = {name: number for number, name in enumerate(opening.names, 1)}
         self._found = Snapshot(opening.epoch, (), {}, None)  # the last snapshot
         self._seen = Seen(opening.epoch)  # what the core was shown of that
+        self._own: Holder | None = None  # its own lease, with its last promise that was done
 
     # Any thread may call these.
 
@@ -146,7 +170,8 @@ class Member:
 
     @property
     def leads(self) -> bool:
-        """Whether its node is surely the coordinator now. No two members of a group are at the same moment."""
+        """Whether its node is surely the coordinator now. No two members of a group are at the same moment. In a
+        cooperative group no member says so: work goes on there while another node becomes the coordinator."""
         _, until, leads = self._shown
         return leads and seconds_of_boot() < until
 
@@ -186,10 +211,29 @@ class Member:
         if not self._is_leaving:
             self.fail(failure)
 
+    def get_stuck(self, failure: BaseException) -> None:
+        """Ends the member without releasing its lease, because its work may go on. `run` raises this."""
+        self._is_stuck = True
+        self.fail(failure)
+
     def lose(self, assignment: Assignment) -> None:
-        """Reports that the work for this assignment has ended on its own. The member stops it, and starts it again if
-        the node still owns it."""
-        self._lost.append(assignment)
+        """Reports that the work for this assignment, which `start` or `on_assigned` was given, has ended on its own. The
+        member stops what is left of it, and starts again what the node still owns. For `start` it must be the object
+        that was given last. Without callbacks `ended` reports that."""
+        if isinstance(self._does, Callbacks):
+            self._to_call.put(partial(self._does.lose, assignment))
+
+    def ended(self, partitions: Collection[int]) -> None:
+        """Reports that the work on these partitions has ended, asked for or not. The member starts it again where the
+        node still owns them. With `start` and `stop` it first stops all of it."""
+        ended = frozenset(partitions)
+        if isinstance(self._does, Callbacks):
+            self._to_call.put(partial(self._does.ended, ended))
+        else:
+            self._note_ended(ended)
+
+    def _note_ended(self, partitions: Collection[int]) -> None:
+        self._reports.append(partitions)
         self._wake()
 
     def _wake(self) -> None:
@@ -213,7 +257,7 @@ class Member:
             try:
                 self._go_on()
             finally:
-                self._shown = NOTHING
+                self._shown = None, self.sure_until, False
                 self._to_call.put(None)  # however the run ended
                 caller.join()
         if self.failure is not None:
@@ -286,20 +330,23 @@ class Member:
             self._woken.recv(4096, socket.MSG_DONTWAIT)
         if self._is_leaving:
             self.core.leave()
-        while self._stopped:
-            self._stopped.pop()
+        while self._reports:
+            self._hear_ended(self._reports.popleft())
+
+    def _hear_ended(self, partitions: Collection[int]) -> None:
+        """Reports to the core that the work on these partitions has ended."""
+        self._working, self._stopping = self._working.difference(partitions), self._stopping.difference(partitions)
+        if self._working or self._stopping:
+            for partition in partitions:
+                self.core.stopped_on(partition)
+        else:
             self._work = None
             self.core.stopped()
-        while self._lost:
-            lost = self._lost.pop()
-            if lost is self._work:
-                self.core.lost(lost.token.events)
 
     def _show(self) -> None:
-        work = self.core.work
-        is_stopping = work is not None and work.way is Way.STOPPING
-        shown = None if is_stopping else self._work
-        self._shown = shown, self.core.sure_until / SECOND, not is_stopping and self._is_coordinator(shown)
+        shown = None if self._work is None else self._work.left(self._working)
+        leads = not (self._stopping or self.opening.is_cooperative) and self._is_coordinator(shown)
+        self._shown = shown, self.core.sure_until / SECOND, leads
 
     def _is_coordinator(self, work: Assignment | None) -> bool:
         """Whether its node planned the table of this work; or, if it owns nothing, the last plan after its promise."""
@@ -315,31 +362,63 @@ class Member:
         if isinstance(step, Ask):
             self._ask(step)
         elif isinstance(step, Begin):
-            owned, planner = self.core.owned(), self.core.planner
-            assert owned is not None and planner is not None
-            token = Token.of(self.opening.epoch, owned.token)
-            self._work = Assignment(token, planner, owned.partitions, self.opening.settings)
-            self._show()
-            self._to_call.put((False, self._work))
-        elif isinstance(step, Stop):  # the work was hidden as soon as `next` returned this
-            assert self._work is not None
-            self._to_call.put((True, self._work))
+            self._begin()
+        elif isinstance(step, Stop):
+            self._stop()
         elif isinstance(step, BackOff):
-            sleep_until_ready(step.at_most / SECOND, self._woken.fileno())
+            if not self._announces(step.reason):
+                sleep_until_ready(step.at_most / SECOND, self._woken.fileno())
         elif isinstance(step, Wait):
             self._wait(step)
 
+    def _begin(self) -> None:
+        """Starts the work on what its node owns, and goes on where it works already."""
+        owned, planner = self.core.owned(), self.core.planner
+        assert owned is not None and planner is not None
+        token, before = Token.of(self.opening.epoch, owned.token), self._working
+        work = Assignment(token, planner, owned.partitions, self.opening.settings)
+        self._work, self._working = work, frozenset(owned.partitions)
+        self._show()
+        self._to_call.put(partial(self._does.start, work, self._working - before))
+
+    def _stop(self) -> None:
+        """Stops the work that it may not go on with. It isn't shown any more."""
+        activities = enumerate(self.core.activities())
+        stopping = frozenset(partition for partition, activity in activities if activity is Activity.STOPPING)
+        stopped, self._stopping = stopping - self._stopping, stopping
+        self._working -= stopping
+        self._show()
+        left = None if self._work is None else self._work.left(self._working)
+        self._to_call.put(partial(self._does.stop, left, stopped))
+
     def _wait(self, step: Wait) -> None:
         """Waits for news in the log, or until it is woken; unless it must note something in the log."""
-        if self._notes():
+        if self._notes() or self._announces(step.reason):
             self.core.woke()
             return
+        self._see_behind(step.reason)
         found, epoch, offset = self._found, self.opening.epoch, self.core.offset
-        is_stable = step.until is Until.ANY_IDLE or self.core.session is None or found.maintenance.is_paused
-        self.behind.see(Promise(epoch, offset), found.holders, is_stable)
         until, seconds = awaited(step.until, self._seen), step.at_most / SECOND
         self._answer(lambda: self.log.wait(epoch, offset, found.sessions, until, seconds, self._woken.fileno()))
         self.core.woke()
+
+    def _see_behind(self, reason: Reason) -> None:
+        """Notes for whom the change waits that is under way, if one is."""
+        core, found, end = self.core, self._found, Promise(self.opening.epoch, self.core.offset)
+        is_over = reason is Reason.STABLE or core.session is None or found.is_frozen(end)
+        with suppress(OutOfMemory):  # then that isn't shown
+            self.behind.see(end, {} if is_over else waits_for(core, self.opening, found))
+
+    def _announces(self, reason: Reason) -> bool:
+        """Whether it made a call to the log to note that it leaves: once, while its work stops."""
+        core = self.core
+        is_due = reason is Reason.STOP and core.ending is Ending.LEFT and core.sure_until > nanoseconds_of_boot()
+        live = None if self._has_announced or not is_due else core.session
+        if not isinstance(live, Live):
+            return False
+        self._has_announced, session = True, live.session
+        self._answer(lambda: note_leaving(self.log, self.name, session))
+        return True
 
     def _notes(self) -> bool:
         """Whether it made a call to the log to note how its work goes. Its node may have given up by that."""
@@ -357,6 +436,8 @@ class Member:
 
     def _ask(self, ask: Ask) -> None:
         """Makes a request to the log, and reports the result to the core."""
+        if ask.request is Request.ACQUIRE and self._acquires is not None:
+            self._acquires(ask.session)
         result = self._answer(self._requester().call(ask))
         if isinstance(result, Snapshot):
             self._snapshot_read(result)
@@ -365,6 +446,9 @@ class Member:
         else:
             answer = StoreAnswer.UNANSWERED if result is None else StoreAnswer.DONE if result else StoreAnswer.REFUSED
             self.core.answered(nanoseconds_of_boot(), answer)
+        if result and ask.request in (Request.ACQUIRE, Request.PROMISE):
+            kept = self.core.works() if ask.request is Request.PROMISE else ()
+            self._own = Holder(ask.session, Promise(self.opening.epoch, ask.offset), kept)
         if result and ask.request is Request.ACQUIRE:
             _logger.info('node %s: live as %d.%d', shown_name(self.name), ask.session.process, ask.session.number)
         if result and ask.request in (Request.ACQUIRE, Request.RENEW) and self._sure is not None:
@@ -372,7 +456,13 @@ class Member:
 
     def _requester(self) -> Requester:
         ttl, core = int(self.ttl * SECOND), self.core
-        return Requester(self.log, self.name, self.opening, core.offset, lambda: ttl, core.rebalance, self._after)
+        return Requester(
+            self.log, self.name, self.opening, core.offset, lambda: ttl, core.rebalance, self._after, core.works, self._known
+        )
+
+    def _known(self) -> Known | None:
+        """What a change of the log compares of leases."""
+        return known_of(self.core, self.opening, self._found, self.name, self._own)
 
     def _after(self) -> Opening:
         """The opening of the next epoch."""
@@ -380,7 +470,7 @@ class Member:
 
     def _snapshot_read(self, found: Snapshot) -> None:
         """Takes in a snapshot."""
-        self._found = found
+        self._found, self._own = found, None  # its own lease is in the snapshot
         self._giving_up.see(found)
         self._see_other(found.sessions.get(self.name))
         self.core.learn(found.rows)
@@ -421,25 +511,14 @@ class Member:
     # The callbacks, in their own thread.
 
     def _call_all(self) -> None:
-        """Makes the calls that it is told to, one after the other; and at the end `stop`, if work was started and not
-        stopped."""
-        begun = None
-        for is_stop, work in iter(self._to_call.get, None):
-            begun = None if is_stop else work
-            self._call(is_stop, work)
-        if begun is not None:
-            self._call(True, begun)
+        """Makes the calls that it is told to, one after the other; at the end its work ends."""
+        for call in iter(self._to_call.get, None):
+            self._call(call)
+        self._call(self._does.end)
 
-    def _call(self, is_stop: bool, work: Assignment) -> None:
-        words = 'stops' if is_stop else 'starts'
-        who, what = shown_name(self.name), list(work.partitions)
-        _logger.info('node %s: %s work on partitions %s by token %d', who, words, what, work.token)
+    def _call(self, call: Callable[[], None]) -> None:
+        """If that raises an exception, which the callbacks don't here, it isn't known what goes on."""
         try:
-            (self._stop_work if is_stop else self._start_work)(work)
+            call()
         except BaseException as failure:
-            self.fail(failure)
-            self._is_stuck |= is_stop
-        else:
-            if is_stop:
-                self._stopped.append(work)
-        self._wake()
+            self.get_stuck(failure)

@@ -2,7 +2,7 @@
 from __future__ import annotations
 
 import threading
-from collections.abc import Callable, Sequence, Set as AbstractSet
+from collections.abc import Callable, Mapping, Sequence
 from typing import NamedTuple
 
 from .clocks import SECOND, nanoseconds_of_boot, sleep_until_ready, wall_clock
@@ -10,7 +10,7 @@ from .core import Promise, Session, Until
 from .encoding import no_epoch, rows_text, see_end
 from .epochs import Opening
 from .maintenance import Maintenance
-from .shared_log import Holder, Sessions, Snapshot, Wanted, are_idle
+from .shared_log import Holder, Known, Sessions, Snapshot, Wanted, is_awaited, may_change, promises_of
 
 WAKEABLE_WAIT = 0.02  # the longest wait in memory, in seconds, if something else may wake it
 
@@ -87,12 +87,12 @@ class MemoryLog:
                 del self.leases[name]
                 self._changed.notify_all()
 
-    def promise(self, name: str, session: Session, promise: Promise) -> bool:
+    def promise(self, name: str, session: Session, promise: Promise, kept: tuple[int, ...] = ()) -> bool:
         with self._changed:
             done = self._holds(name, session)
             if done:
                 lease = self.leases[name]
-                self._hold(name, Holder(session, max(promise, lease.holder.promise)), lease.until)
+                self._hold(name, lease.holder.after(promise, kept), lease.until)
             return done
 
     def _holds(self, name: str, session: Session) -> bool:
@@ -105,19 +105,20 @@ class MemoryLog:
 
     # The log.
 
-    def append(self, epoch: int, offset: int, rows: Sequence[str]) -> bool:
+    def append(self, epoch: int, offset: int, rows: Sequence[str], known: Known | None = None) -> bool:
         rows_text(rows)
         with self._changed:
-            done = self._may_append(Promise(epoch, offset))
+            done = self._may_change(Promise(epoch, offset), known, is_append=True)
             if done:
                 self._times[epoch][offset] = wall_clock()
                 self.rows.extend(rows)
                 self._changed.notify_all()
             return done
 
-    def roll_over(self, epoch: int, offset: int, opening: Opening) -> bool:
+    def roll_over(self, epoch: int, offset: int, opening: Opening, known: Known | None = None) -> bool:
         with self._changed:
-            done = self._may_append(Promise(epoch, offset)) and opening.bare == self.opening().after(self.requested)
+            may_change = self._may_change(Promise(epoch, offset), known, is_append=False)
+            done = may_change and opening.bare == self.opening().after(self.requested)
             if done:
                 self._openings[opening.epoch], self._rows[opening.epoch], self.requested = opening, [], None
                 self._times[opening.epoch] = {}
@@ -128,12 +129,9 @@ class MemoryLog:
         """The end of the current epoch's log."""
         return Promise(self.epoch, len(self.rows))
 
-    def _may_append(self, here: Promise) -> bool:
+    def _may_change(self, here: Promise, known: Known | None, is_append: bool) -> bool:
         see_end('the log', self._end(), here)
-        return here == self._end() and are_idle(Until.ALL_IDLE, self._promises(), here)
-
-    def _promises(self) -> dict[str, Promise]:
-        return {name: holder.promise for name, holder in self.holders.items()}
+        return here == self._end() and may_change(self.holders, here, known, is_append)
 
     def read(self, epoch: int, offset: int) -> list[str]:
         with self._changed:
@@ -158,7 +156,7 @@ class MemoryLog:
             see_end('the log', self._end(), Promise(epoch, offset))
             rows = self.rows[offset:] if epoch == self.epoch else []
             found = Snapshot(self.epoch, rows, self.holders, self.requested, self.maintenance, dict(self.failing))
-            self._seen.wanted, self._seen.idle = found.wanted, (self._end(), found.idle(self._end()))
+            self._seen.wanted, self._seen.holders = found.wanted, found.holders
             return found
 
     def wait(
@@ -167,23 +165,24 @@ class MemoryLog:
         if wake is not None:  # which is polled
             seconds = 0.0 if sleep_until_ready(0.0, wake) else min(seconds, WAKEABLE_WAIT)
         end, wanted = self.clock() + int(seconds * SECOND), getattr(self._seen, 'wanted', (None, Maintenance()))
-        known: tuple[Promise, frozenset[str]] = getattr(self._seen, 'idle', (Promise(), frozenset()))
-        before = known[1] if known[0] == Promise(epoch, offset) else frozenset()
+        before: Mapping[str, Holder] = getattr(self._seen, 'holders', {})
         with self._changed:
             while not self.has_news(epoch, offset, sessions, wanted, until, before) and self.clock() < end:
                 ends = [lease.until for lease in self.leases.values() if self.clock() < lease.until]
                 self._changed.wait(max(0, min([end, *ends]) - self.clock()) / SECOND)
 
     def has_news(
-        self, epoch: int, offset: int, sessions: Sessions, wanted: Wanted, until: Until, before: AbstractSet[str]
+        self, epoch: int, offset: int, sessions: Sessions, wanted: Wanted, until: Until, before: Mapping[str, Holder]
     ) -> bool:
         """Whether a wait is over, after a snapshot that showed these requested settings, this maintenance, and these
-        nodes idle up to that offset."""
+        holders of leases."""
         with self._changed:
             if Promise(epoch, offset) != self._end() or wanted != (self.requested, self.maintenance):
                 return True
-            there = {name: holder.session for name, holder in self.holders.items()}
-            return there != sessions or are_idle(until, self._promises(), Promise(epoch, offset), before)
+            holders = self.holders
+            there = {name: holder.session for name, holder in holders.items()}
+            idle = Promise(epoch, offset), ()
+            return there != sessions or is_awaited(until, promises_of(holders), idle, promises_of(before))
 
     def ask(self, requested: Opening, epoch: int) -> bool:
         with self._changed:

@@ -13,10 +13,10 @@ from collections.abc import Callable
 
 from .clocks import SECOND, seconds_of_boot, sleep_until_ready
 from .core import Promise, Session, Until
-from .epochs import Opening
+from .epochs import TTL, Opening
 from .maintenance import Maintenance
 from .member import node_number
-from .replica import Replica
+from .observer import Observer
 from .settings import Settings
 from .shared_log import Log, Snapshot, Unanswered, found_in
 from .store_options import BadWords
@@ -92,24 +92,29 @@ def lead(log: Log, name: str, seconds: float) -> Opening:
 def end_epoch(log: Log, opening: Opening, end: float) -> None:
     """Returns once the epoch has ended. Raises NotEnded if that doesn't happen in time."""
     process, tries = secrets.randbits(63), 0
-    with Replica(opening.header) as replica:
+    with Observer(opening, opening.ttl or TTL) as observer:
         while True:
-            found = log.snapshot(opening.epoch, replica.rows)
+            found = log.snapshot(opening.epoch, observer.rows)
             if found.epoch != opening.epoch:
                 return
-            replica.learn(found.rows)
-            here = Promise(opening.epoch, replica.rows)
+            observer.see(found)
+            here = observer.end
             if found.requested is not None and not found.holders:
                 tries += 1
-                after = opening.next(found.requested, replica.last_table or opening.table)
+                after = opening.next(found.requested, observer.last_table or opening.table)
                 end_alone(log, Session(process, tries), here, after)
             elif seconds_of_boot() >= end:
-                late = [name for name, holder in found.holders.items() if holder.promise != here]
-                names = ', '.join(late or found.holders)
-                raise NotEnded(f'epoch {opening.epoch} has not ended yet; it waits for {names}')
+                raise NotEnded(f'epoch {opening.epoch} has not ended yet; {why_not_ended(observer, found)}')
             else:
                 left = max(0.0, min(EPOCH_WAIT, end - seconds_of_boot()))
                 log.wait(here.epoch, here.offset, found.sessions, Until.NEWS, left)
+
+
+def why_not_ended(observer: Observer, found: Snapshot) -> str:
+    """What the end of an epoch waits for."""
+    if found.is_frozen(observer.end):
+        return 'the group is paused'
+    return f'it waits for {", ".join(observer.waits_for(found) or found.holders)}'
 
 
 def end_alone(log: Log, session: Session, here: Promise, opening: Opening) -> None:

@@ -26,7 +26,7 @@ from .hosts import BadRequest, Hosts, Target
 from .member import Member
 from .shared_log import LogError, Unanswered
 from .values import Status
-from .view import GroupView, LogView, NodeView
+from .view import Doing, GroupView, LogView, NodeView, PartitionView
 from .worker import Workers
 
 _logger = logging.getLogger('bully')
@@ -56,7 +56,7 @@ th { font-weight: 600; color: #566173; } code { font: 13px ui-monospace, monospa
 .election { background: #c2571a; } .down { background: #b9c0ca; }
 .cells { display: flex; flex-wrap: wrap; gap: 3px; }
 .cell { border: 1px solid #cfd6df; border-radius: 3px; padding: .05rem .4rem; font-size: 13px; }
-.free { background: #fdf0e4; } .small { color: #566173; }
+.waiting { background: #fdf0e4; } .moving, .stopping { background: #fbf6d4; } .small { color: #566173; }
 """
 SCRIPT = """
 async function follow() {
@@ -110,7 +110,7 @@ def page_of(name: str, group: GroupView, told_worker: str) -> str:
         f'<body data-events="{group.events}" data-epoch="{group.epoch}"><h1>Group, as {html.escape(name)} sees it</h1>'
         f'<p class="small">coordinator <b>{html.escape(group.coordinator or "none")}</b>, '
         f'token <b>{group.token or "none"}</b>, {group.events} events in epoch {group.epoch}, '
-        f'{live} of {len(group.nodes)} nodes live{html.escape(group.told_more + told_worker)}</p>'
+        f'{group.mode}, {live} of {len(group.nodes)} nodes live{html.escape(group.told_more + told_worker)}</p>'
         f'<h2>Nodes</h2>{nodes_of(group)}<h2>Partitions</h2>{partitions_of(group)}'
         f'<h2>Last events</h2>{last_of(group)}</body><script>{SCRIPT}</script></html>'
     )
@@ -133,12 +133,18 @@ def row_of(node: NodeView) -> str:
 
 
 def partitions_of(group: GroupView) -> str:
-    """The partitions, each with its owner."""
-    cells = ''.join(
-        f'<span class="cell{"" if owner else " free"}">{partition} <b>{html.escape(owner or "-")}</b></span>'
-        for partition, owner in enumerate(group.owners)
-    )
+    """The partitions, each with its owner, and with the node to which it moves."""
+    cells = ''.join(cell_of(partition, each) for partition, each in enumerate(group.partitions))
     return f'<div class="cells">{cells}</div>'
+
+
+def cell_of(partition: int, view: PartitionView) -> str:
+    """A partition, with who may work on it by which token, and to whom it moves."""
+    moves = '' if view.coming is None or view.coming == view.owner else f' to {html.escape(view.coming)}'
+    stops = ', stops' if view.doing is Doing.STOPPING else ''
+    owner = html.escape(view.owner or '-')
+    token = '' if view.token is None else f' title="token {view.token}"'
+    return f'<span class="cell {view.doing.value}"{token}>{partition} <b>{owner}</b>{moves}{stops}</span>'
 
 
 def last_of(group: GroupView) -> str:
@@ -199,12 +205,17 @@ def tell_group(tell: Callable[..., None], group: GroupView) -> None:
     tell('bully_worker_failing', 'Whether the worker of the node fails, and the node owns something or gave up.', fails)
     tell('bully_gave_up', 'Whether the node gave up what it owned because its worker fails.', gave_up)
     tell('bully_paused', 'Whether the group is paused.', [('', group.is_paused)])
+    tell('bully_cooperative', 'Whether a change stops only the work that moves.', [('', group.is_cooperative)])
+    tell('bully_stable', 'Whether nothing in the group has to change.', [('', group.is_stable)])
     tell('bully_node_normal', 'Whether the node is Normal.', nodes(lambda node: node.status is Status.NORMAL))
     tell('bully_node_leads', 'Whether the node is the coordinator.', nodes(lambda node: node.name == group.coordinator))
     tell('bully_node_partitions', 'How many partitions the node owns.', nodes(lambda node: len(node.partitions)))
     behind = [(labels(each), group.behind.get(each, 0.0)) for each in names]
-    tell('bully_idle_behind_seconds', 'For how many seconds the others have waited for the node to be idle.', behind)
+    tell('bully_idle_behind_seconds', 'For how many seconds a change has waited for the node to stop its work.', behind)
+    stops = [(labels(each), len(group.stops.get(each, ()))) for each in names]
+    tell('bully_node_stops', 'On how many partitions the node must stop its work for a change.', stops)
     tell('bully_partitions_free', 'How many partitions nobody may work on now.', [('', group.owners.count(None))])
+    tell('bully_partitions_moving', 'How many partitions get another owner by the change under way.', [('', group.moves)])
 
 
 def asked_number(asked: dict[str, list[str]], name: str) -> int | None:

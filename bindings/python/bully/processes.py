@@ -87,10 +87,13 @@ def adopt() -> None:
     checked(LIBC.prctl(PR_SET_CHILD_SUBREAPER, 1, 0, 0, 0))
 
 
-def end_children(spared: AbstractSet[int], seconds: float, tell: Callable[[list[int]], object]) -> dict[int, int]:
+def end_children(
+    spared: AbstractSet[int], seconds: float, tell: Callable[[list[int]], object],
+    meanwhile: Callable[[], object] = lambda: None,
+) -> dict[int, int]:  # fmt: skip
     """Kills the children of this process but these, with what they leave, and waits until none is left, listed or not.
     Calls `tell` with those that are still there after so many seconds, first those that it may not kill, and again if
-    there are others. Returns their exit statuses."""
+    there are others; and `meanwhile` again and again. Returns their exit statuses."""
     statuses: dict[int, int] = {}
     reported: set[int] | None = None
     end, sleep = nanoseconds_of_boot() + int(seconds * SECOND), LONGEST_SLEEP / 16
@@ -104,6 +107,7 @@ def end_children(spared: AbstractSet[int], seconds: float, tell: Callable[[list[
         if nanoseconds_of_boot() >= end and (reported is None or not left <= reported):
             tell(sorted(left, key=may_kill))
             reported = left
+        meanwhile()
         time.sleep(sleep)
         sleep = min(2 * sleep, LONGEST_SLEEP)
     return statuses
@@ -122,6 +126,11 @@ def reap(child: int) -> dict[int, int]:
         ended, how = os.waitpid(child, os.WNOHANG)
         return {ended: os.waitstatus_to_exitcode(how)} if ended else {}
     return {}
+
+
+def is_there(process: int) -> bool:
+    """Whether there is such a process, or its status is still there."""
+    return os.path.exists(f'/proc/{process}')
 
 
 def may_kill(process: int) -> bool:

@@ -9,6 +9,7 @@ from collections.abc import Sequence
 from typing import NamedTuple, Protocol
 
 from .core import Promise
+from .encoding import unpacked
 from .epochs import Opening
 from .faults import NotLearned
 from .maintenance import Maintenance
@@ -20,7 +21,8 @@ NOWHERE = 2**63  # after all offsets: for something that isn't an append
 
 
 class Kept(NamedTuple):
-    """What a store keeps of the current epoch, whatever it is: the end of its log, and the appends by their offsets."""
+    """What a store keeps of the current epoch, whatever it is: the end of its log, and the appends by their offsets, as
+    they are kept."""
 
     end: Promise
     appends: Sequence[tuple[int, bytes]]
@@ -51,43 +53,49 @@ class Damage(NamedTuple):
 
     @property
     def told(self) -> str:
-        cut = f'{len(self.rows)} of {self.end.offset} rows are to be cut, and then epoch {self.opening.epoch} starts'
+        count = max(len(self.rows), self.end.offset - self.offset)  # some may not be readable
+        cut = f'{count} of {self.end.offset} rows are to be cut, and then epoch {self.opening.epoch} starts'
         return f'epoch {self.end.epoch}, offset {self.offset}: {self.why}; {cut}'
 
 
 def damage_of(log: Repairable) -> Damage | None:
     """What is wrong with the rows of the log, if anything is. Raises DamagedLog if its opening can't be read."""
     opening, kept = log.opening(), log.kept()
-    count = whole(kept.appends)
-    all_rows = [row for _, text in kept.appends[:count] for row in lines_of(text)]
+    appends = [(begin, lines_of(value)) for begin, value in kept.appends]
+    count = whole(appends)
+    all_rows = [row for _, lines in appends[:count] for row in lines]
     rows, why = rows_there(all_rows)
     with Replica(opening.header) as replica:
         try:
             replica.learn(rows)
         except NotLearned as fault:
             rows, why = rows[: fault.taken], str(fault)
-        if not why and (count < len(kept.appends) or len(rows) != kept.end.offset):
-            why = 'rows are missing, or there is something else between them'
+        if not why and (count < len(appends) or len(rows) != kept.end.offset):
+            why = 'rows are missing or can not be read, or there is something else between them'
         if not why:
             return None
         offset, after = len(rows), opening.next(None, replica.last_table or opening.table)
-    append = max((begin for begin, _ in kept.appends[:count] if begin < offset), default=0)
-    cut = all_rows[offset:] + [row for _, text in kept.appends[count:] for row in lines_of(text)]
+    append = max((begin for begin, _ in appends[:count] if begin < offset), default=0)
+    cut = all_rows[offset:] + [row for _, lines in appends[count:] for row in lines]
     return Damage(why, kept.end, offset, cut, append, ''.join(f'{row}\n' for row in rows[append:]), after)
 
 
-def lines_of(text: bytes) -> list[str]:
-    """The lines of an append, also if it isn't text."""
-    return text.decode(errors='replace').split('\n')[:-1]
+def lines_of(value: bytes) -> list[str]:
+    """The lines of an append, also if it isn't text, or the last one has no end; none if it can't be decompressed."""
+    try:
+        *lines, rest = unpacked(value).decode(errors='replace').split('\n')
+    except ValueError:
+        return []
+    return [*lines, rest] if rest else lines
 
 
-def whole(appends: Sequence[tuple[int, bytes]]) -> int:
-    """How many of these appends follow one another without a gap, from the start of the log on."""
+def whole(appends: Sequence[tuple[int, list[str]]]) -> int:
+    """How many of these appends have rows, and follow one another without a gap, from the start of the log on."""
     end = 0
-    for count, (begin, text) in enumerate(appends):
-        if begin != end:
+    for count, (begin, lines) in enumerate(appends):
+        if begin != end or not lines:
             return count
-        end += len(lines_of(text))
+        end += len(lines)
     return len(appends)
 
 

@@ -4,8 +4,9 @@ A store keeps the rows in one order, who holds a lease, and what each session ha
 trace: its header is in the epoch's opening, and an *offset* says how many rows come after that, so an empty log ends at
 offset 0. A process acquires the *lease* of its node, under the node's name, for a session that no other try has, and
 renews it. Leases are by name, over all epochs. A lease has a promise: its session works by no plan before that offset
-of that epoch. Rows are appended, and an epoch is ended, only while all holders of leases have promised the end of its
-log; so nobody works at that time.
+of that epoch, except on the partitions that the promise keeps. In an eager group rows are appended, and an epoch is
+ended, only while all holders of leases have promised the end of its log and keep nothing; so nobody works at that time.
+In a cooperative group only the holders that a change affects are compared (`Known`).
 
 `Log` is the interface. `bully.memory` has a log in the memory of a process, `bully.sqlite` one in a file of one
 machine, and `bully.etcd` one in etcd. `docs/REBALANCING.md` says when a store does what members ask for, and
@@ -16,7 +17,7 @@ may pass.
 """
 from __future__ import annotations
 
-from collections.abc import Iterator, Mapping, Sequence, Set as AbstractSet
+from collections.abc import Iterator, Mapping, Sequence
 from contextlib import suppress
 from types import MappingProxyType
 from typing import NamedTuple, Optional, Protocol, TypeVar
@@ -44,6 +45,10 @@ class LogExists(LogError):
 
 class ForeignLog(LogError):
     """There is something other than a log, or a log of another form."""
+
+
+class OlderLog(ForeignLog):
+    """There is a log of the form before this one, of which only the history can be read."""
 
 
 class OtherLog(ForeignLog):
@@ -79,16 +84,37 @@ class DiskFull(Unanswered):
 
 
 class Holder(NamedTuple):
-    """Who holds a lease: the session, and its promise."""
+    """Who holds a lease: the session, its promise, and the partitions that the promise keeps, in rising order."""
 
     session: Session
     promise: Promise
+    kept: tuple[int, ...] = ()
+
+    def after(self, promise: Promise, kept: tuple[int, ...]) -> Holder:
+        """The same after another promise of the session, which may come late: the later one of both counts; of two of
+        one offset the new one if it keeps nothing that the other one doesn't keep."""
+        is_later = promise > self.promise or promise == self.promise and set(kept) <= set(self.kept)
+        return Holder(self.session, promise, kept) if is_later else self
+
+    def is_idle(self, here: Promise) -> bool:
+        """Whether it has promised that offset, and keeps nothing."""
+        return self.promise == here and not self.kept
+
+
+class Known(NamedTuple):
+    """What a change compares of leases, in a cooperative group: those of these nodes. Each must be as the writer knows
+    it: its own with its last promise that was done, all others as its last snapshot found them; or its holder must be
+    idle. The revision is that of this snapshot."""
+
+    affected: frozenset[str]
+    holders: Mapping[str, Holder]
+    revision: int = 0
 
 
 class Snapshot(NamedTuple):
     """What a snapshot shows, all at one moment: the current epoch; the requested rows, if they are of that epoch; who
-    holds a lease, by name; the requested settings; the maintenance; and notes of the nodes whose work fails, which say
-    whether they have given up."""
+    holds a lease, by name; the requested settings; the maintenance; notes of the nodes whose work fails, which say
+    whether they have given up; and the revision of the store, if it counts them."""
 
     epoch: int
     rows: Sequence[str]
@@ -96,6 +122,7 @@ class Snapshot(NamedTuple):
     requested: Opening | None
     maintenance: Maintenance = Maintenance()
     failing: Mapping[str, bool] = MappingProxyType({})
+    revision: int = 0
 
     @property
     def wanted(self) -> Wanted:
@@ -106,16 +133,16 @@ class Snapshot(NamedTuple):
         """The sessions of the holders of leases, by name."""
         return {name: holder.session for name, holder in self.holders.items()}
 
-    def idle(self, here: Promise) -> frozenset[str]:
+    def promised(self, here: Promise) -> frozenset[str]:
         """Who had promised that offset."""
-        return idle_of({name: holder.promise for name, holder in self.holders.items()}, here)
+        return frozenset(name for name, holder in self.holders.items() if holder.promise == here)
 
     def is_frozen(self, end: Promise) -> bool:
         """Whether the group is paused, and nobody rebalances. Not yet if a session that was live when the pause began
         has promised the end of the log: it can't work by the last plan any more, so the group is rebalanced first."""
         sessions = self.maintenance.sessions
-        idle = self.idle(end)
-        return sessions is not None and not any(sessions.get(name) == self.holders[name].session for name in idle)
+        promised = self.promised(end)
+        return sessions is not None and not any(sessions.get(name) == self.holders[name].session for name in promised)
 
 
 class Log(Protocol):
@@ -138,19 +165,20 @@ class Log(Protocol):
     def release(self, name: str, session: Session) -> None:
         """The session doesn't hold the lease any more, if it did."""
 
-    def promise(self, name: str, session: Session, promise: Promise) -> bool:
-        """The session has made this promise, or keeps its own if that is later, if it holds the lease. Returns whether
-        it has."""
+    def promise(self, name: str, session: Session, promise: Promise, kept: tuple[int, ...] = ()) -> bool:
+        """If the session holds the lease, it has made this promise, which keeps these partitions, in rising order; or
+        an earlier promise of it stays (`Holder.after`). Returns whether it holds the lease."""
 
-    def append(self, epoch: int, offset: int, rows: Sequence[str]) -> bool:
+    def append(self, epoch: int, offset: int, rows: Sequence[str], known: Known | None = None) -> bool:
         """Appends these rows, at least one, if the epoch is the current one, its log ends at this offset, somebody
-        holds a lease, and all holders have promised that offset of that epoch. Otherwise nothing changes. Returns
-        whether it did."""
+        holds a lease, and all holders have promised that offset of that epoch and keep nothing; or, if something is
+        `known`, only what that says. Otherwise nothing changes. A store may also refuse if more has changed than that
+        compares. Returns whether it appended."""
 
-    def roll_over(self, epoch: int, offset: int, opening: Opening) -> bool:
+    def roll_over(self, epoch: int, offset: int, opening: Opening, known: Known | None = None) -> bool:
         """Ends the epoch, and starts the next one with this opening, on the conditions of `append`, and if the opening
-        is the `next` of this epoch's for the requested settings. Leases and promises stay; the request to resize is
-        done. Returns whether it did."""
+        is the `next` of this epoch's for the requested settings. Each holder that is compared must be idle. Leases and
+        promises stay; the request to resize is done. Returns whether it did."""
 
     def snapshot(self, epoch: int, offset: int) -> Snapshot:
         """The rows of that epoch after that offset, if it is the current one, and what else is kept at the same moment.
@@ -162,9 +190,9 @@ class Log(Protocol):
     ) -> None:  # fmt: skip
         """Returns once another epoch is the current one, or there are rows after that offset, or other sessions than
         these are live, or other settings or maintenance are set than in the last snapshot. By `until` it also returns
-        once a holder of a lease has promised that offset of that epoch that hadn't when the last snapshot found the log
-        to end there, or once all have. It also returns once the descriptor `wake` can be read, or the time is over; and
-        it may return sooner. It never misses what was so before the call."""
+        once a holder of a lease is idle there that wasn't in the last snapshot, once all are, or once one has made
+        another promise than in that snapshot. It also returns once the descriptor `wake` can be read, or the time is
+        over; and it may return sooner. It never misses what was so before the call."""
 
     def ask(self, requested: Opening, epoch: int) -> bool:
         """Requests these settings, and no others, if the epoch is the current one and they are for the next. Returns
@@ -211,16 +239,33 @@ def openings_of(log: Log) -> Iterator[Opening]:
             yield log.opening(epoch)
 
 
+def may_change(holders: Mapping[str, Holder], here: Promise, known: Known | None, is_append: bool) -> bool:
+    """Whether these holders of leases allow a change where the log ends: an append, or the end of the epoch."""
+    compared = {name: holder for name, holder in holders.items() if known is None or name in known.affected}
+    seen = known.holders if known is not None and is_append else {}
+    return bool(holders) and all(each.is_idle(here) or each == seen.get(name) for name, each in compared.items())
+
+
+def promises_of(holders: Mapping[str, Holder]) -> dict[str, tuple[Promise, tuple[int, ...]]]:
+    """What holders of leases have promised, and what these promises keep."""
+    return {name: (holder.promise, holder.kept) for name, holder in holders.items()}
+
+
 def idle_of(promises: Mapping[Name, object], here: object) -> frozenset[Name]:
     """The names whose promise is this one."""
     return frozenset(name for name, promise in promises.items() if promise == here)
 
 
-def are_idle(
-    until: Until, promises: Mapping[Name, object], here: object, before: AbstractSet[Name] = frozenset()
+def is_awaited(
+    until: Until, promises: Mapping[Name, object], idle: object, before: Mapping[Name, object]
 ) -> bool:
-    """Whether, by `until`, a name that isn't in `before` has this promise, or all names do."""
+    """Whether there is what a wait is for, by the promises now and those `before`, in the last snapshot; `idle` is the
+    promise of a holder that is idle."""
     if until is Until.NEWS:
         return False
-    idle = idle_of(promises, here)
-    return bool(idle - before) if until is Until.ANY_IDLE else bool(idle) and len(idle) == len(promises)
+    if until is Until.PROMISES:
+        return any(promise != before.get(name) for name, promise in promises.items())
+    there = idle_of(promises, idle)
+    if until is Until.ANY_IDLE:
+        return not there <= idle_of(before, idle)
+    return bool(there) and len(there) == len(promises)

@@ -14,19 +14,20 @@ from contextlib import closing, contextmanager
 from typing import NamedTuple
 from urllib.parse import quote
 
-from .boots import boot_name, machine_boot, moments
+from .boots import boot_name, machine_boot, moment_of
 from .clocks import SECOND, nanoseconds_of_boot, sleep_until_ready, wall_clock
 from .core import Promise, Session, Until
 from .encoding import (
-    BY_HISTORY, log_name, maintenance_of, no_epoch, opening_of, requested_of, rows_of, rows_text, see_end, session_of,
-    session_text,
+    FORM, kept_of, kept_text, log_name, maintenance_of, no_epoch, opening_of, packed, requested_of, rows_of, rows_text,
+    see_end, see_form, session_of, session_text,
 )  # fmt: skip
 from .epochs import Opening
 from .maintenance import Maintenance
+from .releasing import release_in
 from .repair import Kept
 from .shared_log import (
-    BadLease, DamagedLog, DiskFull, ForeignLog, Holder, LogBusy, LogExists, OtherLog, ReadOnlyLog, Sessions, Snapshot,
-    Unanswered, are_idle,
+    BadLease, DamagedLog, DiskFull, ForeignLog, Holder, Known, LogBusy, LogExists, OtherLog, ReadOnlyLog, Sessions,
+    Snapshot, Unanswered, is_awaited, may_change, promises_of,
 )  # fmt: skip
 from .sqlite_file import (
     NEW, OWNER_ALONE, beside, identity, keep_name, make, remove, see_alone, see_disk, told_holder, told_owner,
@@ -34,7 +35,6 @@ from .sqlite_file import (
 from .values import Rows
 
 APPLICATION = 0x62756C79  # of a file with a log: `buly`
-FORM = 3  # of its tables
 SHORTEST_SLEEP, LONGEST_SLEEP = 0.001, 0.05  # seconds between two polls of a file
 SIGHT = SECOND // 4  # nanoseconds between two checks of which files are there, at most
 PRUNED_AT_ONCE = 100  # appends
@@ -42,20 +42,23 @@ NEVER = 2**63 - 1
 
 # `changes` also has the name of the log and the maintenance. `boots` has the boots of the machine that have used the
 # log, in order: an earlier one is over, unless it is another time namespace of the same boot, which may come again. A
-# record of `log` has the rows of one append, each with its line end, the offset of the first one, and the time of the
-# append. An epoch that was pruned keeps its opening, without a count.
+# record of `log` has the rows of one append, each with its line end and all compressed, the offset of the first one,
+# and the time of the append. An epoch that was pruned keeps its opening, without a count. `kept` has the partitions
+# that a promise keeps, `failing` the nodes whose work fails.
 TABLES = """
-create table epochs (epoch integer primary key, opening text not null, wish text, count integer);
-create table log (epoch integer, place integer, rows text not null, time integer, primary key (epoch, place));
-create table presence (
-    name text primary key, life text not null, epoch integer not null, place integer not null, boot text not null,
-    since integer not null, until integer not null
+create table epochs (epoch integer primary key, opening text not null, requested text, count integer);
+create table log (epoch integer, offset integer, rows blob not null, time integer, primary key (epoch, offset));
+create table leases (
+    name text primary key, session text not null, epoch integer not null, offset integer not null, kept text not null,
+    boot text not null, since integer not null, until integer not null
 );
-create table changes (name text not null, lives integer not null, promises integer not null, orders text not null);
+create table changes (
+    name text not null, sessions integer not null, promises integer not null, maintenance text not null
+);
 create table boots (number integer primary key, boot text not null unique);
+create table failing (name text primary key, gave_up integer not null);
 """
-# The notes of nodes whose work fails. The first note makes the table: a log of an older version has none before that.
-FAILING = 'create table if not exists failing (name text primary key, gave_up integer not null)'
+LEASES = 'select name, session, epoch, offset, kept, until from leases where boot = ? and until > ?'
 OTHER_CLOCK = 'another time namespace holds leases: all members must share one, /proc/self/ns/time'
 OTHER_BOOT = 'another boot has used it after this one: all members must see one /proc/sys/kernel/random/boot_id'
 
@@ -99,20 +102,28 @@ def form_of(path: str, file: sqlite3.Connection) -> int:
     return int(file.execute('pragma user_version').fetchone()[0])
 
 
-def holder_of(where: str, name: str, session: str, epoch: int, offset: int, until: int) -> Holder:
-    """The holder of the lease of that name, from a row of a table. Raises BadLease."""
+class Lease(NamedTuple):
+    """A lease: its holder, and when it ends."""
+
+    holder: Holder
+    until: int
+
+
+def lease_of(where: str, name: str, session: str, epoch: int, offset: int, kept: str, until: int) -> Lease:
+    """The lease of that name, from a row of the table. Raises BadLease."""
     try:
         if not isinstance(until, int):
             raise ValueError(f'{until!r} is not a time')
-        return Holder(session_of(session), Promise(int(epoch), int(offset)))
+        return Lease(Holder(session_of(session), Promise(int(epoch), int(offset)), kept_of(str(kept))), until)
     except (ValueError, TypeError) as fault:
         raise BadLease(f'{where}: the lease of {name} can not be read: {fault}') from fault
 
 
 class Standing(NamedTuple):
-    """The state of a log but for its rows and leases: its end, the requested settings, the maintenance, its name, its
-    last boot, and counts of changes."""
+    """The state of a log but for its rows and leases: a moment before it was read; its end, the requested settings, the
+    maintenance, its name, its last boot, and counts of changes."""
 
+    now: int
     end: Promise
     requested: str | None
     maintenance: str
@@ -130,6 +141,8 @@ class SqliteLog:
     """A log in a file of SQLite, which may not be on a network. Only one thread at a time may use it, and no child by
     fork."""
 
+    form = FORM
+
     def __init__(self, path: os.PathLike[str] | str, patience: float = 1.0, reads: bool = False) -> None:
         """Opens the log of this file, which `create` made. Each call waits for others for so many seconds; a reader
         waits for nobody.
@@ -145,8 +158,7 @@ class SqliteLog:
         self._name = ''  # of the log, once it is known
         self._live: dict[str, Session] = {}  # who was live when leases were last read
         self._seen_wanted: tuple[str | None, str] = None, ''
-        self._seen_idle: tuple[Promise, frozenset[str]] = (Promise(), frozenset())
-        self._has_notes = False  # whether there is a table of nodes whose work fails
+        self._seen: dict[str, Holder] = {}  # who held a lease in the last snapshot
         self._session_changes = -1  # the count of these changes at that time
         self._earliest = 0  # none of these leases ends before
         self._version = self._promise_changes = -1  # of what a wait saw last
@@ -185,11 +197,7 @@ class SqliteLog:
 
     def _open(self, kind: str) -> None:
         with calls(self.path):
-            form = form_of(self.path, self._file)
-            if form != FORM:
-                version, more = ('an older', BY_HISTORY) if form < FORM else ('another', '')
-                by = f'{form}, by {version} version'
-                raise ForeignLog(f'{self.path}: a log of format {by}, not of format {FORM}{more}')
+            see_form(self.path, form_of(self.path, self._file), self.form)
             mode = self._file.execute('pragma journal_mode = wal').fetchone()[0]
             if mode != 'wal':
                 raise ForeignLog(f'{self.path}: SQLite keeps a journal of mode {mode} here, and can not keep a -wal')
@@ -197,6 +205,11 @@ class SqliteLog:
         with self._transaction(kind) as standing:
             self._name = standing.name
         self._beside = beside(self._real)
+
+    @property
+    def name(self) -> str:
+        """The name of the log, which no other log has."""
+        return self._name
 
     # Epochs.
 
@@ -213,46 +226,44 @@ class SqliteLog:
                 raise no_epoch(self.path, number, self.epochs())
         return opening_of(self.path, number, found[0])
 
-    def roll_over(self, epoch: int, offset: int, opening: Opening) -> bool:
+    def roll_over(self, epoch: int, offset: int, opening: Opening, known: Known | None = None) -> bool:
         with self._syncing() as standing:
-            if not self._may_append(standing, Promise(epoch, offset)):
+            if not self._may_change(standing, Promise(epoch, offset), known, is_append=False):
                 return False
             if opening.bare != self.opening(epoch).after(requested_of(self.path, epoch, standing.requested)):
                 return False
             open_epoch(self._file, opening)
-            self._file.execute('update epochs set wish = null where epoch = ?', (epoch,))
+            self._file.execute('update epochs set requested = null where epoch = ?', (epoch,))
         return True
 
     def ask(self, requested: Opening, epoch: int) -> bool:
         with self._syncing() as standing:
             if epoch != standing.end.epoch or requested.epoch != epoch + 1:
                 return False
-            self._file.execute('update epochs set wish = ? where epoch = ?', (requested.bare.text(), epoch))
+            self._file.execute('update epochs set requested = ? where epoch = ?', (requested.bare.text(), epoch))
         return True
 
     def cancel(self, epoch: int) -> None:
         with self._syncing():
-            self._file.execute('update epochs set wish = null where epoch = ?', (epoch,))
+            self._file.execute('update epochs set requested = null where epoch = ?', (epoch,))
 
     def set_maintenance(self, maintenance: Maintenance, before: Maintenance | None) -> bool:
         with self._syncing() as standing:
             if before is not None and before != maintenance_of(self.path, standing.maintenance):
                 return False
-            self._file.execute('update changes set orders = ?', (maintenance.text(),))
+            self._file.execute('update changes set maintenance = ?', (maintenance.text(),))
         return True
 
     def note(self, name: str, gave_up: bool | None) -> None:
         with self._transaction():
-            self._file.execute(FAILING)
             self._file.execute('delete from failing where name = ?', (name,))
             if gave_up is not None:
                 self._file.execute('insert into failing values (?, ?)', (name, gave_up))
 
     def give_up(self, name: str, heir: str, session: Session) -> bool:
-        with self._transaction():
-            self._file.execute(FAILING)
+        with self._transaction() as standing:
             noted = self._one('select count(*) from failing where name = ?', heir)
-            if noted or self._promised(heir, session, nanoseconds_of_boot()) is None:
+            if noted or self._holder(heir, session, standing) is None:
                 return False
             self._file.execute('insert or replace into failing values (?, ?)', (name, True))
         return True
@@ -272,28 +283,26 @@ class SqliteLog:
 
     def acquire(self, name: str, session: Session, promise: Promise, ttl: int) -> bool:
         with self._transaction() as standing:
-            now = nanoseconds_of_boot()
-            asked = 'select count(*) from presence where name = ? and boot = ? and until > ?'
+            now = standing.now
+            asked = 'select count(*) from leases where name = ? and boot = ? and until > ?'
             if promise != standing.end or self._one(asked, name, self._boot, now):
                 return False
             if standing.boot != self._boot:
-                self._enter_boot(standing, now)
-            held = name, session_text(session), promise.epoch, promise.offset, self._boot, now, now + ttl
-            self._file.execute('insert or replace into presence values (?, ?, ?, ?, ?, ?, ?)', held)
-            self._file.execute('update changes set lives = lives + 1')
+                self._enter_boot(standing)
+            held = name, session_text(session), promise.epoch, promise.offset, '', self._boot, now, now + ttl
+            self._file.execute('insert or replace into leases values (?, ?, ?, ?, ?, ?, ?, ?)', held)
+            self._file.execute('update changes set sessions = sessions + 1')
         return True
 
-    def _enter_boot(self, standing: Standing, now: int) -> None:
+    def _enter_boot(self, standing: Standing) -> None:
         """This boot uses the log from now on. Raises LogBusy or ForeignLog if another boot may still hold leases."""
-        self._see_others(standing, now)
-        # A version that doesn't know time namespaces finds its boot there, and another one after it.
-        self._file.execute('insert or ignore into boots (boot) values (?)', (machine_boot(self._boot),))
+        self._see_others(standing)
         self._file.execute('delete from boots where boot = ?', (self._boot,))
         self._file.execute('insert into boots (boot) values (?)', (self._boot,))
 
-    def _see_others(self, standing: Standing, now: int) -> None:
+    def _see_others(self, standing: Standing) -> None:
         """Raises LogBusy if another boot may hold leases; ForeignLog if another time namespace of this boot does."""
-        if standing.boot != self._boot and self._are_elsewhere(now):
+        if standing.boot != self._boot and self._are_elsewhere(standing.now):
             if self._is_same_boot(standing):
                 raise ForeignLog(f'{self.path}: {OTHER_CLOCK}')
             raise LogBusy(f'{self.path}: another boot may still hold leases')
@@ -304,41 +313,45 @@ class SqliteLog:
 
     def _are_elsewhere(self, now: int) -> bool:
         """Whether another boot may hold leases, by this clock: leases of earlier boots mostly have other times."""
-        others = self._file.execute('select distinct boot from presence where boot != ?', (self._boot,)).fetchall()
-        asked = 'select count(*) from presence where boot = ? and since <= ? and until > ?'
-        there = [(boot, moment) for boot, in others for moment in moments(now, self._boot, str(boot))]
+        others = self._file.execute('select distinct boot from leases where boot != ?', (self._boot,)).fetchall()
+        asked = 'select count(*) from leases where boot = ? and since <= ? and until > ?'
+        there = [(boot, moment_of(now, self._boot, str(boot))) for boot, in others]
         return any(self._one(asked, boot, moment, moment) for boot, moment in there)
 
     def renew(self, name: str, session: Session, ttl: int) -> bool:
-        with self._transaction():
-            now = nanoseconds_of_boot()
-            if self._promised(name, session, now) is None:
+        with self._transaction() as standing:
+            if self._holder(name, session, standing) is None:
                 return False
-            self._file.execute('update presence set since = ?, until = ? where name = ?', (now, now + ttl, name))
+            asked = 'update leases set since = ?, until = ? where name = ?'
+            self._file.execute(asked, (standing.now, standing.now + ttl, name))
         return True
 
     def release(self, name: str, session: Session) -> None:
         with self._transaction():
-            asked = 'delete from presence where name = ? and life = ?'
-            if self._file.execute(asked, (name, session_text(session))).rowcount:
-                self._file.execute('update changes set lives = lives + 1')
+            release_in(self._file, name, session_text(session))
 
-    def promise(self, name: str, session: Session, promise: Promise) -> bool:
-        with self._transaction():
-            promised = self._promised(name, session, nanoseconds_of_boot())
-            if promised is None:
+    def promise(self, name: str, session: Session, promise: Promise, kept: tuple[int, ...] = ()) -> bool:
+        with self._transaction() as standing:
+            holder = self._holder(name, session, standing)
+            if holder is None:
                 return False
-            later = max(promise, promised)
-            asked = 'update presence set epoch = ?, place = ? where name = ?'
-            self._file.execute(asked, (later.epoch, later.offset, name))
+            after = holder.after(promise, kept)
+            told = after.promise.epoch, after.promise.offset, kept_text(after.kept)
+            self._file.execute('update leases set epoch = ?, offset = ?, kept = ? where name = ?', (*told, name))
             self._file.execute('update changes set promises = promises + 1')
         return True
 
-    def _promised(self, name: str, session: Session, now: int) -> Promise | None:
-        """The promise of the session, if it holds the lease of this name."""
-        asked = 'select epoch, place from presence where name = ? and life = ? and boot = ? and until > ?'
-        found = self._file.execute(asked, (name, session_text(session), self._boot, now)).fetchone()
-        return Promise(*found) if found else None
+    def _holder(self, name: str, session: Session, standing: Standing) -> Holder | None:
+        """The holder of the lease of this name, if it is this session."""
+        found = self._leases(standing, name).get(name)
+        return found.holder if found is not None and found.holder.session == session else None
+
+    def _leases(self, standing: Standing, name: str | None = None) -> dict[str, Lease]:
+        """The leases that are held, or the one of this name. One that ended since the moment of `standing` is there
+        still, but none is missing that was renewed since."""
+        asked, words = (LEASES, ()) if name is None else (f'{LEASES} and name = ?', (name,))
+        found = self._file.execute(asked, (self._boot, standing.now, *words)).fetchall()
+        return {name: lease_of(self.path, name, *told) for name, *told in found}
 
     def _see_files(self) -> None:
         """Raises OtherLog if another file is in the place of one of its own: there may be two histories then."""
@@ -350,24 +363,22 @@ class SqliteLog:
 
     # The log.
 
-    def append(self, epoch: int, offset: int, rows: Sequence[str]) -> bool:
-        text = rows_text(rows)
+    def append(self, epoch: int, offset: int, rows: Sequence[str], known: Known | None = None) -> bool:
+        value = packed(rows_text(rows))
         with self._syncing() as standing:
-            if not self._may_append(standing, Promise(epoch, offset)):
+            if not self._may_change(standing, Promise(epoch, offset), known, is_append=True):
                 return False
-            self._file.execute('insert into log values (?, ?, ?, ?)', (epoch, offset, text, wall_clock()))
+            self._file.execute('insert into log values (?, ?, ?, ?)', (epoch, offset, value, wall_clock()))
             self._file.execute('update epochs set count = ? where epoch = ?', (offset + len(rows), epoch))
         return True
 
-    def _may_append(self, standing: Standing, here: Promise) -> bool:
+    def _may_change(self, standing: Standing, here: Promise, known: Known | None, is_append: bool) -> bool:
         see_end(self.path, standing.end, here)
-        return here == standing.end and self._are_idle(Until.ALL_IDLE, here)
+        return here == standing.end and may_change(self._holders(standing), here, known, is_append)
 
-    def _are_idle(self, until: Until, here: Promise) -> bool:
-        asked = 'select name, epoch, place from presence where boot = ? and until > ?'
-        promises = {name: offset for name, *offset in self._file.execute(asked, (self._boot, nanoseconds_of_boot()))}
-        known, idle = self._seen_idle
-        return are_idle(until, promises, [here.epoch, here.offset], idle if known == here else frozenset())
+    def _holders(self, standing: Standing) -> dict[str, Holder]:
+        """Who holds a lease."""
+        return {name: lease.holder for name, lease in self._leases(standing).items()}
 
     def read(self, epoch: int, offset: int) -> Rows:
         with self._transaction('deferred') as standing:
@@ -379,35 +390,34 @@ class SqliteLog:
 
     def times(self, epoch: int) -> dict[int, int | None]:
         with calls(self.path):
-            return dict(self._file.execute('select place, time from log where epoch = ?', (epoch,)).fetchall())
+            return dict(self._file.execute('select offset, time from log where epoch = ?', (epoch,)).fetchall())
 
     def _rows(self, epoch: int, offset: int, count: int) -> Rows:
         """The rows of an epoch after that offset; the epoch has `count` rows."""
         if offset >= count:
             return Rows('')
-        first = self._one('select coalesce(max(place), 0) from log where epoch = ? and place <= ?', epoch, offset)
-        asked = 'select rows from log where epoch = ? and place >= ? order by place'
-        texts = [str(text) for text, in self._file.execute(asked, (epoch, first))]
-        rows = rows_of(self.path, epoch, first, ''.join(texts))
-        if len(rows) != count - first:
-            raise DamagedLog(f'{self.path}: rows are missing after offset {offset}')
-        return rows.behind(offset - first)
+        first = self._one('select coalesce(max(offset), 0) from log where epoch = ? and offset <= ?', epoch, offset)
+        return rows_of(self.path, epoch, offset, self._appends(epoch, first), count)
+
+    def _appends(self, epoch: int, first: int) -> list[tuple[int, bytes]]:
+        """The appends of an epoch from that offset on, as they are kept."""
+        asked = 'select offset, cast(rows as blob) from log where epoch = ? and offset >= ? order by offset'
+        return self._file.execute(asked, (epoch, first)).fetchall()
 
     def kept(self) -> Kept:
         with self._transaction('deferred') as standing:
-            asked = 'select place, cast(rows as blob) from log where epoch = ? order by place'
-            return Kept(standing.end, self._file.execute(asked, (standing.end.epoch,)).fetchall())
+            return Kept(standing.end, self._appends(standing.end.epoch, 0))
 
     def cut(self, end: Promise, append: int, text: str, opening: Opening) -> bool:
         with self._syncing() as standing:
-            now = nanoseconds_of_boot()
-            live = self._one('select count(*) from presence where boot = ? and until > ?', self._boot, now)
-            if standing.end != end or live or self._are_elsewhere(now):
+            live = self._one('select count(*) from leases where boot = ? and until > ?', self._boot, standing.now)
+            if standing.end != end or live or self._are_elsewhere(standing.now):
                 return False
-            self._file.execute('delete from log where epoch = ? and place >= ?', (end.epoch, append + bool(text)))
-            self._file.execute('update log set rows = ? where epoch = ? and place = ?', (text, end.epoch, append))
+            self._file.execute('delete from log where epoch = ? and offset >= ?', (end.epoch, append + bool(text)))
+            asked = 'update log set rows = ? where epoch = ? and offset = ?'
+            self._file.execute(asked, (packed(text), end.epoch, append))
             left = append + text.count('\n')
-            self._file.execute('update epochs set count = ?, wish = null where epoch = ?', (left, end.epoch))
+            self._file.execute('update epochs set count = ?, requested = null where epoch = ?', (left, end.epoch))
             open_epoch(self._file, opening)
         return True
 
@@ -421,25 +431,22 @@ class SqliteLog:
             requested = requested_of(self.path, end.epoch, standing.requested)
             maintenance = maintenance_of(self.path, standing.maintenance)
             found = Snapshot(end.epoch, rows, self._look_around(standing), requested, maintenance, self._failing())
-        self._seen_wanted, self._seen_idle = standing.wanted, (end, found.idle(end))
+        self._seen_wanted, self._seen = standing.wanted, dict(found.holders)
         return found
 
     def _look_around(self, standing: Standing) -> dict[str, Holder]:
         """Who holds a lease, which it keeps for waits."""
-        now = nanoseconds_of_boot()
-        self._see_others(standing, now)
-        asked = 'select name, life, epoch, place, until from presence where boot = ? and until > ?'
-        found = self._file.execute(asked, (self._boot, now)).fetchall()
-        holders = {name: holder_of(self.path, name, *told) for name, *told in found}
+        self._see_others(standing)
+        leases = self._leases(standing)
+        holders = {name: lease.holder for name, lease in leases.items()}
         self._live = {name: holder.session for name, holder in holders.items()}
         self._session_changes = standing.session_changes
-        self._earliest = min((until for *_, until in found), default=NEVER)
+        self._earliest = min((lease.until for lease in leases.values()), default=NEVER)
         return holders
 
     def _failing(self) -> dict[str, bool]:
         """The notes of nodes whose work fails, and whether they have given up."""
-        self._has_notes = self._has_notes or self._one("select count(*) from sqlite_master where name = 'failing'") > 0
-        found = self._file.execute('select name, gave_up from failing').fetchall() if self._has_notes else []
+        found = self._file.execute('select name, gave_up from failing').fetchall()
         return {name: bool(gave_up) for name, gave_up in found}
 
     def wait(
@@ -475,7 +482,10 @@ class SqliteLog:
             if end != here or standing.wanted != self._seen_wanted or self._live != sessions:
                 return True
             is_same, self._promise_changes = standing.promise_changes == self._promise_changes, standing.promise_changes
-            return until is not Until.NEWS and not is_same and self._are_idle(until, here)
+            return until is not Until.NEWS and not is_same and self._is_awaited(standing, until, here)
+
+    def _is_awaited(self, standing: Standing, until: Until, here: Promise) -> bool:
+        return is_awaited(until, promises_of(self._holders(standing)), (here, ()), promises_of(self._seen))
 
     def close(self) -> None:
         self._file.close()
@@ -484,14 +494,17 @@ class SqliteLog:
 
     def _standing(self) -> Standing:
         """The state, by one statement: outside of a transaction, what others did between two would look like that of
-        another boot."""
+        another boot. The clock is read before the file: a lease that is renewed after that was held at that moment. In
+        a transaction that writes nobody else renews one, so there both are of one moment."""
+        now = nanoseconds_of_boot()
         boot = '(select boot from boots order by number desc limit 1)'
         used = '(select count(*) from boots where boot = ?)'
-        asked = f'select epoch, count, wish, orders, name, {boot}, lives, promises, {used} from epochs, changes'
-        found = self._file.execute(f'{asked} order by epoch desc limit 1', (self._boot,)).fetchone()
+        columns = f'epoch, count, requested, maintenance, name, {boot}, sessions, promises, {used}'
+        asked = f'select {columns} from epochs, changes order by epoch desc limit 1'
+        found = self._file.execute(asked, (self._boot,)).fetchone()
         if found is None or not all(isinstance(number, int) for number in (*found[:2], *found[-3:])):
             raise DamagedLog(f'{self.path}: the log has no opening, or no end')
-        standing, is_used = Standing(Promise(*found[:2]), *found[2:-1]), bool(found[-1])
+        standing, is_used = Standing(now, Promise(*found[:2]), *found[2:-1]), bool(found[-1])
         if standing.name != self._name and self._name:
             raise OtherLog(f'{self.path}: there is another log in its place')
         if standing.boot != self._boot and is_used and not self._is_same_boot(standing):

@@ -11,7 +11,7 @@ from typing import TYPE_CHECKING
 
 from .display import shown_address
 from .epochs import Opening
-from .shared_log import Log, LogError
+from .shared_log import Log, LogError, OlderLog
 from .sqlite import SqliteLog
 from .sqlite_file import ITS_GROUP, OWNER_ALONE, see_group, told_readers
 
@@ -79,9 +79,12 @@ class FileStore:
 
     def history(self, epoch: int | None = None, has_times: bool = False) -> Sequence[str]:
         """The trace of an epoch, or of the current one: also from a log of the form before this one."""
-        from .history import file_trace, traced
+        from .history import OlderFile, trace
 
-        return traced(lambda: self.open(reads=True), file_trace(self.path, epoch), epoch, has_times)
+        try:
+            return trace(self.open(reads=True), epoch, has_times)
+        except OlderLog:
+            return trace(OlderFile(self.path, reads=True), epoch, has_times)
 
 
 @dataclass(frozen=True)
@@ -95,11 +98,12 @@ class EtcdStore:
     told_readers = ''  # etcd has permissions of its own
 
     def create(self, opening: Opening) -> Log:
-        """Makes a log. Raises BadWords for a prefix below the notes of another log, which an older version took."""
+        """Makes a log. Raises BadWords for a prefix below keys of another log that older versions took, whose logs have
+        a history still."""
         from .etcd import EtcdLog
 
-        if 'failing' in self.address.split('/'):
-            raise BadWords(f'--log is {self.address}, and no part of a new prefix may be `failing`')
+        if not {'failing', 'lease', 'rows'}.isdisjoint(self.address.split('/')):
+            raise BadWords(f'--log is {self.address}, and no part of a new prefix may be `failing`, `lease` or `rows`')
         return EtcdLog.create(self.address, opening, 1.0, self.tls, self.user, self.password)
 
     def open(self, patience: float = 1.0, reads: bool = False) -> Repairable:
@@ -110,9 +114,13 @@ class EtcdStore:
 
     def history(self, epoch: int | None = None, has_times: bool = False) -> Sequence[str]:
         """The trace of an epoch, or of the current one: also from a log of the form before this one."""
-        from .history import etcd_trace, traced
+        from .history import OlderEtcd, trace
 
-        return traced(self.open, etcd_trace(self.address, epoch, self.tls, self.user, self.password), epoch, has_times)
+        try:
+            return trace(self.open(), epoch, has_times)
+        except OlderLog:
+            older = OlderEtcd(self.address, 1.0, self.tls, self.user, self.password)
+            return trace(older, epoch, has_times)
 
 
 def store_of(options: argparse.Namespace) -> FileStore | EtcdStore:

@@ -2,44 +2,69 @@
 from __future__ import annotations
 
 import collections
+import enum
 import threading
-from collections.abc import Mapping, Sequence
+import time
+from collections.abc import Iterable, Mapping, Sequence
 from dataclasses import dataclass
+from itertools import zip_longest
 from typing import Any, Deque
 
 from .clocks import seconds_of_boot
 from .core import Promise, Session
 from .display import shown_name
 from .epochs import TTL, Token
-from .observer import Observer
+from .observer import Observer, Owner, Table
 from .shared_log import Holder, Log, Snapshot
 from .values import Status
 
 LAST_ROWS = 20
+ADMITTED = 0.01  # of a ttl: after that an observer admits a session that it saw for the first time
+ADMITTED_MAX = 0.1  # seconds for which a view waits for that, at most
 
 
 class Behind:
-    """Which nodes aren't idle up to the end of a log, though the group isn't stable, and since when. Threads may share
-    it."""
+    """For which nodes a change waits, and since when. Threads may share it."""
 
     def __init__(self) -> None:
-        self._end = Promise()
-        self._since: dict[tuple[str, Session], float] = {}
+        self._waits: tuple[Promise, dict[tuple[str, Session], float]] = Promise(), {}  # where the log ended, and since when
 
-    def see(self, end: Promise, holders: Mapping[str, Holder], is_stable: bool) -> dict[str, float]:
-        """Takes in a snapshot, and whether the group is stable. Returns for how many seconds each of these nodes has
-        kept others waiting."""
-        before, now = self._since if end == self._end else {}, seconds_of_boot()
-        late = [(name, holder.session) for name, holder in holders.items() if holder.promise != end and not is_stable]
-        since = {each: before.get(each, now) for each in late}
-        self._end, self._since = end, since
+    def see(self, end: Promise, late: Mapping[str, Holder]) -> dict[str, float]:
+        """Takes in for whom a change waits after a snapshot (`observer.waits_for`), where the log ends there. Returns
+        for how many seconds it has waited for each."""
+        (last, waits), now = self._waits, seconds_of_boot()
+        before = waits if end == last else {}
+        since = {each: before.get(each, now) for each in sessions_of(late)}
+        self._waits = end, since
         return {name: now - moment for (name, _), moment in since.items()}
 
-    def seen(self, end: Promise, holders: Mapping[str, Holder]) -> dict[str, float]:
-        """The same as last time, if the log still ends there: for the nodes that still aren't idle."""
-        known, now = self._since if end == self._end else {}, seconds_of_boot()
-        late = {(name, holder.session) for name, holder in holders.items() if holder.promise != end}
-        return {each[0]: now - moment for each, moment in known.items() if each in late}
+    def seen(self, end: Promise, late: Mapping[str, Holder]) -> dict[str, float]:
+        """The same as last time, if the log still ends there: of these, for which a change may still wait."""
+        (last, waits), now, there = self._waits, seconds_of_boot(), set(sessions_of(late))
+        return {each[0]: now - moment for each, moment in waits.items() if end == last and each in there}
+
+
+def sessions_of(holders: Mapping[str, Holder]) -> list[tuple[str, Session]]:
+    """The names and sessions of holders of leases."""
+    return [(name, holder.session) for name, holder in holders.items()]
+
+
+class Doing(enum.Enum):
+    """What becomes of a partition: somebody may work on it, and goes on; somebody may, and stops because it moves to
+    another node, or because all work stops for the change; or nobody may."""
+
+    WORKING, MOVING, STOPPING, WAITING = 'working', 'moving', 'stopping', 'waiting'
+
+
+@dataclass(frozen=True)
+class PartitionView:
+    """The state of a partition: what becomes of it; which node may work on it, if any may; by which token at most, as
+    far as that is known; and which node owns it after the change that is under way, if that is known."""
+
+    doing: Doing
+    owner: str | None = None
+    token: Token | None = None
+    coming: str | None = None
 
 
 @dataclass(frozen=True)
@@ -80,12 +105,31 @@ class GroupView:
     events: int
     token: Token | None
     coordinator: str | None  # of the nodes that are Normal
-    owners: tuple[str | None, ...]  # of the partitions; None while nobody may work on one
+    is_cooperative: bool  # whether a change stops only the work that moves
+    partitions: tuple[PartitionView, ...]
+    moves: int  # how many partitions get another owner by the change under way, as far as that is known
     nodes: tuple[NodeView, ...]
     is_stable: bool  # whether there is nothing to do but work, among the nodes that are admitted
     is_paused: bool
-    behind: dict[str, float]  # nodes not idle up to the end, though the group isn't stable, with the seconds of each
+    is_frozen: bool  # whether it is paused, and no change is under way that is completed first
+    behind: dict[str, float]  # the nodes for which a change waits, with the seconds of each
+    stops: dict[str, tuple[int, ...]]  # on which partitions each of these must stop, as far as that is known
     last: tuple[tuple[int, str], ...]  # the last rows, with their numbers in the trace
+
+    @property
+    def owners(self) -> tuple[str | None, ...]:
+        """Who may work on each partition; None while nobody may."""
+        return tuple(partition.owner for partition in self.partitions)
+
+    @property
+    def mode(self) -> str:
+        """What its changes stop, in a word."""
+        return 'cooperative' if self.is_cooperative else 'eager'
+
+    @property
+    def is_changing(self) -> bool:
+        """Whether a change is under way, or is due, and somebody is there to make it."""
+        return not self.is_stable and not self.is_frozen and any(node.is_live for node in self.nodes)
 
     @property
     def is_well(self) -> bool:
@@ -94,28 +138,48 @@ class GroupView:
 
     @property
     def told_more(self) -> str:
-        """Whether the group is paused, and which nodes are behind, for people."""
-        late = ', '.join(f'{shown_name(name)} for {seconds:.1f} s' for name, seconds in self.behind.items())
-        paused = '; paused: members that work continue, and nobody rebalances' if self.is_paused else ''
-        return paused + (f'; not idle yet: {late}' if late else '')
+        """Whether the group is paused, for which nodes a change waits, and how many partitions move, for people."""
+        paused = '; paused: members that work continue, and nobody rebalances' if self.is_frozen else ''
+        first = '; paused once the change under way is complete' if self.is_paused and not self.is_frozen else ''
+        late, moved = ', '.join(map(self._told_late, self.behind)), f'{self.moves} of {len(self.partitions)} partitions'
+        what = 'not stopped yet' if self.is_cooperative else 'not idle yet'
+        return paused + first + (f'; {moved} move' if self.moves else '') + (f'; {what}: {late}' if late else '')
+
+    def _told_late(self, name: str) -> str:
+        """For how long a change has waited for that node, and in a cooperative group on which partitions it stops."""
+        seconds, stops = f'for {self.behind[name]:.1f} s', ' '.join(map(str, self.stops.get(name, ())))
+        return f'{shown_name(name)} on {stops} {seconds}' if self.is_cooperative and stops else f'{shown_name(name)} {seconds}'
 
     def document(self) -> dict[str, Any]:
         """The same for JSON."""
         return {
             'epoch': self.epoch, 'rows': self.rows, 'events': self.events, 'token': self.token,
-            'coordinator': self.coordinator, 'owners': list(self.owners),
-            'nodes': [node.document() for node in self.nodes], 'stable': self.is_stable, 'paused': self.is_paused,
+            'coordinator': self.coordinator, 'mode': self.mode, 'owners': list(self.owners),
+            'states': [each.doing.value for each in self.partitions],
+            'tokens': [each.token for each in self.partitions], 'coming': [each.coming for each in self.partitions],
+            'moves': self.moves, 'nodes': [node.document() for node in self.nodes], 'stable': self.is_stable,
+            'paused': self.is_paused, 'frozen': self.is_frozen,
             'behind': {name: round(seconds, 3) for name, seconds in self.behind.items()},
+            'stops': {name: list(partitions) for name, partitions in self.stops.items()},
             'last': [{'row': number, 'text': row} for number, row in self.last],
         }  # fmt: skip
+
+
+def stops_of(behind: Iterable[str], partitions: Sequence[PartitionView]) -> dict[str, tuple[int, ...]]:
+    """On which partitions each of these nodes must stop."""
+    stops: dict[str | None, list[int]] = {name: [] for name in behind}
+    for partition, each in enumerate(partitions):
+        if each.doing in (Doing.MOVING, Doing.STOPPING) and each.owner in stops:
+            stops[each.owner].append(partition)
+    return {name: tuple(stops[name]) for name in behind}
 
 
 class LogView:
     """Reads a log, and shows the state of its group in the current epoch. Threads may share it."""
 
     def __init__(self, log: Log, behind: Behind | None = None, ttl: float | None = None) -> None:
-        """A member in this process may tell which nodes are behind, because it reads a snapshot at each change. The ttl
-        is that of the members, if the log has none.
+        """A member in this process may report for which nodes a change waits, because it reads a snapshot at each
+        change. The ttl is that of the members, if the log has none.
 
         Raises what the log raises."""
         self._log, self._ttl = log, ttl or TTL
@@ -125,9 +189,14 @@ class LogView:
         self._enter()
 
     def show(self) -> GroupView:
-        """Reads the new rows, and returns the group. Raises NotLearned, OutOfMemory, and what the log raises."""
+        """Reads the new rows, and returns the group. It reads again if the member waits for a node, and this view hasn't
+        seen for long enough the session for which it does. Raises NotLearned, OutOfMemory, and what the log raises."""
         with self._lock:
-            return self._shown(self._read())
+            shown = self._shown(self._read())
+            if shown.is_cooperative and not all(map(shown.stops.get, shown.behind)):
+                time.sleep(min(ADMITTED * self._observer_ttl, ADMITTED_MAX))
+                shown = self._shown(self._read())
+            return shown
 
     def close(self) -> None:
         with self._lock:
@@ -137,7 +206,8 @@ class LogView:
     def _enter(self) -> None:
         """Shows the current epoch from now on."""
         opening = self._log.opening()
-        self._opening, self._observer = opening, Observer(opening, opening.ttl or self._ttl)
+        self._observer_ttl = opening.ttl or self._ttl
+        self._opening, self._observer = opening, Observer(opening, self._observer_ttl)
         self._last.clear()
 
     def _read(self) -> Snapshot:
@@ -155,19 +225,48 @@ class LogView:
         return found
 
     def _shown(self, found: Snapshot) -> GroupView:
-        observer, opening, is_paused = self._observer, self._opening, found.maintenance.is_paused
-        table = observer.last_table or ()
+        observer, opening = self._observer, self._opening
+        table, is_frozen = observer.last_table or (), found.is_frozen(observer.end)
         nodes = tuple(self._node(node, table, found) for node in range(1, observer.nodes + 1))
         coordinator = next((node.coordinator for node in nodes if node.status is Status.NORMAL), None)
-        token = None if observer.token is None else Token.of(opening.epoch, observer.token)
-        end = Promise(opening.epoch, observer.offset)
-        told = {} if is_paused else self._told.seen(end, found.holders)
-        is_stable = observer.was_stable and not told
-        behind = {**self._behind.see(end, found.holders, is_stable or is_paused), **told}
+        behind, is_stable = self._late(found), observer.is_stable()
+        changes = not is_stable and not is_frozen
+        coming = observer.coming() if changes else None
+        partitions = self._partitions(found, coming, changes)
         return GroupView(
-            opening.epoch, observer.rows, observer.events, token, coordinator, observer.owners(found), nodes, is_stable,
-            is_paused, behind, tuple(self._last),
+            opening.epoch, observer.rows, observer.events, self._token(observer.token), coordinator,
+            opening.is_cooperative, partitions, self._moves(coming), nodes, is_stable and not behind,
+            found.maintenance.is_paused, is_frozen, behind, stops_of(behind, partitions), tuple(self._last),
         )  # fmt: skip
+
+    def _late(self, found: Snapshot) -> dict[str, float]:
+        """For whom a change waits, with the seconds of each: also those that the member reports."""
+        end, late = self._observer.end, self._observer.waits_for(found)
+        maybe = {name: holder for name, holder in found.holders.items() if name in late or holder.promise != end}
+        return {**self._behind.see(end, late), **({} if found.is_frozen(end) else self._told.seen(end, maybe))}
+
+    def _partitions(self, found: Snapshot, coming: Table | None, changes: bool) -> tuple[PartitionView, ...]:
+        """The partitions, while a change is under way or not."""
+        after = map(self._name, coming or ())
+        return tuple(
+            self._partition(owner, name, changes) for owner, name in zip_longest(self._observer.owners(found), after)
+        )
+
+    def _partition(self, owner: Owner | None, coming: str | None, changes: bool) -> PartitionView:
+        """A partition that this node owns after the change, if it is known who does."""
+        if owner is None:
+            return PartitionView(Doing.WAITING, coming=coming)
+        goes_on = not changes or coming == owner.name
+        doing = Doing.WORKING if goes_on else Doing.STOPPING if coming is None else Doing.MOVING
+        return PartitionView(doing, owner.name, self._token(owner.token), coming)
+
+    def _moves(self, coming: Table | None) -> int:
+        """How many partitions have another owner in the coming table than before."""
+        before = self._observer.last_table or self._opening.table
+        return sum(owner != new for owner, new in zip(before, coming or ()))
+
+    def _token(self, events: int | None) -> Token | None:
+        return None if events is None else Token.of(self._opening.epoch, events)
 
     def _node(self, node: int, table: Sequence[int], found: Snapshot) -> NodeView:
         """The state of the node, and its partitions by the last table, which applies to each node that is Normal."""

@@ -2,23 +2,32 @@
 
     watchdog.py CHANNEL PATIENCE KIND FILE TTL WORKER ARGS..
 
-CHANNEL is the number of a socket to the member. The member sends
+CHANNEL is the number of a socket to the member. What is said of a process of a worker names it by KEY SERIAL: the
+worker, and a number that no other process of that worker has. So a message that comes after the end of its process is
+dropped, by both sides. The member sends
 
-    until NS         until when its work is sure, in nanoseconds of CLOCK_BOOTTIME
-    part WORDS       words before those of the next begin, because a message hasn't room for all
-    begin WORDS      starts a worker with these words: NAME=VALUE for its environment, separated by zero bytes
-    stop             stops the worker: by SIGTERM, and after PATIENCE seconds by SIGKILL
+    until NS                 until when its work is sure, in nanoseconds of CLOCK_BOOTTIME
+    part WORDS               words before those of the next `share` or `begin`, because a message hasn't room for all
+    share WORDS              words before those of each `begin` from now on
+    begin KEY SERIAL WORDS   starts that process with these words: NAME=VALUE for its environment, separated by zero bytes
+    stop KEY SERIAL          stops it: by SIGTERM, and after PATIENCE seconds by SIGKILL
+    release WORDS            the lease that is released when the member is gone (`bully.releasing`); none without words
 
-and the watchdog sends `begun`; `stopped` after a stop, once nothing of the worker is left; `lost` if it has killed the
-worker because its time was over; `ended STATUS` if the worker ended by itself; and before these `held PROCESSES` if
-these are still there a twentieth of the ttl after SIGKILL, for example because they belong to another user. PROCESSES
-is empty if the kernel doesn't list them. The watchdog kills a worker with all that it started, also while the member is
-stopped or dead, and after a sleep of the machine. When the member is gone the watchdog does as after a stop. A watchdog
-that is stopped continues when its member dies.
+and the watchdog sends, each followed by KEY SERIAL: `begun`; `stopped` after a stop, once nothing of the process is
+left; `lost` if it has killed the process because its time was over; `ended .. STATUS` if that ended by itself; and
+before these `held .. PROCESSES` if these are still there a twentieth of the ttl after SIGKILL, for example because they
+belong to another user. PROCESSES is empty if the kernel doesn't list them. The watchdog kills a worker with all that it
+started, also while the member is stopped or dead, and after a sleep of the machine. When the member is gone the
+watchdog does as after a stop; then it releases the lease. A watchdog that is stopped continues when its member dies.
 
-If KIND is `talks`, a worker stays over changes: WORDS is then a line for its standard input, and so is {"stop": true}.
-The worker answers such a stop by a line `stopped` on the descriptor BULLY_ANSWERS, or it ends. Earlier answers don't
-count.
+If KIND is `talks`, a worker stays over changes: WORDS is then a line for its standard input, and a `begin` of the same
+process is a further line. A stop is `stop KEY SERIAL LINE`, and the line {"stop": true} stops all. The worker answers
+each stop by a line `stopped` on the descriptor BULLY_ANSWERS, in their order, or it ends. Earlier answers don't count.
+The watchdog sends `answered KEY SERIAL` for each. A worker that has stopped all isn't killed when its time is over.
+
+If KIND is `each`, there may be many workers. Each has a *keeper*, a fork of the watchdog between the two: to it falls
+what the worker leaves, so nobody kills what another worker started. A keeper does for its worker all of the above. If
+one dies, its worker does, and the watchdog ends: its member then kills all that is left.
 
 The watchdog also kills a member that stays stopped in the middle of a write, within two fifths of the ttl: otherwise
 other members couldn't renew their leases in time. FILE is the file of SQLite with the end `-shm`, on which a writer has
@@ -28,6 +37,7 @@ from __future__ import annotations
 
 import contextlib
 import os
+import resource
 import select
 import signal
 import socket
@@ -35,6 +45,7 @@ import struct
 import sys
 import time
 import types
+from collections import deque
 from collections.abc import Callable, Sequence
 
 if __name__ == '__main__':  # `bully` without its __init__, so that the process starts faster, and is smaller
@@ -52,10 +63,12 @@ TIMER_ABSOLUTE = 1
 MILLISECOND = 1_000_000  # nanoseconds
 MESSAGE_MAX = 1 << 20  # bytes
 ANSWERS = 3  # the descriptor for the answers of a worker that talks
-STOP, STOPPED = b'{"stop": true}', b'stopped'
+STOP_ALL, STOPPED = b'{"stop": true}', b'stopped'
+NOT_STARTED = 127  # the exit status of a worker that can't be started
 BEATS = 20  # parts of a ttl: a watchdog may be late by one
 CHECKS = 5  # of a member in a ttl; it may stay stopped in a write from one to the next
 TOLD = 20  # processes in a message, at most
+LAST = b'stopped ', b'lost ', b'ended '  # words of the last message of a keeper
 
 
 def say(text: str) -> None:
@@ -94,28 +107,40 @@ class MemberWatchdog:
 # ---- A worker
 
 
+class NotStarted(Exception):
+    """A worker, or a keeper, can't be started, and isn't there."""
+
+
 class Worker:
     """A worker that was started."""
 
-    def __init__(self, words: list[str], environment: list[bytes], talks: bool) -> None:
-        """A signal that comes before the worker is there waits."""
-        self.is_busy, self.unread = False, b''
-        self.stop_by: int | None = None  # when it is killed, if it was told to stop
-        self.lines, given = socket.socketpair() if talks else (None, None)  # with room for all unread lines
-        self.answers, taken = os.pipe() if talks else (-1, -1)
-        parent = os.getpid()
-        with held_back():
-            self.process = os.fork()
-            if self.process == 0:
-                become(words, environment, (given.fileno(), taken) if given is not None else (), parent)
+    def __init__(self, words: Sequence[str], environment: list[bytes], talks: bool) -> None:
+        """A signal that comes before the worker is there waits. Raises NotStarted. After any other exception the worker
+        may be there: this process must end, and the worker dies with it."""
+        self.has_work, self.unread = False, b''
+        self.stops: deque[int] = deque()  # the stops that it hasn't answered: when it is killed for that
+        self.is_ending = False  # whether to answer isn't enough any more
+        self.lines: socket.socket | None = None  # with room for all unread lines
+        self.answers = -1
+        given: list[int] = []  # what the worker is given
+        try:
+            if talks:
+                self.lines, others = socket.socketpair()
+                given.append(others.detach())
+                self.lines.setsockopt(socket.SOL_SOCKET, socket.SO_SNDBUF, MESSAGE_MAX)
+                self.answers, taken = os.pipe()
+                given.append(taken)
+                os.set_blocking(self.answers, False)
+            self.process = forked(lambda parent: become(words, environment, given, parent))
+        except OSError as error:
+            self.close_pipes()
+            raise NotStarted(error.strerror) from error
+        finally:
+            for pipe in given:
+                os.close(pipe)
         with contextlib.suppress(OSError):  # it may have done that itself
             os.setpgid(self.process, self.process)
         self.end = os.pidfd_open(self.process)
-        if self.lines is not None and given is not None:
-            self.lines.setsockopt(socket.SOL_SOCKET, socket.SO_SNDBUF, MESSAGE_MAX)
-            given.close()
-            os.close(taken)
-            os.set_blocking(self.answers, False)
 
     def tell(self, line: bytes) -> None:
         """Sends a line to a worker that talks. If there is no room for all of the line, the worker is killed."""
@@ -126,6 +151,11 @@ class Worker:
                     with contextlib.suppress(PermissionError):
                         os.kill(self.process, signal.SIGKILL)
 
+    @property
+    def is_busy(self) -> bool:
+        """Whether it may be at work."""
+        return self.has_work or bool(self.stops)
+
     def heard(self) -> list[bytes]:
         """The lines of its answers. One read takes all that a pipe holds: more may come without end."""
         with contextlib.suppress(BlockingIOError):
@@ -135,16 +165,25 @@ class Worker:
         self.unread = last[: len(STOPPED) + 1]  # no more is needed of a longer line
         return lines
 
-    def stop(self, patience: int, for_good: bool) -> None:
+    def stop(self, line: bytes, patience: int, for_good: bool) -> None:
         """The worker has so many nanoseconds from now on to stop, and must end if it doesn't talk or this is for
         good."""
-        self.stop_by = self.stop_by or nanoseconds_of_boot() + patience
-        if self.lines is None or for_good:
-            terminate(self.process)
-            return
-        if self.answers >= 0:
+        if not self.stops and self.answers >= 0:
             self.heard()  # these don't answer this stop
-        self.tell(STOP)
+        self.stops.append(nanoseconds_of_boot() + patience)
+        self.has_work &= line not in (b'', STOP_ALL)
+        self.is_ending |= self.lines is None or for_good
+        if self.is_ending:
+            terminate(self.process)
+        else:
+            self.tell(line)
+
+    def answers_stops(self) -> int:
+        """Takes its answers. Returns how many stops it has answered."""
+        count = min(self.heard().count(STOPPED), 0 if self.is_ending else len(self.stops))
+        for _ in range(count):
+            self.stops.popleft()
+        return count
 
     def end_all(self, seconds: float, tell: Callable[[list[int]], object]) -> int:
         """Kills what is left of the worker, and waits for that. Returns its exit status. Calls `tell` with the
@@ -153,10 +192,23 @@ class Worker:
         kill(os.kill, self.process)
         kill(os.killpg, self.process)
         close(self.end)
-        close(self.answers)
+        self.close_pipes()
+        return end_children(frozenset(), seconds, tell).get(self.process, 0)
+
+    def close_pipes(self) -> None:
+        self.answers = close(self.answers)
         if self.lines is not None:
             self.lines.close()
-        return end_children(frozenset(), seconds, tell).get(self.process, 0)
+
+
+def forked(become: Callable[[int], object]) -> int:
+    """The number of a new process, which calls this with the number of its parent. Signals wait meanwhile."""
+    parent = os.getpid()
+    with held_back():
+        process = os.fork()
+        if process == 0:
+            become(parent)
+    return process
 
 
 def has_room(lines: socket.socket, line: bytes) -> bool:
@@ -180,7 +232,7 @@ def close(descriptor: int) -> int:
     return -1
 
 
-def become(words: list[str], environment: list[bytes], pipes: Sequence[int], parent: int) -> None:
+def become(words: Sequence[str], environment: list[bytes], pipes: Sequence[int], parent: int) -> None:
     """This process becomes the worker, which dies with its parent and has a process group of its own."""
     try:
         os.setpgid(0, 0)
@@ -194,40 +246,101 @@ def become(words: list[str], environment: list[bytes], pipes: Sequence[int], par
             signal.signal(number, signal.SIG_DFL)
         signal.pthread_sigmask(signal.SIG_UNBLOCK, ENDS)
         parts = [entry.partition(b'=') for entry in environment]
-        os.execvpe(words[0], words, {**os.environb, **{name: value for name, _, value in parts}})
+        os.execvpe(words[0], list(words), {**os.environb, **{name: value for name, _, value in parts}})
     except OSError as error:
         word = ''.join(each if each.isprintable() else '?' for each in words[0])
         sys.stderr.write(f'bully: {word}: {error.strerror}\n')
         sys.stderr.flush()
     finally:
-        os._exit(127)
+        os._exit(NOT_STARTED)
 
 
-class WorkerWatchdog:
-    """The watchdog of a member and its workers."""
+# ---- Watchdogs
 
-    def __init__(
-        self, channel: socket.socket, patience: float, talks: bool, ttl: float, of_member: MemberWatchdog,
-        words: list[str],
-    ) -> None:  # fmt: skip
-        self.channel, self.of_member, self.words, self.talks, self.ttl = channel, of_member, words, talks, ttl
-        self.patience = int(patience * SECOND)
-        self.until = 0
-        self.parts = b''  # of the words of the next begin
-        self.timer = checked(LIBC.timerfd_create(time.CLOCK_BOOTTIME, os.O_CLOEXEC | os.O_NONBLOCK))
-        self.worker: Worker | None = None
-        self.is_alone = False  # whether the member is gone
+
+class Rules:
+    """What holds for all workers."""
+
+    def __init__(self, patience: float, talks: bool, ttl: float, words: Sequence[str]) -> None:
+        """How many seconds they may take to stop; whether they stay over changes; the ttl in seconds; the words of
+        their command."""
+        self.patience, self.talks, self.ttl, self.words = int(patience * SECOND), talks, ttl, words
+
+
+class Watchdog:
+    """What hears a member, or the watchdog of one."""
+
+    def __init__(self, channel: socket.socket, rules: Rules, until: int = 0) -> None:
+        self.channel, self.rules, self.until = channel, rules, until
+        self.parts = self.shared = self.release = b''
+        self.is_alone = False  # whether who it hears is gone
+
+    def receive(self) -> None:
+        with contextlib.suppress(ConnectionResetError):  # raised once, if the other end didn't read all
+            self.hear(self.channel.recv(MESSAGE_MAX))
+
+    def hear(self, message: bytes) -> None:
+        """Handles a message; or an empty one, once there will be no more."""
+        word, _, more = message.partition(b' ')
+        if word == b'until':
+            self.until = int(more)
+            self.renewed()
+        elif word == b'part':
+            self.parts += more
+        elif word in (b'begin', b'stop'):
+            key, serial, *rest = more.split(b' ', 2)
+            words, self.parts = self.parts + b''.join(rest), b''
+            (self.begin if word == b'begin' else self.stop)(key + b' ' + serial, words)
+        elif word == b'share':
+            self.shared, self.parts = self.parts + more, b''
+        elif word == b'release':
+            self.release = more
+        elif not message:
+            self.is_alone = True
+            self.leave()
 
     def go_on(self) -> None:
         """Runs until the member is gone, and nothing of a worker is left."""
+        raise NotImplementedError
+
+    def renewed(self) -> None:
+        """There is another moment until which the work is sure."""
+
+    def begin(self, name: bytes, words: bytes) -> None:
+        """Starts the process of this name, with these words."""
+        raise NotImplementedError
+
+    def stop(self, name: bytes, line: bytes) -> None:
+        """Stops the process of this name, if it is there; one that talks by this line."""
+        raise NotImplementedError
+
+    def leave(self) -> None:
+        """All workers must end."""
+        raise NotImplementedError
+
+
+class Keeper(Watchdog):
+    """Starts, stops and ends one worker at a time."""
+
+    def __init__(self, channel: socket.socket, rules: Rules, of_member: MemberWatchdog, until: int = 0) -> None:
+        super().__init__(channel, rules, until)
+        self.of_member = of_member
+        self.timer = checked(LIBC.timerfd_create(time.CLOCK_BOOTTIME, os.O_CLOEXEC | os.O_NONBLOCK))
+        self.worker: Worker | None = None
+        self.name = b''  # of its process, or of the last one
+
+    def go_on(self) -> None:
         while not self.is_alone or self.worker is not None:
-            ready = self.awaited()
-            if self.worker is not None:
-                self.see(self.worker, ready)
-            if self.channel.fileno() in ready:
-                with contextlib.suppress(ConnectionResetError):  # raised once, if the member didn't read all
-                    self.hear(self.channel.recv(MESSAGE_MAX))
-            self.of_member.look()
+            self.turn()
+
+    def turn(self) -> None:
+        """Waits until something happens, and handles it."""
+        ready = self.awaited()
+        if self.worker is not None:
+            self.see(self.worker, ready)
+        if self.channel.fileno() in ready:
+            self.receive()
+        self.of_member.look()
 
     def awaited(self) -> set[int]:
         """The descriptors that are ready, once some are, or the member must be checked."""
@@ -242,58 +355,230 @@ class WorkerWatchdog:
         return {descriptor for descriptor, _ in poll.poll(self.of_member.pause())}
 
     def last_moment(self) -> int | None:
-        """When the worker is killed, if it is at work or must end."""
+        """When the worker is killed, if it is at work or must stop."""
         if self.worker is None:
             return None
-        moments = [self.until if self.worker.is_busy else None, self.worker.stop_by]
-        return min((moment for moment in moments if moment is not None), default=None)
+        return min([self.until] * self.worker.is_busy + list(self.worker.stops), default=None)
 
     def see(self, worker: Worker, ready: set[int]) -> None:
         """Handles what became of the worker, and of the processes that it left."""
         with contextlib.suppress(OSError):  # the kernel doesn't list them now
             for child in children() - {worker.process}:
                 os.waitpid(child, os.WNOHANG)
-        moment, is_told = self.last_moment(), worker.stop_by is not None
+        moment = self.last_moment()
         if moment is not None and nanoseconds_of_boot() >= moment or worker.end in ready:
             by_itself = moment is None or nanoseconds_of_boot() < moment
-            status = worker.end_all(self.ttl / BEATS, lambda left: self.say(f'held {" ".join(map(str, left[:TOLD]))}'))
+            status = worker.end_all(self.rules.ttl / BEATS, self.hold)
             self.worker = None
-            self.say('stopped' if is_told else f'ended {status}' if by_itself else 'lost')
-        elif worker.answers in ready and STOPPED in worker.heard() and is_told and not self.is_alone:
-            worker.is_busy, worker.stop_by = False, None
-            self.say('stopped')
+            if by_itself and not worker.stops:
+                self.say('ended', status)
+            else:
+                self.say('stopped' if worker.stops else 'lost')
+        elif worker.answers in ready:
+            for _ in range(worker.answers_stops()):
+                self.say('answered')
 
-    def hear(self, message: bytes) -> None:
-        """Handles a message of the member, or an empty one if the member is gone."""
-        word, _, more = message.partition(b' ')
-        self.is_alone = not message
-        if word == b'until':
-            self.until = int(more)
-        elif word == b'part':
-            self.parts += more
-        elif word == b'begin':
-            words, self.parts = self.parts + more, b''
-            self.begin(words)
-        elif self.worker is not None:
-            self.worker.stop(self.patience, self.is_alone)
-        else:
-            self.say('stopped')
+    def hold(self, left: list[int]) -> None:
+        """Reports processes that are still there, though they were killed."""
+        self.say('held', *left[:TOLD])
 
-    def begin(self, words: bytes) -> None:
+    def begin(self, name: bytes, words: bytes) -> None:
         """Starts a worker with these words, or lets it go on."""
-        if nanoseconds_of_boot() >= self.until:
-            self.say('lost')
-            return
-        if self.worker is None:
-            environment = [b'BULLY_ANSWERS=%d' % ANSWERS] if self.talks else words.split(b'\0')
-            self.worker = Worker(self.words, environment, self.talks)
-        self.worker.is_busy = True
-        self.worker.tell(words)
-        self.say('begun')
+        is_late = nanoseconds_of_boot() >= self.until
+        if self.worker is not None and name == self.name:
+            self.go_on_with(self.worker, words, is_late)
+        elif self.worker is not None or is_late:
+            self.say('lost', name=name)
+        elif name != self.name:  # else it has ended meanwhile
+            self.name, self.worker = name, self.started(words, name)
+            if self.worker is not None:
+                self.go_on_with(self.worker, words, is_late)
 
-    def say(self, message: str) -> None:
+    def go_on_with(self, worker: Worker, words: bytes, is_late: bool) -> None:
+        """The worker works from now on; or is killed at once, and isn't told of work whose time is over."""
+        worker.has_work = True
+        if not is_late:
+            worker.tell(words)
+            self.say('begun')
+
+    def started(self, words: bytes, name: bytes) -> Worker | None:
+        """A worker with these words. It fails if no more processes may be started."""
+        environment = [b'BULLY_ANSWERS=%d' % ANSWERS] if self.rules.talks else (self.shared + words).split(b'\0')
+        try:
+            return Worker(self.rules.words, environment, self.rules.talks)
+        except NotStarted as failure:
+            say(f'bully: {self.rules.words[0]}: {failure}\n')
+            self.say('ended', NOT_STARTED, name=name)
+            return None
+
+    def stop(self, name: bytes, line: bytes) -> None:
+        if self.worker is not None and name == self.name:
+            self.worker.stop(line, self.rules.patience, self.is_alone)
+
+    def leave(self) -> None:
+        self.stop(self.name, b'')
+
+    def say(self, word: str, *more: int, name: bytes = b'') -> None:
+        message = b' '.join([word.encode(), name or self.name, *(b'%d' % each for each in more)])
         with contextlib.suppress(OSError):  # the member may be gone
-            self.channel.send(message.encode())
+            self.channel.send(message)
+
+
+def limit_descriptors(most: int, highest: int) -> None:
+    """How many descriptors this process may have, up to which number it may change that."""
+    with contextlib.suppress(OSError, ValueError):
+        resource.setrlimit(resource.RLIMIT_NOFILE, (most, highest))
+
+
+def more_descriptors() -> tuple[int, int]:
+    """This process may have as many descriptors as it can get. Returns the limits before."""
+    before = resource.getrlimit(resource.RLIMIT_NOFILE)
+    limit_descriptors(before[1], before[1])
+    return before
+
+
+class Kept:
+    """A keeper that is another process."""
+
+    def __init__(self, name: bytes, channel: socket.socket, process: int) -> None:
+        """The name of its worker's process, a socket to it, and its number."""
+        self.name, self.channel, self.process = name, channel, process
+        self.last = b''  # what it has reported last of its worker, which has ended
+
+
+class Hub(Watchdog):
+    """Has a keeper for each worker."""
+
+    def __init__(self, channel: socket.socket, rules: Rules, of_member: MemberWatchdog) -> None:
+        super().__init__(channel, rules)
+        self.of_member = of_member
+        self.room = more_descriptors()
+        self.keepers: dict[int, Kept] = {}  # by the descriptors of their sockets
+        self.by_key: dict[bytes, Kept] = {}
+        self.unsent: deque[bytes] = deque()  # what the member didn't take yet, as while it is stopped
+        self.poll = select.poll()
+        self.poll.register(channel, select.POLLIN)
+
+    def go_on(self) -> None:
+        while not self.is_alone or self.keepers:
+            for descriptor, events in self.poll.poll(self.of_member.pause()):
+                if descriptor in self.keepers:
+                    self.hear_keeper(self.keepers[descriptor])
+                elif descriptor == self.channel.fileno() and events & ~select.POLLOUT:
+                    self.receive()
+            self.send()
+            self.of_member.look()
+
+    def renewed(self) -> None:
+        for kept in self.keepers.values():
+            self.tell(kept, b'until %d' % self.until)
+
+    def tell(self, kept: Kept, message: bytes) -> None:
+        with contextlib.suppress(OSError):  # it has ended, or is stopped: then an earlier moment applies
+            kept.channel.send(message, socket.MSG_DONTWAIT)
+
+    def begin(self, name: bytes, words: bytes) -> None:
+        """Starts a keeper, which starts the worker."""
+        key = name.split(b' ')[0]
+        if key in self.by_key:
+            self.say(b'lost ' + name)
+            return
+        try:
+            kept = self.kept(name, words)
+        except OSError as error:
+            say(f'bully: {self.rules.words[0]}: {error.strerror}\n')
+            self.say(b'ended %s %d' % (name, NOT_STARTED))
+            return
+        self.keepers[kept.channel.fileno()] = self.by_key[key] = kept
+        self.poll.register(kept.channel, select.POLLIN)
+
+    def kept(self, name: bytes, words: bytes) -> Kept:
+        """A new keeper. Raises OSError if it isn't there."""
+        mine, given = socket.socketpair(socket.AF_UNIX, socket.SOCK_SEQPACKET)
+        with given:
+            try:
+                process = os.fork()
+            except OSError:
+                mine.close()
+                raise
+            if process == 0:
+                mine.close()
+                self.keep(given, name, words)
+        return Kept(name, mine, process)
+
+    def keep(self, channel: socket.socket, name: bytes, words: bytes) -> None:
+        """This process becomes a keeper. It ends with its worker."""
+        status = 1
+        try:
+            adopt()
+            signal_at_end_of_parent(signal.SIGCONT)
+            limit_descriptors(*self.room)
+            for each in (self.channel, *(kept.channel for kept in self.keepers.values())):
+                each.close()
+            keeper = Keeper(channel, self.rules, MemberWatchdog('', self.rules.ttl), self.until)
+            keeper.shared = self.shared
+            keeper.begin(name, words)
+            while keeper.worker is not None:
+                keeper.turn()
+            status = 0
+        except BaseException:
+            sys.excepthook(*sys.exc_info())
+        finally:
+            os._exit(status)
+
+    def hear_keeper(self, kept: Kept) -> None:
+        """Passes on what a keeper reports. Its last report waits for its end: another one may begin then."""
+        message = b''
+        with contextlib.suppress(ConnectionResetError):  # as of the member
+            message = kept.channel.recv(MESSAGE_MAX) or b'gone'
+        if message == b'gone':
+            self.poll.unregister(kept.channel)
+            del self.keepers[kept.channel.fileno()], self.by_key[kept.name.split(b' ')[0]]
+            kept.channel.close()
+            if os.waitpid(kept.process, 0)[1]:
+                self.end_all()
+            if kept.last:
+                self.say(kept.last)
+        elif message.startswith(LAST):
+            kept.last = message
+        elif message:
+            self.say(message)
+
+    def end_all(self) -> None:
+        """A keeper died, so it isn't known what its worker left: nothing may be left of any. The watchdog ends, too, if
+        its member is there, which sees to what is left after a while."""
+        seconds = self.rules.ttl / BEATS
+        end_children(frozenset(), seconds, lambda left: None if self.is_alone else os._exit(1))
+        if not self.is_alone:
+            os._exit(1)
+        for kept in self.keepers.values():
+            kept.channel.close()
+        self.keepers.clear()
+
+    def stop(self, name: bytes, line: bytes) -> None:
+        kept = self.by_key.get(name.split(b' ')[0])
+        if kept is not None and kept.name == name:
+            self.tell(kept, b'stop ' + name)
+
+    def leave(self) -> None:
+        self.unsent.clear()
+        self.poll.unregister(self.channel)
+        for kept in self.keepers.values():
+            kept.channel.shutdown(socket.SHUT_WR)
+            os.kill(kept.process, signal.SIGCONT)  # one that is stopped must see to its worker
+
+    def say(self, message: bytes) -> None:
+        self.unsent.append(message)
+
+    def send(self) -> None:
+        """Sends what the member takes at once."""
+        with contextlib.suppress(BlockingIOError):
+            while self.unsent and not self.is_alone:
+                with contextlib.suppress(BrokenPipeError, ConnectionResetError):  # it is gone, which is heard soon
+                    self.channel.send(self.unsent[0], socket.MSG_DONTWAIT)
+                self.unsent.popleft()
+        if not self.is_alone:
+            self.poll.modify(self.channel, select.POLLIN | (select.POLLOUT if self.unsent else 0))
 
 
 def main() -> None:
@@ -305,8 +590,13 @@ def main() -> None:
     signal.pthread_sigmask(signal.SIG_UNBLOCK, ENDS)  # they were held back since before its first line
     adopt()
     signal_at_end_of_parent(signal.SIGCONT)
-    of_member = MemberWatchdog(file, float(ttl))
-    WorkerWatchdog(channel, float(patience), kind == 'talks', float(ttl), of_member, words).go_on()
+    rules = Rules(float(patience), kind == 'talks', float(ttl), words)
+    watchdog = (Hub if kind == 'each' else Keeper)(channel, rules, MemberWatchdog(file, float(ttl)))
+    watchdog.go_on()
+    if watchdog.release:
+        from bully.releasing import release  # it takes much memory
+
+        release(watchdog.release, rules.ttl)
 
 
 if __name__ == '__main__':

@@ -9,6 +9,7 @@ from __future__ import annotations
 import enum
 import threading
 from collections.abc import Callable, Collection
+from dataclasses import dataclass
 from functools import partial
 
 from .clocks import seconds_of_boot
@@ -21,6 +22,7 @@ BACKOFF_MAX = 60.0  # the longest back-off of work that fails again and again, i
 AWAY = 12  # ttls for which a node that gave up stays away at first
 AWAY_MAX = 3600.0  # the longest time for which it stays away, in seconds
 NOTES = 4  # the most notes in a ttl
+ALL = 'all'  # the key of a worker for all partitions of its node
 
 
 class Health(enum.Enum):
@@ -30,8 +32,45 @@ class Health(enum.Enum):
     NEW, WELL, FAILING, HOPELESS = 'new', 'well', 'failing', 'hopeless'
 
 
+WORST = Health.HOPELESS, Health.FAILING, Health.NEW, Health.WELL  # the worst one first
+
+
+@dataclass
+class Record:
+    """How often one worker has failed in a row. Times are of `clocks.seconds_of_boot`."""
+
+    count: int = 0
+    has_failed: bool = False
+    backoff: float = 0.0  # the last one, in seconds
+    backoff_end: float = 0.0
+    away: float = 0.0  # for how many seconds its node stayed away because of it
+    worked: float = 0.0  # seconds of work since the last failure, or since the start
+    begun: float | None = None  # since when it has been at work
+
+    def worked_until(self, now: float) -> float:
+        """For how many seconds it has worked since it failed."""
+        return self.worked + (0.0 if self.begun is None else now - self.begun)
+
+    def failed(self, now: float, ttl: float) -> None:
+        is_first = not self.count or self.worked_until(now) >= LONG * ttl
+        self.count = 1 if is_first else self.count + 1
+        self.backoff = ttl / 5 if is_first else min(2 * self.backoff, BACKOFF_MAX)
+        self.away = 0.0 if is_first else self.away
+        self.backoff_end, self.has_failed = now + self.backoff, True
+        self.worked, self.begun = 0.0, None
+
+    def health(self, now: float, give_up: int, ttl: float) -> Health:
+        if self.worked_until(now) >= ttl:
+            return Health.WELL
+        if not self.has_failed:
+            return Health.NEW
+        return Health.HOPELESS if 0 < give_up <= self.count and self.begun is None else Health.FAILING
+
+
 class Failures:
-    """How often the work of a node has failed in a row. Threads may share it. Times are of `clocks.seconds_of_boot`."""
+    """How often the work of a node has failed in a row. If each partition has a worker, each of them is counted and backs
+    off alone, by a key; the node's work is as that of the worst of them. Threads may share it. Times are of
+    `clocks.seconds_of_boot`."""
 
     def __init__(self, give_up: int = 0, ttl: float = 5.0) -> None:
         """After so many failures in a row the node gives up; with 0 it never does."""
@@ -42,52 +81,63 @@ class Failures:
     def forget(self) -> None:
         """Forgets all of it."""
         with self._lock:
-            self._count, self._has_failed = 0, False
-            self._backoff = self._backoff_end = self._away = 0.0
-            self._worked = 0.0  # seconds of work since the last failure, or since the start
-            self._begun: float | None = None  # since when it has been at work
+            self._records = {ALL: Record()}
+            self._there = {ALL}  # the keys of the workers that the node has now
 
-    def began(self, now: float) -> None:
+    def began(self, now: float, key: str = ALL) -> None:
         """The work has started, or goes on."""
         with self._lock:
-            self._begun = now
+            record = self._records.setdefault(key, Record())
+            record.begun = now if record.begun is None else record.begun
+            self._there = {*self._there - {ALL}, key}
 
-    def ceased(self, now: float) -> None:
+    def ceased(self, now: float, key: str = ALL) -> None:
         """The work has stopped, without a failure."""
         with self._lock:
-            self._worked, self._begun = self._worked_until(now), None
+            record = self._records.setdefault(key, Record())
+            record.worked, record.begun = record.worked_until(now), None
 
-    def failed(self, now: float) -> float:
+    def moved(self, key: str) -> None:
+        """The node doesn't have this worker any more, so that doesn't matter for how the node's work goes. But if it
+        comes back its failures count on."""
+        with self._lock:
+            self._there.discard(key)
+
+    def failed(self, now: float, key: str = ALL) -> float:
         """The work has failed. Returns for how many seconds it backs off."""
         with self._lock:
-            is_first = not self._count or self._worked_until(now) >= LONG * self.ttl
-            self._count = 1 if is_first else self._count + 1
-            self._backoff = self.ttl / 5 if is_first else min(2 * self._backoff, BACKOFF_MAX)
-            self._away = 0.0 if is_first else self._away
-            self._backoff_end, self._has_failed = now + self._backoff, True
-            self._worked, self._begun = 0.0, None
-            return self._backoff
+            record = self._records.setdefault(key, Record())
+            record.failed(now, self.ttl)
+            return record.backoff
 
     def go_away(self) -> float:
         """The node gives up. Returns for how many seconds it stays away: each time twice as long, until the work goes
         well."""
         with self._lock:
-            self._away = min(2 * self._away or AWAY * self.ttl, AWAY_MAX)
-            return self._away
+            records = list(self._records.values())
+            hopeless = [record for record in records if 0 < self._give_up <= record.count] or records
+            seconds = min(2 * max(record.away for record in hopeless) or AWAY * self.ttl, AWAY_MAX)
+            for record in hopeless:
+                record.away = seconds
+            return seconds
 
     def come_back(self) -> None:
         """The work is tried once more, at once. If it fails again, the node gives up again."""
         with self._lock:
-            self._count, self._backoff_end = max(0, self._give_up - 1), 0.0
+            for record in self._records.values():
+                record.count, record.backoff_end = min(record.count, max(0, self._give_up - 1)), 0.0
 
     @property
     def count(self) -> int:
         """How many failures there were in a row."""
-        return self._count
+        return max(record.count for record in list(self._records.values()))
 
-    def backoff_seconds(self, now: float) -> float:
-        """For how many seconds the work still backs off after a failure."""
-        return max(0.0, self._backoff_end - now)
+    def backoff_seconds(self, now: float, key: str | None = None) -> float:
+        """For how many seconds the work still backs off after a failure: that of one worker, or the longest."""
+        with self._lock:
+            keys = self._there if key is None else [key]
+            ends = [self._records[each].backoff_end for each in keys if each in self._records]
+            return max([0.0, *[end - now for end in ends]])
 
     def is_failing(self, now: float) -> bool:
         """Whether the work has failed, and hasn't gone well for a ttl since."""
@@ -96,16 +146,8 @@ class Failures:
     def health(self, now: float) -> Health:
         """How the work goes."""
         with self._lock:
-            if self._worked_until(now) >= self.ttl:
-                return Health.WELL
-            if not self._has_failed:
-                return Health.NEW
-            is_at_work = self._begun is not None
-            return Health.HOPELESS if 0 < self._give_up <= self._count and not is_at_work else Health.FAILING
-
-    def _worked_until(self, now: float) -> float:
-        """For how many seconds it has worked since it failed."""
-        return self._worked + (0.0 if self._begun is None else now - self._begun)
+            found = {self._records[key].health(now, self._give_up, self.ttl) for key in self._there}
+            return next((each for each in WORST if each in found), Health.NEW)
 
 
 class GivingUp:

@@ -3,11 +3,12 @@ and never from what the library answered."""
 from __future__ import annotations
 
 import copy
+import ctypes
 import pickle
 import random
 import re
 import unittest
-from collections.abc import Callable
+from collections.abc import Callable, Sequence
 from dataclasses import FrozenInstanceError, replace
 from enum import Enum
 
@@ -15,8 +16,8 @@ import bully
 from bully import NotLearned, Owned, Replica, Status, check
 from bully.adapter import Requester, core_opening_of, seen_of
 from bully.core import (
-    TTL_MAX, TTL_MIN, Ask, BackOff, Begin, Core, CoreOpening, End, Ending, Lease, Live, Promise, Request, Seen, Session,
-    Step, Stop, StoreAnswer, Unknown, Until, Wait, Way, Work,
+    TTL_MAX, TTL_MIN, Activity, Ask, BackOff, Begin, Core, CoreOpening, End, Ending, Lease, Live, Promise, Reason, Request,
+    Seen, Session, Step, Stop, StoreAnswer, Unknown, Until, Wait, Way, Work,
 )  # fmt: skip
 from bully.epochs import Opening
 from bully.memory import MemoryLog
@@ -205,15 +206,15 @@ class Stories(unittest.TestCase):
             (core.state(1).status, core.last_table, core.planner, core.nodes, core.partitions),
             (Status.NORMAL, (1,), 1, 1, 1),
         )
-        self.assertEqual(core.next(100), Wait(249_910, Until.ANY_IDLE))
+        self.assertEqual(core.next(100), Wait(249_910, Until.ANY_IDLE, Reason.STABLE))
         core.woke()
         self.ask(110, Request.SNAPSHOT)
         core.answered(120, StoreAnswer.UNANSWERED)
-        self.assertEqual(core.next(130), BackOff(49_990))
+        self.assertEqual(core.next(130), BackOff(49_990, Reason.PAUSE))
         self.ask(260_010, Request.RENEW, FIRST)
         core.answered(260_020, StoreAnswer.REFUSED)
         self.assertEqual((core.next(260_030), core.work, core.session), (Stop(), Work(Way.STOPPING, 5), None))
-        self.assertEqual(core.next(260_040), BackOff(TTL_MIN))
+        self.assertEqual(core.next(260_040), BackOff(TTL_MIN, Reason.STOP))
         core.stopped()
         self.ask(260_050, Request.SNAPSHOT)
         self.snapshot_read(260_060)
@@ -231,12 +232,12 @@ class Stories(unittest.TestCase):
         self.ask(100, Request.SNAPSHOT)
         self.assertEqual(
             [core.next(now) for now in (110, 260_010, 800_010, 800_020)],
-            [BackOff(799_900), BackOff(540_000), Stop(), BackOff(TTL_MIN)],
+            [BackOff(799_900, Reason.ANSWER), BackOff(540_000, Reason.ANSWER), Stop(), BackOff(TTL_MIN, Reason.ANSWER)],
         )
         core.stopped()
-        self.assertEqual(core.next(800_030), BackOff(TTL_MIN))
+        self.assertEqual(core.next(800_030), BackOff(TTL_MIN, Reason.ANSWER))
         core.answered(800_040, StoreAnswer.UNANSWERED)
-        self.assertEqual(core.next(800_040), BackOff(50_000))
+        self.assertEqual(core.next(800_040), BackOff(50_000, Reason.PAUSE))
         self.ask(850_040, Request.RENEW, FIRST)
 
     def test_who_owns(self) -> None:
@@ -257,23 +258,22 @@ class Stories(unittest.TestCase):
             rows = replica.rebalance([1])
         works, idle, epoch = Lease(1, Session(3, 1), Promise(1, 0)), Promise(1, len(rows)), replace(ONE, epoch=1)
         with Core(replace(epoch, header='bully,1,2,1', rows_max=44), 5, TTL_MIN) as core:
-            self.assertFalse(core.is_stable(0), 'there is no plan')
+            self.assertFalse(core.is_stable(), 'there is no plan')
 
             def snapshot(now: int, *leases: Lease, has_request: bool = False) -> bool:
                 core.woke()
                 self.assertEqual(core.next(now), Ask(Request.SNAPSHOT))
                 core.learn(rows[core.offset :])
                 core.snapshot_read(now, Seen(1, leases, False, has_request))
-                return core.is_stable(now)
+                return core.is_stable()
 
             self.assertTrue(snapshot(10, works))
             self.assertFalse(snapshot(20, works, has_request=True))
             self.assertFalse(snapshot(30), 'a node is up, and nobody holds a lease for it')
             self.assertFalse(snapshot(40, replace(works, promise=idle)), 'it is idle up to the end of the log')
-            self.assertTrue(snapshot(50, works, Lease(2, Session(4, 1), idle)))
-            self.assertEqual([core.is_stable(now) for now in (10_049, 10_050)], [True, False])
-            self.assertTrue(snapshot(20_000, works, Lease(2, Session(4, 2), idle)))
-            self.assertEqual([core.is_stable(now) for now in (59_999, 60_000)], [True, False])
+            first, again = Lease(2, Session(4, 1), idle), Lease(2, Session(4, 2), idle)
+            self.assertEqual([snapshot(now, works, first) for now in (50, 10_049, 10_050)], [True, True, False])
+            self.assertEqual([snapshot(now, works, again) for now in (20_000, 59_999, 60_000)], [True, True, False])
 
     def test_its_work_ends_outside(self) -> None:
         self.begin()
@@ -281,10 +281,22 @@ class Stories(unittest.TestCase):
         self.assertEqual(self.core.work, Work(Way.WORKING, 5))
         self.core.lost(5)
         self.assertEqual(
-            (self.core.work, self.core.next(110), self.core.next(120)), (Work(Way.LOST, 5), Stop(), BackOff(249_890))
+            (self.core.work, self.core.next(110), self.core.next(120)),
+            (Work(Way.LOST, 5), Stop(), BackOff(249_890, Reason.STOP)),
         )
         self.core.stopped()
         self.assertEqual(self.core.next(130), Begin(5))
+
+    def test_its_work_ends_on_a_partition(self) -> None:
+        """It begins again there, because its node owns the partition."""
+        self.begin()
+        self.assertEqual((self.core.activities(), self.core.works()), ([Activity.WORKING], (0,)))
+        self.core.stopped_on(1)  # which the group hasn't
+        self.assertEqual((self.core.activities(), self.core.works()), ([Activity.WORKING], (0,)))
+        self.core.stopped_on(0)
+        self.assertEqual((self.core.activities(), self.core.works(), self.core.work), ([Activity.IDLE], (), None))
+        self.assertEqual(self.core.next(100), Begin(5))
+        self.assertEqual(self.core.works(), (0,))
 
     def test_it_leaves(self) -> None:
         self.begin()
@@ -399,6 +411,198 @@ class Stories(unittest.TestCase):
                 closed()
 
 
+class CooperativeStories(unittest.TestCase):
+    """Stories of the higher member of a cooperative group of two, with four partitions, of which each node gets two. All
+    times follow from a ttl of 1,000,000 ns: a session is admitted once it has stayed for 10,000."""
+
+    OTHER = Session(6, 1)
+
+    def setUp(self) -> None:
+        self.core = Core(CoreOpening('bully,1,2,4', 7, 2, 110, None, True), 5, TTL_MIN)
+        self.addCleanup(self.core.close)
+
+    def ask(self, now: int, request: Request, session: Session = Session(0, 0), offset: int = 0) -> None:
+        self.assertEqual(self.core.next(now), Ask(request, session, offset))
+
+    def snapshot(self, now: int, *leases: Lease, rows: Sequence[str] = ()) -> None:
+        self.ask(now, Request.SNAPSHOT)
+        self.core.learn(rows)
+        self.core.snapshot_read(now, Seen(7, leases))
+
+    def own(self, offset: int, *kept: int) -> Lease:
+        return Lease(2, FIRST, Promise(7, offset), kept)
+
+    def append(self, now: int, offset: int) -> list[str]:
+        """What it appends now."""
+        self.ask(now, Request.APPEND, offset=offset)
+        rows = self.core.rebalance()
+        self.core.answered(now, StoreAnswer.DONE)
+        return rows
+
+    def work_alone(self) -> list[str]:
+        """It works on all partitions, by a plan over its node alone. The rows up to that plan."""
+        self.snapshot(0)
+        self.ask(10, Request.ACQUIRE, FIRST, 0)
+        self.core.answered(20, StoreAnswer.DONE)
+        self.snapshot(30, self.own(0))
+        self.assertEqual(self.core.next(10_029), Wait(1, Until.NEWS, Reason.ADMISSION))
+        self.core.woke()
+        self.snapshot(10_030, self.own(0))
+        rows = self.append(10_040, 0)
+        self.snapshot(10_050, self.own(0), rows=rows)
+        self.assertEqual(self.core.next(10_060), Begin(self.core.token or 0))
+        self.assertEqual(self.core.works(), (0, 1, 2, 3))
+        self.assertEqual(self.core.last_table, (2, 2, 2, 2))
+        return rows
+
+    def test_a_change_stops_what_moves(self) -> None:
+        rows, core = self.work_alone(), self.core
+        end, comes = len(rows), Lease(1, self.OTHER, Promise(7, len(rows)))
+        core.woke()
+        self.snapshot(10_070, self.own(0), comes)
+        self.assertEqual([core.is_affected(node) for node in (1, 2)], [False, False], 'the other is not admitted')
+        self.assertEqual(core.next(10_080).__class__, Wait)
+        core.woke()
+        self.snapshot(20_070, self.own(0), comes)
+        self.assertEqual([core.is_affected(node) for node in (1, 2)], [False, True])
+        self.assertEqual(core.next(20_080), Stop())
+        stopping = [partition for partition, each in enumerate(core.activities()) if each is Activity.STOPPING]
+        self.assertEqual((len(stopping), core.works()), (2, (0, 1, 2, 3)), 'the fewest, and it works there up to the end')
+        going = tuple(partition for partition in range(4) if partition not in stopping)
+        core.stopped_on(stopping[0])
+        self.assertEqual(core.next(20_090), Wait(229_920, Until.NEWS, Reason.STOP))
+        core.stopped_on(stopping[1])
+        self.assertEqual(core.works(), going)
+        self.ask(20_100, Request.PROMISE, FIRST, end)
+        core.answered(20_110, StoreAnswer.DONE)
+        more = self.append(20_120, end)
+        self.snapshot(20_130, self.own(end, *going), comes, rows=more)
+        self.assertEqual((core.last_table or ()).count(1), 2)
+        self.assertEqual([(core.last_table or ())[partition] for partition in going], [2, 2], 'what it keeps stays its own')
+        self.assertEqual((core.next(20_140), core.works()), (Begin(core.token or 0), going), 'by the new token from now on')
+        self.assertEqual(core.next(20_150).__class__, Wait)
+
+    def test_a_death_stops_nothing(self) -> None:
+        """Nobody loses anything by it, so nobody promises anything, and the work that stays goes on."""
+        core = self.core
+        rows = self.work_alone()
+        with Replica('bully,1,2,4') as replica:
+            replica.learn(rows)
+            both = replica.rebalance([1, 2])
+        core.woke()
+        lease = Lease(1, self.OTHER, Promise(7, len(rows)))
+        self.snapshot(10_070, self.own(0), lease, rows=both)
+        self.assertEqual(core.next(10_080), Stop())
+        core.stopped()
+        self.assertEqual(core.next(10_090), Begin(core.token or 0))
+        going = core.works()
+        self.assertEqual(len(going), 2)
+        core.woke()
+        self.snapshot(20_000, self.own(0))
+        self.assertEqual(core.is_affected(2), False)
+        more = self.append(20_010, len(rows) + len(both))
+        self.snapshot(20_020, self.own(0), rows=more)
+        self.assertEqual((core.next(20_030), core.works()), (Begin(core.token or 0), (0, 1, 2, 3)))
+
+    def test_others_keep_what_is_left_to_them(self) -> None:
+        """It waits for a node that loses something, until that has promised the end and keeps nothing that moves."""
+        core, works = self.core, Lease(1, self.OTHER, Promise(7, 0))
+        with Replica('bully,1,2,4') as replica:
+            rows = replica.rebalance([1])
+            replica.learn(rows)
+            replica.learn(replica.rebalance([1, 2]))
+            owners = replica.last_table or ()
+        left, moves = ([partition for partition, owner in enumerate(owners) if owner == node] for node in (1, 2))
+        self.assertEqual((len(left), len(moves)), (2, 2))
+        end = len(rows)
+        self.snapshot(0, works, rows=rows)
+        self.ask(10, Request.ACQUIRE, FIRST, end)
+        core.answered(20, StoreAnswer.DONE)
+        promised = replace(works, promise=Promise(7, end))
+        waits = (
+            (30, works, Wait(10_000 - 10, Until.NEWS, Reason.ADMISSION)),
+            (10_100, works, Wait(239_900, Until.PROMISES, Reason.OTHERS)),
+            (10_200, replace(promised, kept=(0, 1, 2, 3)), Wait(239_800, Until.PROMISES, Reason.OTHERS)),
+            (10_300, replace(promised, kept=(*left, moves[0])), Wait(239_700, Until.PROMISES, Reason.OTHERS)),
+        )
+        for now, lease, wait in waits:
+            self.snapshot(now, lease, self.own(end))
+            self.assertEqual(core.next(now + 10), wait)
+            core.woke()
+        for now, kept in ((10_400, ()), (10_500, (left[1],)), (10_600, tuple(left))):
+            self.snapshot(now, replace(promised, kept=kept), self.own(end))
+            self.ask(now + 10, Request.APPEND, offset=end)
+            core.answered(now + 20, StoreAnswer.REFUSED)
+
+    def test_one_that_leaves(self) -> None:
+        """It waits until that one has left, and goes on with all that it works on."""
+        core, rows = self.core, self.work_alone()
+        with Replica('bully,1,2,4') as replica:
+            replica.learn(rows)
+            both = replica.rebalance([1, 2])
+        core.woke()
+        lease, end = Lease(1, self.OTHER, Promise(7, len(rows))), len(rows) + len(both)
+        self.snapshot(10_070, self.own(0), lease, rows=both)
+        self.assertEqual(core.next(10_080), Stop())
+        core.stopped()
+        self.assertEqual(core.next(10_090), Begin(core.token or 0))
+        self.assertEqual(core.next(10_100), Wait(239_910, Until.ANY_IDLE, Reason.STABLE))
+        core.woke()
+        self.snapshot(10_110, self.own(0), replace(lease, is_leaving=True))
+        self.assertEqual(([core.is_affected(node) for node in (1, 2)], core.is_stable()), ([True, False], False))
+        self.assertEqual(core.next(10_120), Wait(239_890, Until.PROMISES, Reason.OTHERS))
+        core.woke()
+        self.snapshot(10_130, self.own(0))
+        self.append(10_140, end)
+        self.assertEqual(len(core.works()), 2)
+
+    def test_kept_partitions_are_counted(self) -> None:
+        """As many as the leases keep: in C, which has them in one array."""
+        self.ask(0, Request.SNAPSHOT)
+        raw = bully.core.RAW_LEASE(5, 1, 7, 0, 1, 2)
+        kept = (ctypes.c_uint16 * 3)(0, 1, 2)
+        for count in (0, 1, 3):
+            with self.assertRaises(bully.BadKept):
+                self.core._call('snapshot_read', 1, 7, ctypes.byref(raw), 1, kept, count, 0, 0)
+        self.core._call('snapshot_read', 1, 7, ctypes.byref(raw), 1, kept, 2, 0, 0)
+
+
+class Leaves(unittest.TestCase):
+    """The higher member of an eager group of two, with four partitions. Both work; then the other one leaves."""
+
+    OTHER, OWN = Lease(1, Session(6, 1), Promise(7, 0)), Lease(2, FIRST, Promise(7, 0))
+
+    def setUp(self) -> None:
+        self.core = Core(CoreOpening('bully,1,2,4', 7, 2, 110), 5, TTL_MIN)
+        self.addCleanup(self.core.close)
+        with Replica('bully,1,2,4') as replica:
+            self.rows = replica.rebalance([1, 2])
+
+    def snapshot(self, now: int, *leases: Lease, rows: Sequence[str] = ()) -> None:
+        self.core.woke()
+        self.assertEqual(self.core.next(now), Ask(Request.SNAPSHOT, Session(0, 0), 0))
+        self.core.learn(rows)
+        self.core.snapshot_read(now, Seen(7, leases))
+
+    def test_all_stop_at_once(self) -> None:
+        core, end = self.core, len(self.rows)
+        self.snapshot(0)
+        self.assertEqual(core.next(10), Ask(Request.ACQUIRE, FIRST, 0))
+        core.answered(20, StoreAnswer.DONE)
+        self.snapshot(30, self.OTHER, self.OWN, rows=self.rows)
+        self.assertEqual(core.next(40), Begin(core.token or 0))
+        self.snapshot(50, self.OTHER, self.OWN)
+        self.assertEqual(core.next(60), Wait(249_950, Until.ANY_IDLE, Reason.STABLE))
+        self.snapshot(70, replace(self.OTHER, is_leaving=True), self.OWN)
+        self.assertEqual(core.next(80), Stop())
+        core.stopped()
+        self.assertEqual(core.next(90), Ask(Request.PROMISE, FIRST, end))
+        core.answered(100, StoreAnswer.DONE)
+        self.assertEqual(core.next(110), Wait(249_900, Until.ALL_IDLE, Reason.OTHERS))
+        self.snapshot(120, replace(self.OWN, promise=Promise(7, end)))
+        self.assertEqual(core.next(130), Ask(Request.APPEND, Session(0, 0), end))
+
+
 class Driver:
     """Drives cores over one log in memory, whose clock stands, so that no lease ends."""
 
@@ -409,7 +613,9 @@ class Driver:
     def ask(self, core: Core, now: int, ask: Ask) -> None:
         """Does what is asked, and says what became of it."""
         name, here = self.opening.names[core.node - 1], self.opening
-        told = Requester(self.log, name, here, core.offset, lambda: 1, core.rebalance, lambda: here).call(ask)()
+        told = Requester(
+            self.log, name, here, core.offset, lambda: 1, core.rebalance, lambda: here, core.works, lambda: None
+        ).call(ask)()
         if isinstance(told, Snapshot):
             core.learn(told.rows)
             end = Promise(here.epoch, core.offset)
@@ -420,18 +626,18 @@ class Driver:
 
 class Groups(unittest.TestCase):
     def run_until_stable(self, driver: Driver, cores: list[Core], now: int) -> int:
-        """Runs all until each of them waits and works. The time then."""
+        """Runs all, each until it waits, and until each of them works. The time then."""
         for _ in range(200):
             waiting = 0
             for core in cores:
-                now += 1
-                step: Step = core.next(now)
-                if isinstance(step, Ask):
+                step: Step = core.next(now := now + 1)
+                while isinstance(step, Ask):
                     driver.ask(core, now, step)
-                elif isinstance(step, Stop):
+                    step = core.next(now := now + 1)
+                if isinstance(step, Stop):
                     core.stopped()
                 elif isinstance(step, Wait):
-                    waiting += 1
+                    waiting += step.reason is Reason.STABLE
                     core.woke()
                     now += TTL_MIN // 50
             if waiting == len(cores) and all(core.work for core in cores):

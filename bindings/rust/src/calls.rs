@@ -299,6 +299,7 @@ pub(crate) struct RawOpening<'a> {
     pub(crate) node: u16,
     pub(crate) rows_max: u32,
     pub(crate) old: &'a [u16],
+    pub(crate) is_cooperative: bool,
 }
 
 macro_rules! tellings {
@@ -331,6 +332,7 @@ impl MemberHandle {
                 opening.rows_max,
                 opening.old.as_ptr(),
                 opening.old.len(),
+                u32::from(opening.is_cooperative),
                 process,
                 ttl,
             )
@@ -363,10 +365,11 @@ impl MemberHandle {
         now: u64,
         epoch: u32,
         leases: &[bully_lease],
+        kept: &[u16],
         has_unknown: bool,
         has_request: bool,
     ) -> Result<(), bully_status> {
-        // SAFETY: the handle is open, and `&mut` lets no other call of it be under way. The slice is read alone.
+        // SAFETY: the handle is open, and `&mut` lets no other call of it be under way. The slices are read alone.
         ok(unsafe {
             raw::bully_member_snapshot_read(
                 self.0.get(),
@@ -374,6 +377,8 @@ impl MemberHandle {
                 epoch,
                 leases.as_ptr(),
                 leases.len(),
+                kept.as_ptr(),
+                kept.len(),
                 u32::from(has_unknown),
                 u32::from(has_request),
             )
@@ -393,6 +398,7 @@ impl MemberHandle {
                 opening.rows_max,
                 opening.old.as_ptr(),
                 opening.old.len(),
+                u32::from(opening.is_cooperative),
             )
         })
     }
@@ -405,6 +411,7 @@ impl MemberHandle {
         leave(): bully_member_leave;
         lost(token: u32): bully_member_lost;
         stopped(): bully_member_stopped;
+        stopped_on(partition: u16): bully_member_stopped_on;
     }
 
     pub(crate) fn owned(&self) -> Result<Option<Owned>, bully_status> {
@@ -429,10 +436,13 @@ impl MemberHandle {
 
     numbers! {
         planned(): bully_member_planned;
+        works(): bully_member_works;
+        activities(): bully_member_activities;
     }
 
     structs! {
-        is_stable(now: u64): bully_member_is_stable, u32;
+        is_affected(node: u16): bully_member_is_affected, u32;
+        is_stable(): bully_member_is_stable, u32;
         show(now: u64): bully_member_show, bully_member_state;
         node(node: u16): bully_member_node, bully_state;
         group(): bully_member_group, bully_group;

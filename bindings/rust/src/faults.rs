@@ -369,11 +369,20 @@ errors! {
     }
 }
 
+faults! {
+    /// What is wrong with the partitions that leases keep.
+    KeptFault {
+        BadKept = BULLY_BAD_KEPT, "a lease keeps more than 65,535 partitions";
+    }
+}
+
 errors! {
-    /// Why a member didn't take in what a snapshot found. Nothing changed.
+    /// Why a member didn't take in what a snapshot found. Nothing changed, or the member reads another one after a pause.
     SeenError {
         /// A lease is of none of the group's nodes.
         Node: NodeFault;
+        /// A lease keeps too many partitions.
+        Kept: KeptFault;
         /// An allocation failed.
         Memory: OutOfMemory;
     }

@@ -18,14 +18,14 @@ mod trace;
 pub use agent::{Agent, AgentBuilder};
 pub use configuration::{Configuration, ConfigurationError};
 pub use faults::{
-    FormFault, HeaderError, LearnError, LearnFault, LineFault, LogError, MembersError, NodeFault,
-    OpenError, OpeningError, OutOfMemory, OwnedError, PlanError, PrepareError, RebalanceError,
-    Refused, ReplyError, RowError, SeenError, ServeError, SetupFault, TableFault, TermsFault,
-    TraceFault,
+    FormFault, HeaderError, KeptFault, LearnError, LearnFault, LineFault, LogError, MembersError,
+    NodeFault, OpenError, OpeningError, OutOfMemory, OwnedError, PlanError, PrepareError,
+    RebalanceError, Refused, ReplyError, RowError, SeenError, ServeError, SetupFault, TableFault,
+    TermsFault, TraceFault,
 };
 pub use member::{
-    Ending, Lease, Member, MemberState, Opening, Promise, Request, Seen, Session, SessionState,
-    Step, StoreAnswer, Until, Work, TTL_MAX, TTL_MIN,
+    Activity, Ending, Lease, Member, MemberState, Opening, Promise, Reason, Request, Seen, Session,
+    SessionState, Step, StoreAnswer, Until, Work, TTL_MAX, TTL_MIN,
 };
 pub use replica::{Replica, ReplicaEvent};
 pub use setup::{Setup, EVENTS_MAX, NODES_MAX, PARTITIONS_MAX, WEIGHT_MAX};

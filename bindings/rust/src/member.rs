@@ -25,8 +25,8 @@ pub struct Session {
     pub number: u64,
 }
 
-/// Up to which offset a session is idle: it works by no plan before this offset of this epoch. An offset is a number of
-/// rows after the header.
+/// The offset of a session's promise: it works by no plan before this offset of this epoch, except on the partitions
+/// that it keeps. An offset is a number of rows after the header.
 #[derive(Clone, Copy, Debug, PartialEq, Eq, Hash)]
 pub struct Promise {
     /// Which epoch.
@@ -36,7 +36,7 @@ pub struct Promise {
 }
 
 /// Who holds the lease of a node.
-#[derive(Clone, Copy, Debug, PartialEq, Eq, Hash)]
+#[derive(Clone, Debug, PartialEq, Eq, Hash)]
 pub struct Lease {
     /// The node.
     pub node: u16,
@@ -44,6 +44,11 @@ pub struct Lease {
     pub session: Session,
     /// What the session has promised.
     pub promise: Promise,
+    /// What the promise keeps, in rising order: nothing in an eager group.
+    pub kept: Vec<u16>,
+    /// Whether the holder is known to leave, as one that is told to. Then the others stop at once what its leaving
+    /// takes from them. A member's own lease shows it only once the member was told to leave.
+    pub is_leaving: bool,
 }
 
 /// What an epoch begins with, for a member.
@@ -60,6 +65,10 @@ pub struct Opening {
     /// The last table of the epoch before, if there was one; an empty table is none. In it 0 is an owner that this
     /// group doesn't have.
     pub old: Option<Vec<u16>>,
+    /// Whether the group is cooperative: a change of it stops only the work that moves. Otherwise it is eager, and a
+    /// change stops all work. All members of a group must agree on that. In a cooperative group a resource must keep the
+    /// highest token of each partition.
+    pub is_cooperative: bool,
 }
 
 impl Opening {
@@ -70,6 +79,7 @@ impl Opening {
             node: self.node,
             rows_max: self.rows_max,
             old: self.old.as_deref().unwrap_or_default(),
+            is_cooperative: self.is_cooperative,
         }
     }
 }
@@ -112,22 +122,62 @@ coded! {
 }
 
 coded! {
-    /// What ends a wait early: rows, sessions or requests to resize other than those that were seen; or one of these.
+    /// What ends a wait early: other rows, sessions or requests to resize than were seen, or another holder that is
+    /// known to leave; or one of these.
     Until {
         /// Nothing else.
         News = BULLY_UNTIL_NEWS, "news";
-        /// A holder of a lease is idle up to the end of the log, and wasn't when the member last read a snapshot.
+        /// A holder of a lease is idle up to the end of the log (it has promised that, and keeps nothing), and wasn't
+        /// when the member last read a snapshot.
         AnyIdle = BULLY_UNTIL_ANY_IDLE, "any idle";
         /// All holders of leases are idle up to the end of the log.
         AllIdle = BULLY_UNTIL_ALL_IDLE, "all idle";
+        /// A holder of a lease has made another promise than when the member last read a snapshot.
+        Promises = BULLY_UNTIL_PROMISES, "promises";
+    }
+}
+
+coded! {
+    /// Why a member waits or backs off: what holds then, as the rules in `docs/REBALANCING.md` say.
+    Reason {
+        /// Its last request isn't answered yet.
+        Answer = BULLY_REASON_ANSWER, "answer";
+        /// Work that it was asked to stop hasn't ended yet.
+        Stop = BULLY_REASON_STOP, "stop";
+        /// A request was given up as unanswered not long ago.
+        Pause = BULLY_REASON_PAUSE, "pause";
+        /// Another process holds the lease of its node.
+        Held = BULLY_REASON_HELD, "held";
+        /// The others haven't rebalanced the group yet since the session before its own ended.
+        Rebalance = BULLY_REASON_REBALANCE, "rebalance";
+        /// The group is stable, and its node works on all that it owns, if it owns anything.
+        Stable = BULLY_REASON_STABLE, "stable";
+        /// The group is cooperative, and its lease isn't admitted yet.
+        Admission = BULLY_REASON_ADMISSION, "admission";
+        /// It isn't its turn to change the log.
+        Turn = BULLY_REASON_TURN, "turn";
+        /// Others must promise something before the log changes.
+        Others = BULLY_REASON_OTHERS, "others";
+    }
+}
+
+coded! {
+    /// What a process does on a partition.
+    Activity {
+        /// It doesn't work on the partition.
+        Idle = BULLY_ACTIVITY_IDLE, "idle";
+        /// It works on it.
+        Working = BULLY_ACTIVITY_WORKING, "working";
+        /// It was asked to stop that, and hasn't reported yet that the work has ended.
+        Stopping = BULLY_ACTIVITY_STOPPING, "stopping";
     }
 }
 
 /// A request to a store. Its offset is one of the member's epoch. Each request is done at one moment, or not at all.
 #[derive(Clone, Copy, Debug, PartialEq, Eq, Hash)]
 pub enum Request {
-    /// Acquires the lease of the member's node for this session, which is idle up to this offset: if nobody has the
-    /// lease, and the log ends there.
+    /// Acquires the lease of the member's node for this session, which promises this offset and keeps nothing: if
+    /// nobody has the lease, and the log ends there.
     Acquire(Session, u32),
     /// Renews the lease, if this session has had it without a gap.
     Renew(Session),
@@ -135,12 +185,18 @@ pub enum Request {
     Release(Session),
     /// Reads the rows after all that was learned, for [`Member::learn`], and what [`Member::snapshot_read`] is given.
     Snapshot,
-    /// Records the session's promise to be idle up to this offset, if it has the lease; a higher promise stays.
+    /// Records this session's promise of this offset, which keeps what [`Member::works`] gives now: if it has the
+    /// lease, and has promised no higher offset.
     Promise(Session, u32),
     /// Appends the rows of [`Member::rebalance`]: if the log ends at this offset, somebody holds a lease, and all
-    /// holders of leases, unknown processes too, have promised this offset of this epoch.
+    /// holders of leases, also unknown processes, have promised this offset of this epoch and keep nothing. In a
+    /// cooperative group, unless the member ends, nothing is compared of holders whose node isn't affected
+    /// ([`Member::is_affected`]). A lease that is compared may also be as the member knows it: its own with its last
+    /// promise that was done, another one as the last snapshot found it.
     Append(u32),
-    /// Rolls the epoch over: ends it and begins the next one, on the same conditions.
+    /// Rolls the epoch over: ends it and begins the next one, if the log ends at this offset, somebody holds a lease,
+    /// and all holders have promised this offset of this epoch and keep nothing. In a cooperative group nothing is
+    /// compared of holders whose node isn't affected.
     RollOver(u32),
     /// Reads what the current epoch began with, for [`Member::followed`].
     Follow,
@@ -149,16 +205,19 @@ pub enum Request {
 /// What a member does next. Times are nanoseconds.
 #[derive(Clone, Copy, Debug, PartialEq, Eq, Hash)]
 pub enum Step {
-    /// Send this request to the store, and tell the member what became of it.
+    /// Send this request to the store, and report its answer to the member. For a promise, an append or a roll-over
+    /// read the rows, who is affected, and what the member works on before anything else is reported to it.
     Ask(Request),
-    /// Begin to work by this token, on what [`Member::owned`] gives. Nothing is written first.
+    /// Begin to work by this token, on what [`Member::owned`] gives. Nothing is written first. Where it works already
+    /// the work goes on, by this token from now on.
     Begin(u32),
-    /// Stop all work, and call [`Member::stopped`] when it has ended.
+    /// Stop the work on the partitions that are `Stopping` in [`Member::activities`], and call [`Member::stopped`] or
+    /// [`Member::stopped_on`] when that has ended. In an eager group that is all work.
     Stop,
     /// Wait for this long at most, and then call [`Member::woke`].
-    Wait(u64, Until),
-    /// Do nothing for this long, or until the member is told something.
-    BackOff(u64),
+    Wait(u64, Until, Reason),
+    /// Do nothing for this long, or until something is reported to the member.
+    BackOff(u64, Reason),
     /// Do nothing more: the member has ended.
     End(Ending),
 }
@@ -174,16 +233,16 @@ pub enum SessionState {
     Live(Session, u64),
 }
 
-/// The state of a process's work. The token is the one by which it began.
+/// The state of a process's work. The token is the one by which it began last.
 #[derive(Clone, Copy, Debug, PartialEq, Eq, Hash)]
 pub enum Work {
     /// It works on nothing.
     Idle,
     /// It works.
     Working(u32),
-    /// Its work ended outside the member.
+    /// Its work has ended by itself.
     Lost(u32),
-    /// It was told to stop its work, and hasn't reported yet that the work has ended.
+    /// It was asked to stop all its work or a part of it, and hasn't reported yet that this has ended.
     Stopping(u32),
 }
 
@@ -192,9 +251,9 @@ pub enum Work {
 pub struct MemberState {
     /// Whether its process has the lease of its node.
     pub session: SessionState,
-    /// For how many nanoseconds its lease is still sure. For that long it may work on what it was told to begin.
+    /// For how many nanoseconds its lease is still sure. For that long it may work on what it was asked to begin.
     pub sure_left: u64,
-    /// Up to which offset of this epoch its session has promised to be idle, whether or not the store knows of that.
+    /// The last offset of this epoch that its session has promised, whether or not the store knows of that.
     pub promised: u32,
     /// The state of its work.
     pub work: Work,
@@ -214,8 +273,8 @@ pub struct MemberState {
 /// and what it does next.
 ///
 /// It has no clock, no store and no random numbers of its own: [`Member::next`] says what is to be done now, the
-/// program that drives it does that, and tells the member what became of it. Times are whole nanoseconds of one clock
-/// that never goes back.
+/// program that drives it does that, and reports the result to it. Times are whole nanoseconds of one clock that never
+/// goes back.
 ///
 /// A member may move from thread to thread. Threads can't share one without a lock.
 ///
@@ -269,10 +328,19 @@ impl Member {
     /// What a snapshot found beside the rows. Nothing changes if no snapshot is awaited.
     pub fn snapshot_read(&mut self, now: u64, seen: &Seen) -> Result<(), SeenError> {
         let leases: Vec<bully_lease> = seen.leases.iter().map(Lease::raw).collect();
-        let (has_unknown, has_request) = (seen.has_unknown, seen.has_request);
-        let told = self
-            .handle
-            .snapshot_read(now, seen.epoch, &leases, has_unknown, has_request);
+        let kept: Vec<u16> = seen
+            .leases
+            .iter()
+            .flat_map(|lease| lease.kept.clone())
+            .collect();
+        let told = self.handle.snapshot_read(
+            now,
+            seen.epoch,
+            &leases,
+            &kept,
+            seen.has_unknown,
+            seen.has_request,
+        );
         told.map_err(SeenError::told)
     }
 
@@ -282,7 +350,8 @@ impl Member {
     }
 
     /// What the current epoch began with: the member goes on there with its session, and has learned nothing of the
-    /// log. Nothing changes if no follow is awaited, and it counts as not answered if the epoch is the member's.
+    /// log. Nothing changes if no follow is awaited. It counts as not answered if the epoch isn't after the member's,
+    /// or if the member works on something.
     pub fn followed(&mut self, now: u64, opening: &Opening) -> Result<(), OpeningError> {
         let told = self.handle.followed(now, &opening.raw());
         told.map_err(OpeningError::told)
@@ -303,18 +372,51 @@ impl Member {
         self.handle.leave();
     }
 
-    /// The work that was begun by this token has ended outside the member.
+    /// All work has ended by itself. The token is that of the last [`Step::Begin`], also for work that was started
+    /// before; nothing changes with another one.
     pub fn lost(&mut self, token: u32) {
         self.handle.lost(token);
     }
 
-    /// All work has ended.
+    /// All work has ended. Even if there was none, the member promises again before a change that affects it.
     pub fn stopped(&mut self) {
         self.handle.stopped();
     }
 
+    /// The work on this partition has ended, whether or not the member was asked to stop it. If the node still owns the
+    /// partition, the member begins again there. Even if there was no such work or partition, the member promises again
+    /// before a change that affects it.
+    pub fn stopped_on(&mut self, partition: u16) {
+        self.handle.stopped_on(partition);
+    }
+
+    /// What its process does on each partition, from partition 0 on.
+    pub fn activities(&self) -> Vec<Activity> {
+        let numbers = self.handle.activities();
+        let numbers = numbers.unwrap_or_else(|status| unexpected(status));
+        numbers
+            .into_iter()
+            .map(|number| known(number.into(), Activity::of(number.into())))
+            .collect()
+    }
+
+    /// The partitions on which its process works, in rising order, also those that it was asked to stop: what a promise
+    /// that is asked for now keeps.
+    pub fn works(&self) -> Result<Vec<u16>, OutOfMemory> {
+        self.handle.works().map_err(OutOfMemory::told)
+    }
+
+    /// Whether a change of the log affects this node, by the last snapshot: in an eager group each live node, in a
+    /// cooperative one each that loses a partition by the coming table. The member of an affected node must promise the
+    /// end of the log before the change. (A member that ends affects all.)
+    pub fn is_affected(&self, node: u16) -> Result<bool, NodeFault> {
+        let is_affected = self.handle.is_affected(node).map_err(NodeFault::told)?;
+        Ok(is_affected != 0)
+    }
+
     /// The rows of an append: they rebalance the group among the live nodes, as
-    /// [`Replica::rebalance`](crate::Replica::rebalance) does, or, if the member ends, among none.
+    /// [`Replica::rebalance`](crate::Replica::rebalance) does, or in a cooperative group among those that are admitted;
+    /// if the member ends, among none.
     pub fn rebalance(&self) -> Result<Vec<String>, RebalanceError> {
         let text = self.handle.rebalance();
         Ok(calls::rows_of(&text.map_err(RebalanceError::told)?))
@@ -326,17 +428,16 @@ impl Member {
     }
 
     /// What the holder of this lease owns, by a plan after what its session has promised in this epoch, if anything:
-    /// its process may work on that.
+    /// its process may work on that; in a cooperative group also on what its promise keeps.
     pub fn owned_of(&self, lease: &Lease) -> Result<Option<Owned>, SeenError> {
         let owned = self.handle.owned_of(&lease.raw());
         owned.map_err(SeenError::told)
     }
 
     /// Whether the group is stable for the member, by its last snapshot, so that there is nothing to do but to work:
-    /// among the live nodes that are up in the log or have stayed long enough by now. A member that acquires no lease
-    /// may observe a group by this call.
-    pub fn is_stable(&self, now: u64) -> bool {
-        let is_stable = self.handle.is_stable(now);
+    /// among the live nodes that were admitted then. A member that acquires no lease may observe a group by this call.
+    pub fn is_stable(&self) -> bool {
+        let is_stable = self.handle.is_stable();
         is_stable.unwrap_or_else(|status| unexpected(status)) != 0
     }
 
@@ -392,6 +493,8 @@ impl Lease {
             epoch: self.promise.epoch,
             offset: self.promise.offset,
             node: self.node,
+            kept_count: self.kept.len().try_into().unwrap_or(u16::MAX),
+            is_leaving: self.is_leaving.into(),
         }
     }
 }
@@ -403,10 +506,14 @@ impl Step {
             raw::BULLY_STEP_ASK => Step::Ask(Request::of(told)),
             raw::BULLY_STEP_BEGIN => Step::Begin(told.token),
             raw::BULLY_STEP_STOP => Step::Stop,
-            raw::BULLY_STEP_WAIT => {
-                Step::Wait(told.at_most, known(told.until, Until::of(told.until)))
+            raw::BULLY_STEP_WAIT => Step::Wait(
+                told.at_most,
+                known(told.until, Until::of(told.until)),
+                known(told.reason, Reason::of(told.reason)),
+            ),
+            raw::BULLY_STEP_BACK_OFF => {
+                Step::BackOff(told.at_most, known(told.reason, Reason::of(told.reason)))
             }
-            raw::BULLY_STEP_BACK_OFF => Step::BackOff(told.at_most),
             raw::BULLY_STEP_END => Step::End(known(told.ending, Ending::of(told.ending))),
             kind => unexpected_number(kind),
         }

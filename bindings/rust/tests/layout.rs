@@ -208,8 +208,8 @@ fn claims_on_structs() -> Vec<String> {
         bully_replica: held;
         bully_group: rows events token planner nodes partitions keeps;
         bully_member: held;
-        bully_step: at_most process number kind request until offset token ending;
-        bully_lease: process number epoch offset node;
+        bully_step: at_most process number kind request until reason offset token ending;
+        bully_lease: process number epoch offset node kept_count is_leaving;
         bully_member_state: process number since sure_left session promised work token ending epoch offset node has_request;
     };
     for name in declared("pub struct ") {

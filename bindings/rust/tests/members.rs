@@ -1,8 +1,9 @@
 //! Rebalances, and members: what each does next, by the rules in `docs/REBALANCING.md`. All times follow from a ttl of 1,000,000 ns.
 
 use bully::{
-    check, Ending, Lease, Member, Opening, OpeningError, Promise, RebalanceError, Replica, Request,
-    Seen, Session, SessionState, Status, Step, StoreAnswer, Until, Verdict, Work, TTL_MAX, TTL_MIN,
+    check, Activity, Ending, Lease, Member, Opening, OpeningError, Promise, Reason, RebalanceError,
+    Replica, Request, Seen, Session, SessionState, Status, Step, StoreAnswer, Until, Verdict, Work,
+    TTL_MAX, TTL_MIN,
 };
 use bully::{FormFault, LearnFault, NodeFault, OwnedError, SeenError, TableFault, TermsFault};
 
@@ -88,6 +89,7 @@ fn opening() -> Opening {
         node: 1,
         rows_max: 22,
         old: None,
+        is_cooperative: false,
     }
 }
 
@@ -105,6 +107,8 @@ fn own(offset: u32) -> Lease {
         node: 1,
         session: SESSION,
         promise: Promise { epoch: 7, offset },
+        kept: Vec::new(),
+        is_leaving: false,
     }
 }
 
@@ -153,11 +157,14 @@ fn a_member_works_and_stops() {
     assert_eq!(member.node(2), Err(NodeFault::BadNode));
     assert_eq!(member.group().token, Some(5));
     assert_eq!(member.planned(), Some(vec![1]));
-    assert_eq!(member.next(100), Step::Wait(249_910, Until::AnyIdle));
+    assert_eq!(
+        member.next(100),
+        Step::Wait(249_910, Until::AnyIdle, Reason::Stable)
+    );
     member.woke();
     assert_eq!(member.next(110), Step::Ask(Request::Snapshot));
     member.answered(120, StoreAnswer::Unanswered);
-    assert_eq!(member.next(130), Step::BackOff(49_990));
+    assert_eq!(member.next(130), Step::BackOff(49_990, Reason::Pause));
     assert_eq!(member.next(260_010), Step::Ask(Request::Renew(SESSION)));
     member.answered(260_020, StoreAnswer::Refused);
     assert_eq!(member.state(260_020).session, SessionState::Absent);
@@ -181,9 +188,9 @@ fn one_request_is_under_way_at_a_time() {
     let mut member = worker();
     member.woke();
     assert_eq!(member.next(100), Step::Ask(Request::Snapshot));
-    assert_eq!(member.next(260_010), Step::BackOff(540_000));
+    assert_eq!(member.next(260_010), Step::BackOff(540_000, Reason::Answer));
     assert_eq!(member.next(800_010), Step::Stop);
-    assert_eq!(member.next(800_020), Step::BackOff(TTL_MIN));
+    assert_eq!(member.next(800_020), Step::BackOff(TTL_MIN, Reason::Answer));
     member.stopped();
     member.answered(800_030, StoreAnswer::Unanswered);
     assert_eq!(member.next(850_030), Step::Ask(Request::Renew(SESSION)));
@@ -206,8 +213,82 @@ fn a_member_observes_its_group() {
     let third = Lease { node: 3, ..own(0) };
     let no_node = SeenError::Node(NodeFault::BadNode);
     assert_eq!(member.owned_of(&third).err(), Some(no_node));
-    assert!(member.is_stable(100));
-    assert!(!Member::open(&opening(), 5, TTL_MIN).unwrap().is_stable(100));
+    assert!(member.is_stable());
+    assert!(!Member::open(&opening(), 5, TTL_MIN).unwrap().is_stable());
+}
+
+#[test]
+fn work_ends_on_a_partition() {
+    let mut member = worker();
+    assert_eq!(member.activities(), [Activity::Working]);
+    assert_eq!(member.works(), Ok(vec![0]));
+    assert_eq!(member.is_affected(1), Ok(true));
+    assert_eq!(member.is_affected(2), Err(NodeFault::BadNode));
+    member.stopped_on(0);
+    assert_eq!(member.activities(), [Activity::Idle]);
+    assert_eq!(member.works(), Ok(vec![]));
+    assert_eq!(member.next(100), Step::Begin(5));
+    assert_eq!(format!("{}", Activity::Stopping), "stopping");
+}
+
+// Node 2 of a cooperative group of two, in which node 1 works on both partitions, waits until that keeps nothing that
+// moves; and nothing at all, if it leaves.
+#[test]
+fn a_cooperative_member_waits_for_what_others_keep() {
+    let mut replica = Replica::open("bully,1,2,2").unwrap();
+    let rows = replica.rebalance(&[1], None).unwrap();
+    let end = replica.learn(&rows).unwrap() as u32;
+    let cooperative = Opening {
+        header: "bully,1,2,2".to_string(),
+        node: 2,
+        rows_max: 66,
+        is_cooperative: true,
+        ..opening()
+    };
+    let other = |kept: Vec<u16>| Lease {
+        session: Session {
+            process: 6,
+            number: 1,
+        },
+        kept,
+        ..own(end)
+    };
+    let own = Lease {
+        node: 2,
+        ..own(end)
+    };
+    let mut member = Member::open(&cooperative, 5, TTL_MIN).unwrap();
+    assert_eq!(member.next(0), Step::Ask(Request::Snapshot));
+    member.learn(&rows).unwrap();
+    member
+        .snapshot_read(5, &seen(&[other(vec![0, 1])]))
+        .unwrap();
+    assert_eq!(member.next(10), Step::Ask(Request::Acquire(SESSION, end)));
+    member.answered(20, StoreAnswer::Done);
+    let mut next = |now, other| {
+        assert_eq!(member.next(now), Step::Ask(Request::Snapshot));
+        member
+            .snapshot_read(now + 10, &seen(&[other, own.clone()]))
+            .unwrap();
+        let step = member.next(now + 20);
+        member.woke();
+        (step, [member.is_affected(1), member.is_affected(2)])
+    };
+    let (wait, affected) = next(30, other(vec![0, 1]));
+    assert_eq!(wait, Step::Wait(9_990, Until::News, Reason::Admission));
+    assert_eq!(affected, [Ok(false), Ok(false)]);
+    let (wait, affected) = next(10_040, other(vec![0, 1]));
+    assert_eq!(wait, Step::Wait(239_950, Until::Promises, Reason::Others));
+    assert_eq!(affected, [Ok(true), Ok(false)]);
+    let leaving = Lease {
+        is_leaving: true,
+        ..other(vec![0])
+    };
+    let (wait, _) = next(10_070, leaving);
+    assert_eq!(wait, Step::Wait(239_920, Until::Promises, Reason::Others));
+    let (append, _) = next(10_100, other(vec![0]));
+    assert_eq!(append, Step::Ask(Request::Append(end)));
+    assert_eq!(member.state(10_130).work, Work::Idle);
 }
 
 #[test]
@@ -327,6 +408,7 @@ fn members_rebalance_their_group() {
         node,
         rows_max: 44,
         old: None,
+        is_cooperative: false,
     };
     let mut members = [
         Member::open(&with(1), 1, TTL_MAX).unwrap(),
@@ -357,6 +439,8 @@ fn members_rebalance_their_group() {
                             node,
                             session,
                             promise: promise(at),
+                            kept: Vec::new(),
+                            is_leaving: false,
                         });
                         leases.sort_by_key(|lease| lease.node);
                         true

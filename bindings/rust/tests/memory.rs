@@ -113,6 +113,7 @@ fn opening(epoch: u32) -> Opening {
         node: 2,
         rows_max: 44,
         old: Some(vec![2, 0, 1]),
+        is_cooperative: false,
     }
 }
 
@@ -320,6 +321,8 @@ fn refused_members() {
                 epoch: 1,
                 offset: 0,
             },
+            kept: vec![0],
+            is_leaving: false,
         }],
         has_unknown: false,
         has_request: false,

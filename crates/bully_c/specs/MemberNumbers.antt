@@ -1,6 +1,8 @@
 -- The numbers by which C knows what bully_member names: those of include/bully.h.
 use Rattle.std.specs.Prelude.{ℕ, ◌==◌, Option, None, Some, if◌then◌else◌}
 use Rattle.bully_member.specs.declared.opening.MemberFault.{MemberFault}
+use Rattle.bully_member.specs.declared.values.Activity.{Activity}
+use Rattle.bully_member.specs.declared.values.Reason.{Reason}
 use Rattle.bully_member.specs.declared.values.Until.{Until}
 use Rattle.bully_member.specs.declared.values.Ending.{Ending}
 use Rattle.bully_member.specs.declared.values.SessionState.{SessionState}
@@ -24,6 +26,24 @@ abbrev pub until_number : Until → ℕ
 until_number Until.News = 1
 until_number Until.AnyIdle = 2
 until_number Until.AllIdle = 3
+until_number Until.Promises = 4
+
+-- those of the rules in docs/REBALANCING.md
+abbrev pub reason_number : Reason → ℕ
+reason_number Reason.Answer = 2
+reason_number Reason.Stop = 3
+reason_number Reason.Pause = 4
+reason_number Reason.Held = 11
+reason_number Reason.Rebalance = 12
+reason_number Reason.Stable = 18
+reason_number Reason.Admission = 19
+reason_number Reason.Turn = 21
+reason_number Reason.Others = 22
+
+abbrev pub activity_number : Activity → ℕ
+activity_number Activity.Idle = 0
+activity_number Activity.Working = 1
+activity_number Activity.Stopping = 2
 
 abbrev pub ending_number : Ending → ℕ
 ending_number Ending.Left = 1

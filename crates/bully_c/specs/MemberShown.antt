@@ -1,18 +1,29 @@
 -- What a member does next, and what it shows, as C has it.
 use Rattle.std.specs.Prelude.{ℕ, Option, None, Some, if◌then◌else◌}
+use Rattle.bully_member.specs.Activities.{work_of}
 use Rattle.bully_member.specs.Member.{MemberState, offset_of}
 use Rattle.bully_member.specs.Times.{sure_left}
 use Rattle.bully_member.specs.declared.values.SessionId.{SessionId}
 use Rattle.bully_member.specs.declared.values.Request.{Request}
 use Rattle.bully_member.specs.declared.values.Step.{Step}
-use Rattle.bully_c.specs.MemberNumbers.{until_number, ending_number, ending_or_none, session_count, session_number}
-use Rattle.bully_c.specs.MemberNumbers.{session_process, session_since, work_number, work_token}
+use Rattle.bully_c.specs.MemberNumbers.{until_number, ending_number, ending_or_none, reason_number, session_count}
+use Rattle.bully_c.specs.MemberNumbers.{session_number, session_process, session_since, work_number, work_token}
 use Rattle.bully_c.specs.declared.member_shown.CMember.{CMember}
 use Rattle.bully_c.specs.declared.member_shown.CStep.{CStep}
 
 abbrev pub no_step : CStep
-no_step =
-    record { at_most = 0; process = 0; number = 0; kind = 0; request = 0; until = 0; offset = 0; token = 0; ending = 0 }
+no_step = record {
+  at_most = 0;
+  process = 0;
+  number = 0;
+  kind = 0;
+  request = 0;
+  until = 0;
+  reason = 0;
+  offset = 0;
+  token = 0;
+  ending = 0;
+}
 
 -- the step of the request with this number, of this session, at this offset
 abbrev pub of_session : ℕ → Option SessionId → ℕ → CStep
@@ -34,8 +45,10 @@ abbrev pub step_shown : Step → CStep
 step_shown (Step.Ask request) = request_shown request
 step_shown (Step.Begin token) = record no_step { kind = 2; token = token }
 step_shown Step.Stop = record no_step { kind = 3 }
-step_shown (Step.Wait at_most until) = record no_step { at_most = at_most; kind = 4; until = until_number until }
-step_shown (Step.BackOff at_most) = record no_step { at_most = at_most; kind = 5 }
+step_shown (Step.Wait at_most until reason) =
+    record no_step { at_most = at_most; kind = 4; until = until_number until; reason = reason_number reason }
+step_shown (Step.BackOff at_most reason) =
+    record no_step { at_most = at_most; kind = 5; reason = reason_number reason }
 step_shown (Step.End ending) = record no_step { kind = 6; ending = ending_number ending }
 
 abbrev pub member_shown : MemberState → (now : ℕ) → CMember
@@ -46,8 +59,8 @@ member_shown m now = record {
   sure_left = sure_left m.session m.ttl now;
   session = session_number m.session;
   promised = m.promised;
-  work = work_number m.work;
-  token = work_token m.work;
+  work = work_number (work_of m.works m.token m.is_lost);
+  token = work_token (work_of m.works m.token m.is_lost);
   ending = ending_or_none m.ending;
   epoch = m.terms.epoch;
   offset = offset_of m;

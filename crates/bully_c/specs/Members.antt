@@ -1,17 +1,19 @@
 -- What an export over a member answers.
 use Rattle.std.specs.Prelude.{◌≡◌, ◌⊎◌, ◌+◌, ◌<◌, ◌≤◌, ◌↔◌, ◌==◌, ℕ, Bool, List, [], Option, Some, None, Result, Ok}
-use Rattle.std.specs.Prelude.{Err, IsTrue, length, map, true, false, if◌then◌else◌}
+use Rattle.std.specs.Prelude.{Err, IsTrue, length, true, false, if◌then◌else◌}
 use Rattle.bully_base.specs.Setup.{IsNode, Setup}
 use Rattle.bully_base.specs.declared.TheConstants.{NODES_MAX}
-use Rattle.bully_member.specs.Due.{due, noted}
+use Rattle.bully_member.specs.Due.{Sees, due, noted}
 use Rattle.bully_member.specs.Learned.{RefusesTerms, after_learning, followed}
-use Rattle.bully_member.specs.Member.{AllAreDown, MemberState, SeesStable, new_member, owned_of, offset_of, replica_of}
+use Rattle.bully_member.specs.Member.{Foresees, MemberState, SeesStable, is_affected, new_member, owned_of, offset_of, replica_of}
 use Rattle.bully_member.specs.Opening.{RefusesMember, member_fault, terms_fault}
 use Rattle.bully_member.specs.Rebalance.{rebalance}
-use Rattle.bully_member.specs.Told.{answered, end_for, snapshot_read}
+use Rattle.bully_member.specs.Told.{TakesIn, answered, end_for, snapshot_lost, snapshot_read}
 use Rattle.bully_member.specs.declared.opening.MemberFault.{MemberFault}
 use Rattle.bully_member.specs.declared.opening.Terms.{Terms}
 use Rattle.bully_member.specs.declared.values.Ending.{Ending}
+use Rattle.bully_member.specs.declared.values.Lease.{Lease}
+use Rattle.bully_member.specs.declared.values.Sight.{Sight}
 use Rattle.bully_member.specs.declared.values.Step.{Step}
 use Rattle.bully_member.specs.declared.values.StoreAnswer.{StoreAnswer}
 use Rattle.bully_replica.specs.RowReplica.{RowReplicaState, FollowsUpTo, StopsAt}
@@ -24,7 +26,7 @@ use Rattle.bully_c.specs.MemberNumbers.{answer_numbered, member_number}
 use Rattle.bully_c.specs.MemberShown.{step_shown}
 use Rattle.bully_c.specs.Numbers.{learn_fault_number}
 use Rattle.bully_c.specs.OldTables.{AreOld, RefusesOld, old_given}
-use Rattle.bully_c.specs.Leases.{AreLeases, RefusesLeases, lease_given}
+use Rattle.bully_c.specs.Leases.{AreKept, AreLeases, RefusesLeases, lease_given, leases_given}
 use Rattle.bully_c.specs.Replicas.{IsHeaderAlone, RefusesHeader, ShowsNode, has_end, has_mark, mark_number}
 use Rattle.bully_c.specs.RebalanceRows.{IsOwnedMade, events_text}
 use Rattle.bully_c.specs.declared.member_shown.CStep.{CStep}
@@ -50,7 +52,13 @@ Becomes to held status after = (status ≡ OK) × (after.member ≡ to held.memb
 
 abbrev pub terms_given : Setup → TermsTold → List ℕ → Terms
 terms_given s told old =
-    record { epoch = told.epoch; node = told.node; rows_max = told.rows_max; old = old_given s.nodes old }
+    record {
+      epoch = told.epoch;
+      node = told.node;
+      rows_max = told.rows_max;
+      old = old_given s.nodes old;
+      is_cooperative = told.is_cooperative;
+    }
 
 -- the group has the node, and the old table is one
 abbrev pub AreTerms : Setup → TermsTold → List ℕ → Type 0
@@ -100,15 +108,14 @@ IsMemberOpening text told old process ttl None status new =
 
 -- ---- what it does next
 
--- the first rule that applies
-abbrev pub IsDue : MemberState → (now : ℕ) → Step → Type 0
-IsDue m now step = (is_stable are_down : Bool) → (IsTrue is_stable ↔ SeesStable m now)
-    → (IsTrue are_down ↔ AllAreDown m) → step ≡ due m now is_stable are_down
+-- the first rule that applies, and what the member notes of it
+pub record IsNext (m : MemberState) (now : ℕ) (step : Step) (after : MemberState) : Type 0 where
+  pub due_is : (s : Sight) → Sees m now s → step ≡ due m now s
+  pub noted_is : (is_stable : Bool) → (IsTrue is_stable ↔ SeesStable m) → after ≡ noted m now is_stable step
 
 abbrev pub IsNextStep : (now : ℕ) → CStep → HeldMember → ℕ → HeldMember → Type 0
 IsNextStep now shown held status after =
-    (status ≡ OK) × (step : Step) × (shown ≡ step_shown step) × IsDue held.member now step
-    × (after.member ≡ noted held.member now step)
+    (status ≡ OK) × (step : Step) × (shown ≡ step_shown step) × IsNext held.member now step after.member
 
 -- ---- what is reported to it
 
@@ -151,12 +158,20 @@ IsMemberLearning text taken held status after =
 abbrev pub last_node : MemberState → (epoch : ℕ) → ℕ
 last_node m epoch = if epoch == m.terms.epoch then (replica_of m).world.setup.nodes else NODES_MAX
 
-abbrev pub IsSnapshotRead : (now epoch : ℕ) → List CLease → (has_unknown has_request : Bool) → HeldMember → ℕ
-    → HeldMember → Type 0
-IsSnapshotRead now epoch leases has_unknown has_request held status after =
-    ((status ≡ OK) × AreLeases (last_node held.member epoch) leases
-    × (after.member ≡ snapshot_read held.member now epoch (map lease_given leases) has_unknown has_request))
-    ⊎ (RefusesLeases (last_node held.member epoch) leases status × (after ≡ held))
+-- the member has read it, and sees what is coming; or it has noted the sessions alone, since an allocation failed
+abbrev pub IsRead : (now epoch : ℕ) → List Lease → (has_unknown has_request : Bool) → MemberState → ℕ → MemberState
+    → Type 0
+IsRead now epoch leases has_unknown has_request m status after =
+    ((status ≡ OK) × (after ≡ snapshot_read m now epoch leases has_unknown has_request after.coming after.affected)
+    × (TakesIn m epoch → Foresees after))
+    ⊎ ((status ≡ OUT_OF_MEMORY) × TakesIn m epoch × (after ≡ snapshot_lost m now leases))
+
+abbrev pub IsSnapshotRead : (now epoch : ℕ) → List CLease → (kept : List ℕ) → (has_unknown has_request : Bool)
+    → HeldMember → ℕ → HeldMember → Type 0
+IsSnapshotRead now epoch leases kept has_unknown has_request held status after =
+    (AreLeases (last_node held.member epoch) leases × AreKept leases kept
+    × IsRead now epoch (leases_given leases kept) has_unknown has_request held.member status after.member)
+    ⊎ (RefusesLeases (last_node held.member epoch) leases kept status × (after ≡ held))
 
 -- what an epoch starts with, or why the member doesn't go on there
 abbrev pub IsFollowOf : (now : ℕ) → Opening → HeldMember → ℕ → HeldMember → Type 0
@@ -174,16 +189,21 @@ IsFollow now text told old held status after =
 -- ---- what it finds of its group
 
 -- whether the group is stable for it
-pub record IsMemberStable (m : MemberState) (now told : ℕ) : Type 0 where
+pub record IsMemberStable (m : MemberState) (told : ℕ) : Type 0 where
   pub is_stable : Bool
-  pub decides : IsTrue is_stable ↔ SeesStable m now
+  pub decides : IsTrue is_stable ↔ SeesStable m
   pub told_is : told ≡ (if is_stable then 1 else 0)
+
+-- whether a change affects the node, if it is one of the group's
+abbrev pub IsAffectedShown : MemberState → (node before status told : ℕ) → Type 0
+IsAffectedShown m node before status told = ShowsNode (replica_of m).world.setup node status
+    ((status ≡ OK) × (told ≡ (if is_affected m node then 1 else 0))) (told ≡ before)
 
 -- what the holder of this lease owns, if its node is one of the group's
 abbrev pub IsOwnedOfShown : MemberState → CLease → ℕ → List ℕ → ℕ → ℕ → ℕ → List ℕ → ℕ → Type 0
 IsOwnedOfShown m p token_before before count_before status token after count =
     ShowsNode (replica_of m).world.setup p.node status
-    (IsOwnedMade (owned_of m (lease_given p)) token_before before count_before status token after count)
+    (IsOwnedMade (owned_of m (lease_given p [])) token_before before count_before status token after count)
     ((token ≡ token_before) × (after ≡ before) × (count ≡ count_before))
 
 -- ---- what it appends

@@ -1,10 +1,15 @@
 //! What a member does next, and what it shows, as C has it.
-ghost use Rattle.std.specs.Prelude.{◌≡◌};
-ghost use Rattle.bully_c.specs.MemberNumbers.{until_number, ending_number, ending_or_none, session_count};
+ghost use Rattle.std.specs.Prelude.{◌≡◌, ◌≤◌, ◌++◌, drop, length, map};
+ghost use Rattle.bully_c.specs.Arguments.{IsCopied};
+ghost use Rattle.bully_c.specs.MemberNumbers.{activity_number, until_number, ending_number, ending_or_none};
+ghost use Rattle.bully_c.specs.MemberNumbers.{reason_number, session_count};
 ghost use Rattle.bully_c.specs.MemberNumbers.{session_number, session_process, session_since, work_number, work_token};
 ghost use Rattle.bully_c.specs.MemberShown.{member_shown, no_step, of_session, request_shown, step_shown};
 
-use bully_member::{Ending, Member, Request, SessionId, SessionState, Step, Until, Work};
+use crate::status::{OK, SHORT};
+use bully_member::{
+    Activity, Ending, Member, Reason, Request, SessionId, SessionState, Step, Until, Work,
+};
 
 /// What a member does next. A field that a kind of step or request doesn't have is 0.
 #[repr(C)]
@@ -16,6 +21,7 @@ pub struct CStep {
     pub kind: u32,
     pub request: u32,
     pub until: u32,
+    pub reason: u32,
     pub offset: u32,
     pub token: u32,
     pub ending: u32,
@@ -52,14 +58,16 @@ pub fn step_of(step: Step) -> CStep
             shown.token = token;
         }
         Step::Stop => shown.kind = 3,
-        Step::Wait(at_most, until) => {
+        Step::Wait(at_most, until, reason) => {
             shown.kind = 4;
             shown.at_most = at_most;
             shown.until = of_until(until);
+            shown.reason = of_reason(reason);
         }
-        Step::BackOff(at_most) => {
+        Step::BackOff(at_most, reason) => {
             shown.kind = 5;
             shown.at_most = at_most;
+            shown.reason = of_reason(reason);
         }
         Step::End(ending) => {
             shown.kind = 6;
@@ -110,6 +118,7 @@ fn no_step() -> CStep
         kind: 0,
         request: 0,
         until: 0,
+        reason: 0,
         offset: 0,
         token: 0,
         ending: 0,
@@ -123,6 +132,23 @@ fn of_until(until: Until) -> u32
         Until::News => 1,
         Until::AnyIdle => 2,
         Until::AllIdle => 3,
+        Until::Promises => 4,
+    }
+}
+
+fn of_reason(reason: Reason) -> u32
+    ensures { result ≡ reason_number reason }
+{
+    match reason {
+        Reason::Answer => 2,
+        Reason::Stop => 3,
+        Reason::Pause => 4,
+        Reason::Held => 11,
+        Reason::Rebalance => 12,
+        Reason::Stable => 18,
+        Reason::Admission => 19,
+        Reason::Turn => 21,
+        Reason::Others => 22,
     }
 }
 
@@ -207,6 +233,39 @@ fn token_of(work: Work) -> u32
     match work {
         Work::Idle => 0,
         Work::Working(token) | Work::Lost(token) | Work::Stopping(token) => token,
+    }
+}
+
+/// Writes what a process does on each partition, and their count. Refused if there isn't room for them, and then the
+/// count alone is written.
+pub fn copy_activities(activities: &[Activity], room: &mut [u16], count: &mut usize) -> u32
+    ensures { IsCopied (map activity_number activities.now) room.old result room.new count.new }
+{
+    *count = activities.len();
+    if room.len() < activities.len() {
+        return SHORT;
+    }
+    put_activities(activities, room);
+    OK
+}
+
+// Writes what a process does on each partition at the front of the room, which has room for each.
+fn put_activities(activities: &[Activity], room: &mut [u16])
+    requires { length activities.now ≤ length room.old }
+    ensures { room.new ≡ map activity_number activities.now ++ drop (length activities.now) room.old }
+{
+    for partition in 0..activities.len() {
+        room[partition] = of_activity(activities[partition]);
+    }
+}
+
+fn of_activity(activity: Activity) -> u16
+    ensures { result ≡ activity_number activity }
+{
+    match activity {
+        Activity::Idle => 0,
+        Activity::Working => 1,
+        Activity::Stopping => 2,
     }
 }
 

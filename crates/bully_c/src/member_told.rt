@@ -1,17 +1,18 @@
 //! What a member does next, and what is reported to it: the rows of its log, who holds a lease, and what its next epoch
 //! starts with.
-ghost use Rattle.std.specs.Prelude.{◌≡◌, ◌≤◌};
+ghost use Rattle.std.specs.Prelude.{◌≡◌, ◌<◌, ◌≤◌, All};
 ghost use Rattle.bully_c.specs.MemberNumbers.{answer_numbered};
 ghost use Rattle.bully_c.specs.Members.{IsAnswer, IsFollow, IsFollowOf, IsSnapshotRead, IsMemberLearning, IsNextStep};
-ghost use Rattle.bully_c.specs.Members.{LearnsRows, last_node};
+ghost use Rattle.bully_c.specs.Members.{IsRead, LearnsRows, last_node};
+ghost use Rattle.bully_member.specs.declared.values.Lease.{Lease as LeaseState};
 
 use crate::leases::{CLease, leases_of};
 use crate::logs::{has_end, has_mark, status_of_mark};
 use crate::member_shown::{CStep, step_of};
 use crate::openings::{HeldMember, Opening, TermsTold, opening_of, status_of_member};
-use crate::status::{BAD_ANSWER, OK, ROW_END, status_of_learning};
+use crate::status::{BAD_ANSWER, OK, OUT_OF_MEMORY, ROW_END, status_of_learning};
 use bully_base::NODES_MAX;
-use bully_member::{Member, StoreAnswer};
+use bully_member::{Lease, Member, StoreAnswer};
 use bully_rows::RowReader;
 use std::alloc::Global;
 
@@ -88,19 +89,43 @@ pub fn tell_snapshot(
     now: u64,
     epoch: u32,
     leases: &[CLease],
+    kept: &[u16],
     has_unknown: bool,
     has_request: bool,
 ) -> u32
-    ensures { IsSnapshotRead now epoch leases.now has_unknown has_request held.old result held.new }
+    ensures { IsSnapshotRead now epoch leases.now kept.now has_unknown has_request held.old result held.new }
 {
     let last = last_node(&held.member, epoch);
-    match leases_of(alloc, last, leases) {
-        Ok(found) => {
-            held.member
-                .snapshot_read(now, epoch, found, has_unknown, has_request);
-            OK
-        }
+    match leases_of(alloc, last, leases, kept) {
+        Ok(found) => read(
+            alloc,
+            &mut held.member,
+            now,
+            epoch,
+            found,
+            has_unknown,
+            has_request,
+        ),
         Err(status) => status,
+    }
+}
+
+// The same, of these leases.
+fn read(
+    alloc: Global,
+    member: &mut Member,
+    now: u64,
+    epoch: u32,
+    leases: Vec<Lease>,
+    has_unknown: bool,
+    has_request: bool,
+) -> u32
+    requires { All (λ (p : LeaseState). (0 < p.node) × (p.node ≤ last_node member.old epoch)) leases.items }
+    ensures { IsRead now epoch leases.items has_unknown has_request member.old result member.new }
+{
+    match member.snapshot_read(alloc, now, epoch, leases, has_unknown, has_request) {
+        Ok(()) => OK,
+        Err(_) => OUT_OF_MEMORY,
     }
 }
 

@@ -1,32 +1,34 @@
 //! Members behind their handles.
-ghost use Rattle.std.specs.Prelude.{◌≡◌, ◌==◌, None, IfErr, IfOk, not, string_bytes, true};
-ghost use Rattle.bully_c.specs.Arguments.{IsCopied};
+ghost use Rattle.std.specs.Prelude.{◌≡◌, ◌==◌, None, IfErr, IfOk, map, not, string_bytes, true};
+ghost use Rattle.bully_c.specs.Arguments.{IsCopied, IsMadeAndCopied};
 ghost use Rattle.bully_c.specs.Exports.{IsClosing};
+ghost use Rattle.bully_c.specs.MemberNumbers.{activity_number};
 ghost use Rattle.bully_c.specs.MemberShown.{member_shown};
 ghost use Rattle.bully_c.specs.Members.{AtMember, Becomes, IsAnswer, IsFollow, IsSnapshotRead, IsMemberLearning};
 ghost use Rattle.bully_c.specs.Members.{IsMemberOpening, IsMemberRebalance, IsNextStep, IsOwnedOfShown, IsMemberStable};
-ghost use Rattle.bully_c.specs.Members.{RefusesMemberRebalance, ShowsMember};
+ghost use Rattle.bully_c.specs.Members.{IsAffectedShown, RefusesMemberRebalance, ShowsMember};
 ghost use Rattle.bully_c.specs.Replicas.{IsStateShown, IsWritten, group_shown, table_shown};
 ghost use Rattle.bully_c.specs.RebalanceRows.{IsOwnedMade};
 ghost use Rattle.bully_c.specs.declared.status.TheConstants.{OK as OkNumber};
+ghost use Rattle.bully_member.specs.Activities.{busy};
 ghost use Rattle.bully_member.specs.Learned.{not_there};
 ghost use Rattle.bully_member.specs.Member.{replica_of};
-ghost use Rattle.bully_member.specs.Told.{end_for, lost_by, to_snapshot};
+ghost use Rattle.bully_member.specs.Told.{end_for, lost, stopped, stopped_on, to_snapshot};
 ghost use Rattle.bully_member.specs.declared.values.Ending.{Ending};
-ghost use Rattle.bully_member.specs.declared.values.Work.{Work};
 ghost use Rattle.bully_rebalance.specs.Owning.{owned_by};
 
 use crate::leases::{CLease, lease_at};
 use crate::member_handle::MemberHandle;
-use crate::member_shown::{CMember, CStep, member_state};
+use crate::member_shown::{CMember, CStep, copy_activities, member_state};
 use crate::member_told::{learn, tell_answer, tell_follow, tell_next, tell_snapshot};
 use crate::openings::{TermsTold, opened_member};
-use crate::rebalances::{copy_owned, events_rows, status_of_rebalance};
+use crate::rebalances::{copy_numbers, copy_owned, events_rows, status_of_rebalance};
 use crate::replicas::{CGroup, group_of, show_node};
 use crate::shown::{CState, copy_owners, copy_text};
 use crate::status::{CLOSED, OK, OPEN, OUT_OF_MEMORY};
 use crate::tables::node_of;
 use bully_member::Member;
+use bully_rebalance::Partitions;
 use std::alloc::Global;
 
 /// Opens the handle: [`Member::new`].
@@ -39,11 +41,16 @@ pub extern "C" fn bully_c_member_open(
     node: u16,
     rows_max: u32,
     old: &[u16],
+    is_cooperative: u32,
     process: u64,
     ttl: u64,
 ) -> u32
-    ensures { IsMemberOpening header.now (record { epoch = epoch; node = node; rows_max = rows_max }) old.now process
-        ttl member.old.value result member.new.value }
+    ensures { IsMemberOpening header.now (record {
+      epoch = epoch;
+      node = node;
+      rows_max = rows_max;
+      is_cooperative = not (is_cooperative == 0);
+    }) old.now process ttl member.old.value result member.new.value }
 {
     if let Some(held) = member.take(alloc) {
         member.put(alloc, held);
@@ -53,6 +60,7 @@ pub extern "C" fn bully_c_member_open(
         epoch,
         node,
         rows_max,
+        is_cooperative: is_cooperative != 0,
     };
     match opened_member(alloc, header, told, old, process, ttl) {
         Ok(held) => {
@@ -138,11 +146,12 @@ pub extern "C" fn bully_c_member_snapshot_read(
     now: u64,
     epoch: u32,
     leases: &[CLease],
+    kept: &[u16],
     has_unknown: u32,
     has_request: u32,
 ) -> u32
-    ensures { AtMember (IsSnapshotRead now epoch leases.now (not (has_unknown == 0)) (not (has_request == 0)))
-        member.old.value result member.new.value }
+    ensures { AtMember (IsSnapshotRead now epoch leases.now kept.now (not (has_unknown == 0))
+        (not (has_request == 0))) member.old.value result member.new.value }
 {
     let Some(mut held) = member.take(alloc) else {
         return CLOSED;
@@ -153,6 +162,7 @@ pub extern "C" fn bully_c_member_snapshot_read(
         now,
         epoch,
         leases,
+        kept,
         has_unknown != 0,
         has_request != 0,
     );
@@ -185,9 +195,14 @@ pub extern "C" fn bully_c_member_followed(
     node: u16,
     rows_max: u32,
     old: &[u16],
+    is_cooperative: u32,
 ) -> u32
-    ensures { AtMember (IsFollow now header.now (record { epoch = epoch; node = node; rows_max = rows_max }) old.now)
-        member.old.value result member.new.value }
+    ensures { AtMember (IsFollow now header.now (record {
+      epoch = epoch;
+      node = node;
+      rows_max = rows_max;
+      is_cooperative = not (is_cooperative == 0);
+    }) old.now) member.old.value result member.new.value }
 {
     let Some(mut held) = member.take(alloc) else {
         return CLOSED;
@@ -196,6 +211,7 @@ pub extern "C" fn bully_c_member_followed(
         epoch,
         node,
         rows_max,
+        is_cooperative: is_cooperative != 0,
     };
     let status = tell_follow(alloc, &mut held, now, header, told, old);
     member.put(alloc, held);
@@ -241,11 +257,10 @@ pub extern "C" fn bully_c_member_leave(alloc: Global, member: &mut MemberHandle)
     OK
 }
 
-/// The work that was started by this token has ended outside the member: [`Member::lost`].
+/// The work that was started by this token has ended by itself: [`Member::lost`].
 #[unsafe(no_mangle)]
 pub extern "C" fn bully_c_member_lost(alloc: Global, member: &mut MemberHandle, token: u32) -> u32
-    ensures { AtMember (Becomes (λ m. record m { work = lost_by m.work token })) member.old.value result
-        member.new.value }
+    ensures { AtMember (Becomes (λ m. lost m token)) member.old.value result member.new.value }
 {
     let Some(mut held) = member.take(alloc) else {
         return CLOSED;
@@ -258,12 +273,29 @@ pub extern "C" fn bully_c_member_lost(alloc: Global, member: &mut MemberHandle, 
 /// All work has ended: [`Member::stopped`].
 #[unsafe(no_mangle)]
 pub extern "C" fn bully_c_member_stopped(alloc: Global, member: &mut MemberHandle) -> u32
-    ensures { AtMember (Becomes (λ m. record m { work = Work.Idle })) member.old.value result member.new.value }
+    ensures { AtMember (Becomes (λ m. stopped m)) member.old.value result member.new.value }
 {
     let Some(mut held) = member.take(alloc) else {
         return CLOSED;
     };
     held.member.stopped();
+    member.put(alloc, held);
+    OK
+}
+
+/// The work on this partition has ended: [`Member::stopped_on`].
+#[unsafe(no_mangle)]
+pub extern "C" fn bully_c_member_stopped_on(
+    alloc: Global,
+    member: &mut MemberHandle,
+    partition: u16,
+) -> u32
+    ensures { AtMember (Becomes (λ m. stopped_on m partition)) member.old.value result member.new.value }
+{
+    let Some(mut held) = member.take(alloc) else {
+        return CLOSED;
+    };
+    held.member.stopped_on(partition);
     member.put(alloc, held);
     OK
 }
@@ -390,10 +422,96 @@ fn write_owned_of(
         count.new }
 {
     match node_of(member.replica().world().setup(), lease.node) {
-        Ok(node) => match member.owned_of(alloc, lease_at(node, lease)) {
-            Ok(owned) => copy_owned(&owned, token, partitions, count),
-            Err(_) => OUT_OF_MEMORY,
-        },
+        Ok(node) => {
+            let lease = lease_at(node, lease, Partitions::from_vec(Vec::new(alloc)));
+            match member.owned_of(alloc, &lease) {
+                Ok(owned) => copy_owned(&owned, token, partitions, count),
+                Err(_) => OUT_OF_MEMORY,
+            }
+        }
+        Err(status) => status,
+    }
+}
+
+/// The partitions on which it works: [`Member::works`].
+#[unsafe(no_mangle)]
+pub extern "C" fn bully_c_member_works(
+    alloc: Global,
+    member: &mut MemberHandle,
+    partitions: &mut [u16],
+    count: &mut usize,
+) -> u32
+    ensures open { AtMember (ShowsMember (λ held status. IsMadeAndCopied (busy held.member.works) partitions.old
+        count.old status partitions.new count.new)) member.old.value result member.new.value }
+    ensures closed { member.old.value ≡ None → (partitions.new ≡ partitions.old) × (count.new ≡ count.old) }
+{
+    let Some(held) = member.take(alloc) else {
+        return CLOSED;
+    };
+    let status = write_works(alloc, &held.member, partitions, count);
+    member.put(alloc, held);
+    status
+}
+
+// Writes the partitions on which the member works.
+fn write_works(alloc: Global, member: &Member, partitions: &mut [u16], count: &mut usize) -> u32
+    ensures { IsMadeAndCopied (busy member.now.works) partitions.old count.old result partitions.new count.new }
+{
+    match member.works(alloc) {
+        Ok(works) => copy_numbers(works.as_slice(), partitions, count),
+        Err(_) => OUT_OF_MEMORY,
+    }
+}
+
+/// What its process does on each partition: [`Member::activities`].
+#[unsafe(no_mangle)]
+pub extern "C" fn bully_c_member_activities(
+    alloc: Global,
+    member: &mut MemberHandle,
+    activities: &mut [u16],
+    count: &mut usize,
+) -> u32
+    ensures open { AtMember (ShowsMember (λ held status. IsCopied (map activity_number held.member.works) activities.old
+        status activities.new count.new)) member.old.value result member.new.value }
+    ensures closed { member.old.value ≡ None → (activities.new ≡ activities.old) × (count.new ≡ count.old) }
+{
+    let Some(held) = member.take(alloc) else {
+        return CLOSED;
+    };
+    let status = copy_activities(held.member.activities(), activities, count);
+    member.put(alloc, held);
+    status
+}
+
+/// Whether a change affects this node: [`Member::is_affected`].
+#[unsafe(no_mangle)]
+pub extern "C" fn bully_c_member_is_affected(
+    alloc: Global,
+    member: &mut MemberHandle,
+    node: u16,
+    is_affected: &mut u32,
+) -> u32
+    ensures open { AtMember (ShowsMember (λ held status. IsAffectedShown held.member node is_affected.old status
+        is_affected.new)) member.old.value result member.new.value }
+    ensures closed { member.old.value ≡ None → is_affected.new ≡ is_affected.old }
+{
+    let Some(held) = member.take(alloc) else {
+        return CLOSED;
+    };
+    let status = write_affected(&held.member, node, is_affected);
+    member.put(alloc, held);
+    status
+}
+
+// Writes whether a change affects the node of this number.
+fn write_affected(member: &Member, node: u16, is_affected: &mut u32) -> u32
+    ensures { IsAffectedShown member.now node is_affected.old result is_affected.new }
+{
+    match node_of(member.replica().world().setup(), node) {
+        Ok(node) => {
+            *is_affected = u32::from(member.is_affected(node));
+            OK
+        }
         Err(status) => status,
     }
 }
@@ -403,26 +521,25 @@ fn write_owned_of(
 pub extern "C" fn bully_c_member_is_stable(
     alloc: Global,
     member: &mut MemberHandle,
-    now: u64,
     is_stable: &mut u32,
 ) -> u32
     ensures open { AtMember (ShowsMember (λ held status. (status ≡ OkNumber)
-        × IsMemberStable held.member now is_stable.new)) member.old.value result member.new.value }
+        × IsMemberStable held.member is_stable.new)) member.old.value result member.new.value }
     ensures closed { member.old.value ≡ None → is_stable.new ≡ is_stable.old }
 {
     let Some(held) = member.take(alloc) else {
         return CLOSED;
     };
-    *is_stable = stable_told(&held.member, now);
+    *is_stable = stable_told(&held.member);
     member.put(alloc, held);
     OK
 }
 
 // Whether the group is stable for the member, as a number for C.
-fn stable_told(member: &Member, now: u64) -> u32
-    ensures { IsMemberStable member.now now result }
+fn stable_told(member: &Member) -> u32
+    ensures { IsMemberStable member.now result }
 {
-    u32::from(member.is_stable(now))
+    u32::from(member.is_stable())
 }
 
 /// The state of the member now.

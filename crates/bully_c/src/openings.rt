@@ -25,6 +25,7 @@ pub struct TermsTold {
     pub epoch: u32,
     pub node: u16,
     pub rows_max: u32,
+    pub is_cooperative: bool,
 }
 
 /// What an epoch starts with, for a member.
@@ -57,6 +58,7 @@ fn terms_of(alloc: Global, setup: &Setup, told: TermsTold, old: &[u16]) -> Resul
         node,
         rows_max: told.rows_max,
         old,
+        is_cooperative: told.is_cooperative,
     })
 }
 

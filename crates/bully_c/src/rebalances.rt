@@ -154,8 +154,8 @@ pub fn copy_owned(
     }
 }
 
-// Writes the numbers and their count. Refused if there isn't room for them, and then the count alone is written.
-fn copy_numbers(numbers: &[u16], room: &mut [u16], count: &mut usize) -> u32
+/// Writes the numbers and their count. Refused if there isn't room for them, and then the count alone is written.
+pub fn copy_numbers(numbers: &[u16], room: &mut [u16], count: &mut usize) -> u32
     ensures { IsCopied numbers.now room.old result room.new count.new }
 {
     *count = numbers.len();

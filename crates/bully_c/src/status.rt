@@ -47,6 +47,8 @@ pub const BAD_ROWS_MAX: u32 = 33;
 pub const BAD_TTL: u32 = 34;
 
 pub const BAD_ANSWER: u32 = 35;
+/// The leases keep more or fewer partitions than are given.
+pub const BAD_KEPT: u32 = 36;
 
 pub const LINE_WORD: u32 = 40;
 

@@ -1,3 +1,10 @@
 pub mod LiveLemmas
+pub mod ActivityLemmas
 pub mod KeepLemmas
+pub mod SureLemmas
+pub mod WaitLemmas
 pub mod AskLemmas
+pub mod StopLemmas
+pub mod OutlookLemmas
+pub mod RoleLemmas
+pub mod ReadLemmas

@@ -1,10 +1,12 @@
 -- How a member changes by rows that it learns, and by an epoch in which it goes on.
-use Rattle.std.specs.Prelude.{nat_le, ◌≡◌, ◌==◌, not, if◌then◌else◌, ℕ, Bool, true, false, [], Option, Some, None}
+use Rattle.std.specs.Prelude.{nat_le, ◌≡◌, ◌==◌, ◌||◌, not, if◌then◌else◌, ℕ, Bool, true, false, [], Option, Some, None}
 use Rattle.std.specs.Prelude.{Result, Ok, Err, replicate}
+use Rattle.bully_member.specs.Activities.{all_idle}
 use Rattle.bully_member.specs.Member.{MemberState, nobody_yet}
 use Rattle.bully_member.specs.Told.{end_for, to_pause}
 use Rattle.bully_member.specs.declared.opening.MemberFault.{MemberFault}
 use Rattle.bully_member.specs.declared.opening.Terms.{Terms}
+use Rattle.bully_member.specs.declared.values.Activity.{Activity}
 use Rattle.bully_member.specs.declared.values.Asked.{Asked}
 use Rattle.bully_member.specs.declared.values.Ending.{Ending}
 use Rattle.bully_member.specs.declared.values.Request.{Request}
@@ -32,7 +34,8 @@ ending_behind ending is_broken = ending
 
 -- the member that has learned this, by how that ended
 abbrev pub after_learning : MemberState → RowReplicaState → Result (Unit {0}) LearnFault → MemberState
-after_learning m f taken = record m { learned = f; ending = ending_behind m.ending (is_broken f taken) }
+after_learning m f taken =
+    record m { learned = f; ending = ending_behind m.ending (is_broken f taken); needs_snapshot = true }
 
 abbrev pub is_follow : Request → Bool
 is_follow Request.Follow = true
@@ -42,28 +45,34 @@ abbrev pub is_following : Option Asked → Bool
 is_following None = false
 is_following (Some asked) = is_follow asked.request
 
--- the member in this epoch, of whose log it has learned nothing. Its session stays, and has promised nothing there
+-- the member in this epoch, of whose log it has learned nothing. It works on nothing. Its session stays, and has
+-- promised nothing there
 abbrev pub in_epoch : MemberState → (now : ℕ) → RowReplicaState → Terms → MemberState
 in_epoch m now f t = record m {
   learned = f;
   terms = t;
   promised = 0;
   own = record { epoch = 0; offset = 0 };
+  is_exact = false;
   leases = [];
   arrivals = replicate f.replica.world.setup.nodes nobody_yet;
+  group = [];
+  coming = None;
+  affected = [];
   has_unknown = false;
   has_request = false;
   needs_snapshot = true;
   last_change = record { at = now; offset = 0 };
   is_past = false;
   has_closed = false;
+  works = replicate f.replica.world.setup.partitions Activity.Idle;
   asked = None;
 }
 
 abbrev pub followed : MemberState → (now : ℕ) → Header → Terms → MemberState
 followed m now header t =
     if not (is_following m.asked) then m else
-    if nat_le t.epoch m.terms.epoch
+    if nat_le t.epoch m.terms.epoch || not (all_idle m.works)
     then to_pause (record m { asked = None; is_past = false; needs_snapshot = true }) now else
     in_epoch m now (record { replica = first_replica header; rows = 0 }) t
 

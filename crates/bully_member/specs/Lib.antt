@@ -1,5 +1,6 @@
 pub mod Opening
 pub mod Times
+pub mod Activities
 pub mod Member
 pub mod Due
 pub mod Told
@@ -7,3 +8,6 @@ pub mod Learned
 pub mod Rebalance
 pub mod Keeping
 pub mod Asking
+pub mod Waiting
+pub mod Stopping
+pub mod Roles

@@ -1,7 +1,6 @@
 -- Durations that depend on the ttl, in whole nanoseconds, rounded down.
-use Rattle.std.specs.Prelude.{◌-◌, ◌/◌, ◌*◌, ℕ, Bool, false, Option, Some, None, nat_lt, max, min}
+use Rattle.std.specs.Prelude.{◌-◌, ◌/◌, ◌*◌, ℕ, Bool, false, Option, Some, None, nat_lt, max, min, if◌then◌else◌}
 use Rattle.bully_member.specs.declared.values.SessionState.{SessionState}
-use Rattle.bully_member.specs.declared.values.Work.{Work}
 
 -- how much is left now of a time of this length that started at `begun`
 abbrev pub left : (now length begun : ℕ) → ℕ
@@ -45,21 +44,23 @@ remembered_for ttl = ttl * 60
 
 -- How long it backs off while nothing may be asked for.
 
--- while its work stops: until both the next renewal is due and a pause is over
-abbrev pub stopping_backoff : SessionState → (ttl now : ℕ) → Option ℕ → ℕ
-stopping_backoff session ttl now paused = max (renewal_left session ttl now) (pause_left paused ttl now)
-
 -- for how long the lease is still sure
 abbrev pub sure_left : SessionState → (ttl now : ℕ) → ℕ
 sure_left (SessionState.Live session since) ttl now = left now (sure_for ttl) since
 sure_left session ttl now = 0
 
+-- while some work stops: until both the next renewal is due and a pause is over; while it works elsewhere, no longer
+-- than its lease is sure
+abbrev pub stopping_backoff : (is_working : Bool) → SessionState → (ttl now : ℕ) → Option ℕ → ℕ
+stopping_backoff is_working session ttl now paused =
+    let backoff = max (renewal_left session ttl now) (pause_left paused ttl now) in
+    if is_working then min backoff (sure_left session ttl now) else backoff
+
 -- while a request isn't answered yet: a ttl; while it works, as long as its lease is sure
-abbrev pub awaiting_backoff : Work → SessionState → (ttl now : ℕ) → ℕ
-awaiting_backoff (Work.Working token) session ttl now = sure_left session ttl now
-awaiting_backoff work session ttl now = ttl
+abbrev pub awaiting_backoff : (is_working : Bool) → SessionState → (ttl now : ℕ) → ℕ
+awaiting_backoff is_working session ttl now = if is_working then sure_left session ttl now else ttl
 
 -- after a request that wasn't answered: until the pause is over; while it works, no longer than its lease is sure
-abbrev pub paused_backoff : Work → SessionState → (ttl now : ℕ) → Option ℕ → ℕ
-paused_backoff (Work.Working token) session ttl now paused = min (pause_left paused ttl now) (sure_left session ttl now)
-paused_backoff work session ttl now paused = pause_left paused ttl now
+abbrev pub paused_backoff : (is_working : Bool) → SessionState → (ttl now : ℕ) → Option ℕ → ℕ
+paused_backoff is_working session ttl now paused =
+    if is_working then min (pause_left paused ttl now) (sure_left session ttl now) else pause_left paused ttl now

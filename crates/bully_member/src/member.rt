@@ -1,21 +1,29 @@
-ghost use Rattle.std.specs.Prelude.{◌≡◌, [], None, true, false, IfOk, IfErr, replicate};
+ghost use Rattle.std.specs.Prelude.{◌≡◌, ◌≤◌, [], None, true, false, IfOk, IfErr, length, replicate};
+ghost use Rattle.bully_base.specs.declared.TheConstants.{PARTITIONS_MAX};
+ghost use Rattle.bully_member.specs.Activities.{work_of};
 ghost use Rattle.bully_member.specs.Member.{IsMember, member_with, new_member, nobody_yet, offset_of, replica_of};
 ghost use Rattle.bully_member.specs.Opening.{RefusesMember, member_fault};
 ghost use Rattle.bully_member.specs.Times.{sure_left};
+ghost use Rattle.bully_member.specs.declared.values.Activity.{Activity as ActivityState};
 ghost use Rattle.bully_replica.specs.Replica.{first_replica};
 
 mod answers;
 mod learning;
+mod outlook;
 mod owning;
 mod rules;
 mod snapshots;
 
+use crate::activities::work_of;
 use crate::opening::{MemberFault, TTL_MAX, TTL_MIN, Terms, terms_fault};
 use crate::times::sure_left;
-use crate::values::{Arrival, Asked, Ending, LastChange, Lease, Promise, SessionState, Work};
-use bully_base::OutOfMemory;
+use crate::values::{
+    Activity, Arrival, Asked, Ending, LastChange, Lease, Promise, SessionState, Work,
+};
+use bully_base::{NodeSet, OutOfMemory};
 use bully_replica::{Replica, RowReplica};
 use bully_rows::Header;
+use bully_table::Table;
 use std::alloc::Global;
 use std::marker::Model;
 
@@ -30,23 +38,30 @@ pub struct Member {
     tries: u64,
     promised: u32,
     own: Promise,
+    is_exact: bool,
     leases: Vec<Lease>,
     arrivals: Vec<Arrival>, // of each node
+    group: NodeSet,
+    coming: Option<Table>,
+    affected: NodeSet,
     has_unknown: bool,
     has_request: bool,
     needs_snapshot: bool,
     last_change: LastChange,
     is_past: bool,
     has_closed: bool,
-    work: Work,
+    works: Vec<Activity>, // on each partition
+    token: u32,
+    is_lost: bool,
     ending: Option<Ending>,
     paused: Option<u64>,
     asked: Option<Asked>,
+    is_asked_exact: bool,
 }
 
 impl Model for Member {
     ghost use Rattle.std.specs.Prelude.{◌≤◌};
-    ghost use Rattle.bully_member.specs.Member.{MemberState, IsMember};
+    ghost use Rattle.bully_member.specs.Member.{MemberState, IsMember, SeesAhead};
 
     ghost Value = { MemberState };
 
@@ -59,21 +74,30 @@ impl Model for Member {
       tries = m.tries;
       promised = m.promised;
       own = m.own;
+      is_exact = m.is_exact;
       leases = m.leases.items;
       arrivals = m.arrivals.items;
+      group = m.group;
+      coming = m.coming;
+      affected = m.affected;
       has_unknown = m.has_unknown;
       has_request = m.has_request;
       needs_snapshot = m.needs_snapshot;
       last_change = m.last_change;
       is_past = m.is_past;
       has_closed = m.has_closed;
-      work = m.work;
+      works = m.works.items;
+      token = m.token;
+      is_lost = m.is_lost;
       ending = m.ending;
       paused = m.paused;
       asked = m.asked;
+      is_asked_exact = m.is_asked_exact;
     } };
 
-    ghost invariant = { λ m. IsMember m.learned m.terms m.ttl m.leases.items m.arrivals.items };
+    ghost invariant = { λ m. IsMember m.learned m.terms m.ttl m.leases.items m.arrivals.items m.group m.works.items
+        × SeesAhead m.needs_snapshot m.learned.replica m.terms m.leases.items m.has_request m.group m.coming
+        m.affected };
 }
 
 // What a member starts an epoch with: it has learned nothing of the log, and has seen no session.
@@ -81,17 +105,26 @@ impl Model for Member {
 struct Beginning {
     learned: RowReplica,
     arrivals: Vec<Arrival>,
+    works: Vec<Activity>,
 }
 
 impl Beginning {
     fn new(alloc: Global, header: Header) -> Result<Beginning, OutOfMemory>
         ensures learned { IfOk result (λ b. b.learned ≡ record { replica = first_replica header; rows = 0 }) }
         ensures arrivals { IfOk result (λ b. b.arrivals.items ≡ replicate header.setup.nodes nobody_yet) }
+        ensures works { IfOk result (λ b. b.works.items ≡ replicate header.setup.partitions ActivityState.Idle) }
+        ensures few { IfOk result (λ b. length b.works.items ≤ PARTITIONS_MAX) }
     {
         let nodes = usize::from(header.setup.nodes());
+        let partitions = usize::from(header.setup.partitions());
         let arrivals = vec![in alloc; NOBODY_YET; nodes]?;
+        let works = vec![in alloc; Activity::Idle; partitions]?;
         let learned = RowReplica::new(alloc, header)?;
-        Ok(Beginning { learned, arrivals })
+        Ok(Beginning {
+            learned,
+            arrivals,
+            works,
+        })
     }
 }
 
@@ -131,8 +164,9 @@ impl Member {
 
     // The same for an epoch of whose log nothing was learned, if nothing is wrong with the terms.
     fn with(alloc: Global, beginning: Beginning, terms: Terms, process: u64, ttl: u64) -> Member
-        requires { IsMember beginning.learned terms ttl [] beginning.arrivals.items }
-        ensures { result ≡ member_with beginning.learned beginning.arrivals.items terms process ttl }
+        requires { IsMember beginning.learned terms ttl [] beginning.arrivals.items [] beginning.works.items }
+        ensures { result
+            ≡ member_with beginning.learned beginning.arrivals.items beginning.works.items terms process ttl }
     {
         Member {
             learned: beginning.learned,
@@ -146,18 +180,25 @@ impl Member {
                 epoch: 0,
                 offset: 0,
             },
+            is_exact: false,
             leases: Vec::new(alloc),
             arrivals: beginning.arrivals,
+            group: NodeSet::new(),
+            coming: None,
+            affected: NodeSet::new(),
             has_unknown: false,
             has_request: false,
             needs_snapshot: true,
             last_change: LastChange { at: 0, offset: 0 },
             is_past: false,
             has_closed: false,
-            work: Work::Idle,
+            works: beginning.works,
+            token: 0,
+            is_lost: false,
             ending: None,
             paused: None,
             asked: None,
+            is_asked_exact: false,
         }
     }
 
@@ -203,18 +244,26 @@ impl Member {
         sure_left(self.session, self.ttl, now)
     }
 
-    /// Up to which offset of this epoch its session has promised to be idle, whether or not the store knows of that.
+    /// The last offset of this epoch that its session has promised, whether or not the store knows of that.
     pub fn promised(&self) -> u32
         ensures { result ≡ self.now.promised }
     {
         self.promised
     }
 
-    /// The state of its work.
+    /// The state of its work over all partitions.
     pub fn work(&self) -> Work
-        ensures { result ≡ self.now.work }
+        ensures { result ≡ work_of self.now.works self.now.token self.now.is_lost }
     {
-        self.work
+        work_of(&self.works, self.token, self.is_lost)
+    }
+
+    /// What its process does on each partition, in their order.
+    pub fn activities(&self) -> &[Activity]
+        ensures activities { result.now ≡ self.now.works }
+        ensures within { length result.now ≤ PARTITIONS_MAX }
+    {
+        &self.works
     }
 
     /// Why it ends, if it does.

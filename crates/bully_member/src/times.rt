@@ -6,7 +6,7 @@ ghost use Rattle.bully_member.specs.Times.{remembered_for, renewal_left, stoppin
 ghost use Rattle.bully_member.specs.Times.{turn_left};
 ghost use Rattle.bully_member.specs.declared.opening.TheConstants.{TTL_MAX};
 
-use crate::values::{SessionState, Work};
+use crate::values::SessionState;
 
 /// How much is left now of a time of this length that started at `begun`.
 pub fn left(now: u64, length: u64, begun: u64) -> u64
@@ -72,38 +72,52 @@ pub fn turn_left(above: u16, ttl: u64, now: u64, last_change: u64) -> u64
     left(now, ttl / 5 * u64::from(above), last_change)
 }
 
-/// How long it backs off while its work stops: until both the next renewal is due and a pause is over.
-pub fn stopping_backoff(session: SessionState, ttl: u64, now: u64, paused: Option<u64>) -> u64
-    ensures { result ≡ stopping_backoff session ttl now paused }
+/// How long it backs off while some work stops: until both the next renewal is due and a pause is over; while it works
+/// elsewhere, no longer than its lease is sure.
+pub fn stopping_backoff(
+    is_working: bool,
+    session: SessionState,
+    ttl: u64,
+    now: u64,
+    paused: Option<u64>,
+) -> u64
+    ensures { result ≡ stopping_backoff is_working session ttl now paused }
 {
-    renewal_left(session, ttl, now).max(pause_left(paused, ttl, now))
+    let backoff = renewal_left(session, ttl, now).max(pause_left(paused, ttl, now));
+    if is_working {
+        backoff.min(sure_left(session, ttl, now))
+    } else {
+        backoff
+    }
 }
 
 /// How long it backs off while a request isn't answered yet: a ttl; while it works, as long as its lease is sure.
-pub fn awaiting_backoff(work: Work, session: SessionState, ttl: u64, now: u64) -> u64
-    ensures { result ≡ awaiting_backoff work session ttl now }
+pub fn awaiting_backoff(is_working: bool, session: SessionState, ttl: u64, now: u64) -> u64
+    ensures { result ≡ awaiting_backoff is_working session ttl now }
 {
-    match work {
-        Work::Working(_) => sure_left(session, ttl, now),
-        Work::Idle | Work::Lost(_) | Work::Stopping(_) => ttl,
+    if is_working {
+        sure_left(session, ttl, now)
+    } else {
+        ttl
     }
 }
 
 /// How long it backs off after a request that wasn't answered: until the pause is over; while it works, no longer than
 /// its lease is sure.
 pub fn paused_backoff(
-    work: Work,
+    is_working: bool,
     session: SessionState,
     ttl: u64,
     now: u64,
     paused: Option<u64>,
 ) -> u64
-    ensures { result ≡ paused_backoff work session ttl now paused }
+    ensures { result ≡ paused_backoff is_working session ttl now paused }
 {
     let pause = pause_left(paused, ttl, now);
-    match work {
-        Work::Working(_) => pause.min(sure_left(session, ttl, now)),
-        Work::Idle | Work::Lost(_) | Work::Stopping(_) => pause,
+    if is_working {
+        pause.min(sure_left(session, ttl, now))
+    } else {
+        pause
     }
 }
 

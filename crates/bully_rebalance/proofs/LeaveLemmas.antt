@@ -1,5 +1,7 @@
 -- What a rebalance leaves to those that keep it.
-use Rattle.std.proofs.Common.{All, ◌≡◌, ◌≢◌, ◌+◌, ◌++◌, ◌∷◌, ℕ, Bool, List, [], Option, Contains, arith, sym, ap, subst, ◌∙◌}
+use Rattle.std.proofs.Common.{All, ◌≡◌, ◌≢◌, ◌↔◌, ◌⊎◌, inl, inr, ◌<◌, ◌+◌, ◌++◌, ◌∷◌, ℕ, Bool, true, false, List, [], length, Option, Contains, arith, sym, ap, subst, ◌∙◌}
+use Rattle.std.proofs.lemmas.Bool.Decides.{nat_tests}
+use Rattle.std.proofs.lemmas.Option.{same_Some, slice_get_within}
 use Rattle.std.proofs.lemmas.List.Elements.{All-nil, All-contains}
 use Rattle.bully_agree.proofs.PlanLemmas.{one_last}
 use Rattle.bully_agree.specs.Fencing.{IsLastPlan, Planned}
@@ -10,7 +12,7 @@ use Rattle.bully_calls.specs.declared.event.Event.{Event}
 use Rattle.bully_work.specs.Store.{Lease, MayAppend, MayRollOver, IsOneToOne, OwnsIn, Store, current}
 use Rattle.bully_rebalance.proofs.Gathering.{has_positive}
 use Rattle.bully_rebalance.proofs.Telling.{has_below}
-use Rattle.bully_rebalance.specs.Leaving.{AreAsked, AreLeft, HasKeeper, HaveKeepers, IsAsked, IsLeft, Leaves, LeavesTo, LoseNothing, OwnNothing}
+use Rattle.bully_rebalance.specs.Leaving.{AreAsked, AreLeft, HasKeeper, HaveKeepers, IsAsked, IsLeft, Leaves, LeavesTo, LoseNothing, Loses, OwnNothing, is_left}
 use Rattle.bully_rebalance.specs.declared.leaving.Keeper.{Keeper}
 use Rattle.bully_rebalance.specs.Rebalancing.{Rebalances}
 use Rattle.bully_table.specs.Planning.{planned}
@@ -21,6 +23,13 @@ pub planned_lem : (setup : Setup) (log more : List Event) (old : Option (List �
 planned_lem setup log more old live p is some last =
     let new = is.plan some in
     ap (λ (x : Planned). x.table) (one_last (log ++ more) p new.plan last new.last) ∙ new.table
+
+-- a partition has one owner
+one_owner : (table : List ℕ) (k i j : ℕ) → GivesTo table k i → GivesTo table k j → i ≡ j
+one_owner table k i j one other = same_Some i j (sym one ∙ other)
+
+less_or_same : (k p : ℕ) → k < p + 1 → (k < p) ⊎ (k ≡ p)
+less_or_same k p low = grind (arith, nat_tests, low)
 
 -- those of a falling list are nodes
 is_node : (setup : Setup) (live : List ℕ) (i : ℕ) → IsFallingBelow (setup.nodes + 1) live → Contains live i → IsNode setup i
@@ -95,3 +104,48 @@ whole_lem log live table keepers number silent have all i k p says last gives = 
 
 pub rolls_lem : (s : Store) (silent : ℕ → Bool) (next : ℕ → ℕ) → OwnNothing (current s).log (current s).number silent → IsOneToOne next → MayRollOver s silent next
 rolls_lem s silent next none one = (λ i k says owned. none i k owned.plan says owned.owner.last owned.gives, one)
+
+-- Who loses something at the first p partitions.
+
+pub record LosesIn (before : List ℕ) (after : Option (List ℕ)) (p i : ℕ) : Type 0 where
+  pub loses : Loses before after i
+  pub within : loses.partition < p
+
+pub loses_none : (before : List ℕ) (after : Option (List ℕ)) (i : ℕ) → LosesIn before after 0 i → ⊥
+loses_none before after i is = let low = is.within in absurd (omega (arith, low))
+
+-- one more partition, whose owner loses it
+pub loses_more : (before : List ℕ) (after : Option (List ℕ)) (losers new : List ℕ) (p owner : ℕ) → GivesTo before p owner → is_left after owner p ≡ false → ((i : ℕ) → Contains losers i ↔ LosesIn before after p i)
+    → ((i : ℕ) → Contains new i ↔ ((i ≡ owner) ⊎ Contains losers i)) → (i : ℕ) → Contains new i ↔ LosesIn before after (p + 1) i
+loses_more before after losers new p owner gives lost so_far is i = (λ has. there ((is i).0 has), λ loses. (is i).1 (back loses))
+  where
+    there : (i ≡ owner) ⊎ Contains losers i → LosesIn before after (p + 1) i
+    there (inl same) = record {
+      loses = record { partition = p; had = subst (GivesTo before p) (sym same) gives; lost = subst (λ j. is_left after j p ≡ false) (sym same) lost };
+      within = omega arith;
+    }
+    there (inr has) = let old = (so_far i).0 has in let low = old.within in record { loses = old.loses; within = omega (arith, low) }
+
+    back : LosesIn before after (p + 1) i → (i ≡ owner) ⊎ Contains losers i
+    back loses = by_place (less_or_same loses.loses.partition p loses.within)
+      where
+        by_place : (loses.loses.partition < p) ⊎ (loses.loses.partition ≡ p) → (i ≡ owner) ⊎ Contains losers i
+        by_place (inl low) = inr ((so_far i).1 (record { loses = loses.loses; within = low }))
+        by_place (inr same) = inl (one_owner before p i owner (subst (λ k. GivesTo before k i) same loses.loses.had) gives)
+
+-- ... whose owner keeps it
+pub loses_same : (before : List ℕ) (after : Option (List ℕ)) (losers : List ℕ) (p owner : ℕ) → GivesTo before p owner → is_left after owner p ≡ true → ((i : ℕ) → Contains losers i ↔ LosesIn before after p i)
+    → (i : ℕ) → Contains losers i ↔ LosesIn before after (p + 1) i
+loses_same before after losers p owner gives left so_far i = (λ has. let old = (so_far i).0 has in let low = old.within in record { loses = old.loses; within = omega (arith, low) }, λ loses. (so_far i).1 (back loses))
+  where
+    back : LosesIn before after (p + 1) i → LosesIn before after p i
+    back loses = by_place (less_or_same loses.loses.partition p loses.within)
+      where
+        by_place : (loses.loses.partition < p) ⊎ (loses.loses.partition ≡ p) → LosesIn before after p i
+        by_place (inl low) = record { loses = loses.loses; within = low }
+        by_place (inr same) =
+            let owner_is = one_owner before p i owner (subst (λ k. GivesTo before k i) same loses.loses.had) gives in
+            absurd (cc (subst (λ j. is_left after j p ≡ true) (sym owner_is) left, subst (λ k. is_left after i k ≡ false) same loses.loses.lost))
+
+pub loses_all : (before : List ℕ) (after : Option (List ℕ)) (i : ℕ) → LosesIn before after (length before) i ↔ Loses before after i
+loses_all before after i = (λ is. is.loses, λ is. record { loses = is; within = slice_get_within before is.partition i is.had })

@@ -11,6 +11,16 @@ use Rattle.bully_work.specs.Working.{GivesTo}
 abbrev pub is_given : List ℕ → ℕ → ℕ → Bool
 is_given table i k = option_map_or (λ owner. owner == i) (slice_get table k) false
 
+-- ... if there is a table
+abbrev pub is_left : Option (List ℕ) → ℕ → ℕ → Bool
+is_left table i k = option_map_or (λ t. is_given t i k) table false
+
+-- node i loses a partition if the first table is followed by the second, or by none
+pub record Loses (before : List ℕ) (after : Option (List ℕ)) (i : ℕ) : Type 0 where
+  pub partition : ℕ
+  pub had : GivesTo before partition i
+  pub lost : is_left after i partition ≡ false
+
 -- the table gives all these partitions to node i
 abbrev pub Leaves : List ℕ → ℕ → List ℕ → Type 0
 Leaves table i kept = All (λ k. GivesTo table k i) kept

@@ -1,4 +1,6 @@
-ghost use Rattle.std.specs.Prelude.{◌≡◌};
+ghost use Rattle.std.specs.Prelude.{◌≡◌, bytes_eq};
+ghost use Rattle.std.specs.Cmp.{partial_equiv_from_equiv};
+ghost use Rattle.std.specs.Cmp.Lexicographic.{nat_list_eq_equiv};
 
 use std::marker::Model;
 
@@ -14,6 +16,21 @@ impl Model for Partitions {
     ghost Value = { List ℕ };
 
     ghost view = { λ p. p.partitions.items };
+}
+
+/// Two of them are equal if they have the same partitions in the same order.
+impl PartialEq for Partitions {
+    ghost eq = { bytes_eq };
+
+    ghost laws = { partial_equiv_from_equiv nat_list_eq_equiv };
+
+    fn eq(&self, other: &Partitions) -> bool {
+        self.partitions == other.partitions
+    }
+}
+
+impl Eq for Partitions {
+    ghost laws = { nat_list_eq_equiv };
 }
 
 impl Partitions {

@@ -1,9 +1,12 @@
 ghost use Rattle.std.specs.Prelude.{◌≡◌, ◌↔◌, ◌++◌, ◌∷◌, [], All, IfOk, IsTrue, OnOk, filter, if◌then◌else◌};
-ghost use Rattle.bully_rebalance.specs.Leaving.{Leaves, LeavesTo, is_given};
+ghost use Rattle.std.specs.List.{list_all};
+ghost use Rattle.std.specs.Option.{option_copied};
+ghost use Rattle.std.specs.Prelude.{ℕ, Contains};
+ghost use Rattle.bully_rebalance.specs.Leaving.{Leaves, LeavesTo, Loses, is_given, is_left};
 ghost use Rattle.bully_work.specs.Working.{GivesTo};
 
 use crate::holding::Partitions;
-use bully_base::{Node, OutOfMemory};
+use bully_base::{Node, NodeSet, OutOfMemory};
 use bully_table::Table;
 use std::alloc::Global;
 
@@ -23,10 +26,11 @@ pub fn leaves_all(table: &Table, keepers: &[Keeper]) -> bool
 
 /// Whether the table gives the node all these partitions.
 pub fn leaves(table: &Table, node: Node, kept: &[u16]) -> bool
-    ensures { IsTrue result ↔ Leaves table.now node kept.now }
+    ensures test { result ≡ list_all (is_given table.now node) kept.now }
+    ensures leaves { IsTrue result ↔ Leaves table.now node kept.now }
 {
     kept.iter()
-        .all(|partition| is_given(table, node, *partition))
+        .all(|partition| is_given(table, node, usize::from(*partition)))
 }
 
 /// Those of the partitions that the table gives the node, in their order. On these its process may continue to work
@@ -42,7 +46,8 @@ pub fn left_of(
     let mut left = Vec::new(alloc);
     for offset in 0..partitions.len() {
         let partition = partitions[offset];
-        push_if(is_given(table, node, partition), partition, &mut left)?;
+        let is_left = is_given(table, node, usize::from(partition));
+        push_if(is_left, partition, &mut left)?;
     }
     Ok(left)
 }
@@ -56,10 +61,34 @@ fn push_if(is_left: bool, partition: u16, left: &mut Vec<u16>) -> Result<(), Out
     Ok(())
 }
 
-fn is_given(table: &Table, node: Node, partition: u16) -> bool
+/// The nodes that lose a partition if the first table is followed by the second: those to which the first gives one that
+/// the second, if there is one, doesn't give them. All others lose nothing by it. The rule: docs/REBALANCING.md.
+pub fn losers(before: &Table, after: Option<&Table>) -> NodeSet
+    ensures { (i : ℕ) → Contains result i ↔ Loses before.now (option_copied after.entry) i }
+{
+    let mut losers = NodeSet::new();
+    for partition in 0..before.len() {
+        let owner = before.owner(partition);
+        if !is_left(after, owner, partition) {
+            losers.insert(owner);
+        }
+    }
+    losers
+}
+
+/// Whether the table, if there is one, gives the node this partition.
+pub fn is_left(table: Option<&Table>, node: Node, partition: usize) -> bool
+    ensures { result ≡ is_left (option_copied table.entry) node partition }
+{
+    match table {
+        Some(table) => is_given(table, node, partition),
+        None => false,
+    }
+}
+
+fn is_given(table: &Table, node: Node, partition: usize) -> bool
     ensures test { result ≡ is_given table.now node partition }
     ensures given { IsTrue result ↔ GivesTo table.now partition node }
 {
-    let offset = usize::from(partition);
-    offset < table.len() && table.owner(offset) == node
+    partition < table.len() && table.owner(partition) == node
 }

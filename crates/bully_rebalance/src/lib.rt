@@ -37,7 +37,7 @@ mod stable;
 mod working;
 
 pub use holding::{Owned, Partitions};
-pub use leaving::{Keeper, leaves, leaves_all, left_of};
+pub use leaving::{Keeper, is_left, leaves, leaves_all, left_of, losers};
 pub use rebalancing::{RebalanceFault, coming_table, rebalance};
 pub use stable::is_stable;
 pub use working::{may_work, owned};

@@ -8,7 +8,7 @@ from bully.core import Promise, Until
 from bully.epochs import Opening
 from bully.maintenance import Maintenance
 from bully.shared_log import Holder, Log, NoEpoch
-from ..steps import EMPTY, OPENING, A, B, C, add, be_idle, live, plain_snapshot
+from ..steps import EMPTY, OPENING, A, B, C, add, be_idle, known_to, live, plain_snapshot
 from .laws import Tests
 
 NEXT = OPENING.next(None, (1, 2, 3, 1, 2, 3))
@@ -110,6 +110,28 @@ class EpochLaws(Tests):
             self.assertTrue(other.roll_over(end.epoch, end.offset, opening))
             end = Promise(opening.epoch, 0)
         self.assertEqual(log.epochs(), range(1, 5))
+
+    def test_an_end_of_which_leases_are_known(self) -> None:
+        """Each holder that the change affects is idle there, also one that is as it is known; others aren't compared."""
+        log, other = self.two()
+        self.assertTrue(other.acquire('b', B, EMPTY, self.LONG) and other.acquire('c', C, EMPTY, self.LONG))
+        self.assertTrue(log.append(1, 0, ['recover,1']))
+        here = Promise(1, 1)
+        for name, session, kept in (('a', A, (1, 2)), ('b', B, (3,)), ('a', A, ()), ('b', B, (3,))):
+            self.assertFalse(log.roll_over(1, 1, NEXT, known_to(log, 'a', 'b')))
+            self.assertTrue((log if name == 'a' else other).promise(name, session, here, kept))
+        self.assertFalse(log.roll_over(1, 1, NEXT, known_to(log, 'b')))
+        self.assertFalse(log.roll_over(1, 1, NEXT), 'nothing is known')
+        self.assertTrue(other.promise('b', B, here))
+        self.assertFalse(log.roll_over(1, 1, NEXT, known_to(log, 'a', 'b', 'c')))
+        self.assertFalse(log.roll_over(1, 0, NEXT, known_to(log, 'a', 'b')), 'the log ends elsewhere')
+        known = known_to(log, 'a', 'b')
+        self.assertTrue(log.promise('a', A, Promise(2, 0)))
+        self.assertFalse(log.roll_over(1, 1, NEXT, known), 'its own promise is another one')
+        known = known_to(log, 'b')
+        other.release('b', B)
+        self.assertTrue(log.roll_over(1, 1, NEXT, known))
+        self.assertEqual(live(other), {'a': Holder(A, Promise(2, 0)), 'c': Holder(C, EMPTY)})
 
     def test_late_append_of_an_epoch(self) -> None:
         """What was asked for in an epoch that has ended isn't done in the next one."""

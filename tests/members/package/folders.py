@@ -1,13 +1,26 @@
 """Tests with a folder of their own."""
 from __future__ import annotations
 
+import contextlib
+import sqlite3
 import tempfile
 import unittest
+import zlib
+from collections.abc import Iterator
 from pathlib import Path
 
 from bully.shared_log import Log
 from bully.sqlite import SqliteLog
 from ..steps import OPENING
+
+
+@contextlib.contextmanager
+def changed(path: Path) -> Iterator[sqlite3.Connection]:
+    """The file of a log, which somebody changes. Rows are written by `packed(ROWS)`, and read by `unpacked(ROWS)`."""
+    with contextlib.closing(sqlite3.connect(path, isolation_level=None)) as file:
+        file.create_function('packed', 1, lambda rows: zlib.compress(rows if isinstance(rows, bytes) else rows.encode()))
+        file.create_function('unpacked', 1, lambda rows: zlib.decompress(rows).decode())
+        yield file
 
 
 class WithFolder(unittest.TestCase):

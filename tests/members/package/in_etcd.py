@@ -112,5 +112,5 @@ class InEtcd(WithEtcd):
 
     def leases(self, server: Server | None = None, prefix: str = '') -> dict[str, str | None]:
         """The leases of etcd, by the keys of sessions and promises that are under them."""
-        root = f'{prefix or self.prefix}/presence/'
+        root = f'{prefix or self.prefix}/lease/'
         return {key[len(root) :]: pair.get('lease') for key, pair in (server or self.server).keys(root).items()}

@@ -13,9 +13,9 @@ from bully.clocks import SECOND
 from bully.core import Promise, Session, Until
 from bully.maintenance import Maintenance
 from bully.memory import MemoryLog
-from bully.shared_log import DamagedLog, Holder, Log, NoEpoch
+from bully.shared_log import DamagedLog, Holder, Known, Log, NoEpoch
 from ..calls import Calls, answer_of
-from ..steps import EMPTY, OPENING, A, B, C, Clock, add, be_idle, end_of, live
+from ..steps import EMPTY, OPENING, A, B, C, Clock, add, be_idle, end_of, known_to, live, where
 from ..waiting import PATIENCE
 
 if TYPE_CHECKING:
@@ -30,6 +30,7 @@ class Laws(Tests):
     TTL = 5 * SECOND
     LONG = 1000 * SECOND  # longer than a test
     PAGE = 10  # appends that the store reads together
+    COMPARES_ALL = False  # whether a change with what is known compares all leases, of those that it doesn't affect, too
 
     def created(self) -> Log:
         """A new log, which has begun with OPENING. It is closed at the end of the test."""
@@ -109,7 +110,7 @@ class Laws(Tests):
         """They are told apart, whatever is in them."""
         log, other = self.pair()
         names = [
-            'a', 'a/b', 'a/', '/', 'life/a', 'promise', 'größer', ' ', 'a\nb', '\U0001f600', "'", '"', '%', 'A',
+            'a', 'a/b', 'a/', '/', 'session/a', 'promise', 'größer', ' ', 'a\nb', '\U0001f600', "'", '"', '%', 'A',
             'x' * 200,
         ]  # fmt: skip
         for number, name in enumerate(names):
@@ -139,6 +140,28 @@ class Laws(Tests):
             self.assertEqual(live(other)['a'].promise, most)
         self.assertFalse(other.promise('a', B, Promise(11, 0)))
         self.assertEqual(live(log), {'a': Holder(A, Promise(10, 0))})
+
+    def test_kept(self) -> None:
+        """At one offset a session may keep less later, and nothing else; a promise of a later offset counts as it is."""
+        log, other = self.pair()
+        self.assertTrue(log.acquire('a', A, EMPTY, self.LONG))
+        few, some, other_ones, most = (17,), (0, 17), (0, 4), (0, 5, 17)
+        for number, (offset, kept, wanted) in enumerate((
+            ((1, 0), some, ((1, 0), ())), ((1, 2), most, ((1, 2), most)), ((1, 2), some, ((1, 2), some)),
+            ((1, 2), most, ((1, 2), some)), ((1, 2), other_ones, ((1, 2), some)), ((1, 1), (), ((1, 2), some)),
+            ((1, 2), some, ((1, 2), some)), ((1, 2), few, ((1, 2), few)), ((1, 10), (1, 2, 4095), ((1, 10), (1, 2, 4095))),
+            ((1, 9), (), ((1, 10), (1, 2, 4095))), ((1, 10), (), ((1, 10), ())), ((1, 10), few, ((1, 10), ())),
+            ((2, 0), few, ((2, 0), few)), ((1, 11), (), ((2, 0), few)), ((2, 0), (), ((2, 0), ())),
+        )):  # fmt: skip
+            self.assertTrue((log, other)[number % 2].promise('a', A, Promise(*offset), kept))
+            self.assertEqual(live(other), {'a': Holder(A, Promise(*wanted[0]), wanted[1])}, number)
+        self.assertFalse(other.promise('a', B, Promise(9, 0), few))
+        self.assertEqual(live(log), {'a': Holder(A, Promise(2, 0))})
+        self.assertTrue(log.promise('a', A, Promise(3, 0), few) and other.renew('a', A, 2 * self.LONG))
+        self.assertEqual(live(log), {'a': Holder(A, Promise(3, 0), few)}, 'a renewal changes nothing of it')
+        log.release('a', A)
+        self.assertTrue(other.acquire('a', B, EMPTY, self.LONG))
+        self.assertEqual(live(log), {'a': Holder(B, EMPTY)}, 'a new session keeps nothing')
 
     def test_a_renewal_keeps_the_promise(self) -> None:
         log, other = self.pair()
@@ -246,6 +269,99 @@ class Laws(Tests):
         log.release('unknown', C)
         self.assertTrue(log.append(1, 2, ['recover,3']))
         self.assertEqual(len(other.read(1, 0)), 3)
+
+    def test_all_have_to_keep_nothing(self) -> None:
+        """If nothing is known of them."""
+        log, other = self.pair()
+        self.assertTrue(log.acquire('a', A, EMPTY, self.LONG) and log.append(1, 0, ['recover,1']))
+        here = Promise(1, 1)
+        for kept in ((0, 5), (5,)):
+            self.assertTrue(log.promise('a', A, here, kept))
+            for each in (log, other):
+                self.assertFalse(each.append(1, 1, ['start,1']))
+        self.assertTrue(log.promise('a', A, here))
+        self.assertTrue(other.append(1, 1, ['start,1']))
+
+    # Changes of which some leases are known.
+
+    def three(self) -> tuple[Log, Log]:
+        """A log and another handle of it, by which `a`, and `b` and `c` hold leases. The log ends after one row, which
+        nobody has promised."""
+        log, other = self.pair()
+        self.assertTrue(log.acquire('a', A, EMPTY, self.LONG))
+        self.assertTrue(other.acquire('b', B, EMPTY, self.LONG) and other.acquire('c', C, EMPTY, self.LONG))
+        self.assertTrue(log.append(1, 0, ['recover,1']))
+        return log, other
+
+    def appends(self, log: Log, known: Known) -> bool:
+        """Whether it appends at the end of the log. Each change that isn't done changes nothing."""
+        before, end = live(log), end_of(log)
+        done = log.append(*where(end), ['start,1'], known)
+        self.assertEqual((end_of(log), live(log)), (Promise(1, end.offset + done), before))
+        return done
+
+    def test_an_unaffected_lease(self) -> None:
+        """It isn't compared, whatever it has promised and keeps."""
+        log, other = self.three()
+        self.assertTrue(self.appends(log, known_to(log)))
+        self.assertTrue(other.promise('b', B, Promise(1, 1), (1, 2)) and log.promise('a', A, Promise(1, 2)))
+        self.assertTrue(self.appends(log, known_to(log, 'a')))
+        self.assertFalse(log.append(1, 2, ['start,1'], known_to(log)), 'the log ends elsewhere')
+        self.assertFalse(log.append(0, 3, ['start,1'], known_to(log)), 'in another epoch')
+        with self.assertRaises(DamagedLog):
+            log.append(1, 4, ['start,1'], known_to(log))
+
+    def test_an_affected_lease(self) -> None:
+        """It is as it is known, whatever it has promised and keeps; or the change is refused."""
+        log, other = self.three()
+        self.assertTrue(self.appends(log, known_to(log, 'a', 'b', 'c')), 'nobody has promised that')
+        for promise, kept in ((Promise(1, 9), (1, 2, 3)), (Promise(1, 9), (1, 3)), (Promise(1, 9), ()), (Promise(2, 0), ())):
+            known = known_to(log, 'b')
+            self.assertTrue(other.promise('b', B, promise, kept))
+            self.assertFalse(self.appends(log, known))
+            self.assertTrue(self.appends(log, known_to(log, 'b')))
+
+    def test_an_affected_lease_that_is_idle(self) -> None:
+        """It may be otherwise than it is known, unless the store compares more."""
+        log, other = self.three()
+        known = known_to(log, 'a', 'b', 'c')
+        self.assertTrue(other.promise('b', B, end_of(log)))
+        self.assertNotEqual(self.appends(log, known), self.COMPARES_ALL)
+
+    def test_a_lease_that_changed(self) -> None:
+        """Who ended since isn't compared. Who came is compared if the change affects it, and is idle then; another
+        session is not the one that was known."""
+        for affected in ((), ('b',), ('b', 'd')):
+            log, other = self.three()
+            known = known_to(log, *affected)
+            other.release('b', B)
+            self.assertTrue(self.appends(log, known), affected)
+            known = known_to(log, *affected)
+            self.assertTrue(other.acquire('d', B, end_of(log), self.LONG))
+            self.assertNotEqual(self.appends(log, known), self.COMPARES_ALL, affected)
+            known = known_to(log, *affected)
+            self.assertTrue(other.acquire('b', C, end_of(log), self.LONG) and other.promise('b', C, Promise(1, 9)))
+            self.assertEqual(self.appends(log, known), not self.COMPARES_ALL and not affected, affected)
+
+    def test_the_own_lease(self) -> None:
+        """If the change affects its node the writer's own promise is as it knows it."""
+        log, _ = self.three()
+        here = end_of(log)
+        self.assertTrue(log.promise('a', A, here, (1, 2)))
+        for own in (Holder(A, here, (1,)), Holder(A, here), Holder(A, EMPTY), Holder(B, here, (1, 2))):
+            self.assertFalse(self.appends(log, known_to(log, 'a', a=own)), own)
+        self.assertTrue(self.appends(log, known_to(log, 'a', a=Holder(A, here, (1, 2)))))
+        self.assertTrue(self.appends(log, known_to(log, 'b', a=Holder(A, here))), 'it does not affect its node')
+
+    def test_nobody_is_live(self) -> None:
+        """Then nothing is appended, whatever is known."""
+        log, other = self.three()
+        known = known_to(log)
+        log.release('a', A)
+        for name, session in (('b', B), ('c', C)):
+            other.release(name, session)
+        self.assertFalse(self.appends(log, known))
+        self.assertFalse(self.appends(log, known_to(log)))
 
     def test_who_is_gone_need_not_be_idle(self) -> None:
         log, other = self.pair()

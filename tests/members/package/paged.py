@@ -5,6 +5,7 @@ import http.client
 import socket
 import threading
 import unittest
+from typing import Any
 
 from bully import page, view
 from bully.epochs import Opening
@@ -23,10 +24,10 @@ class Paged(unittest.TestCase):
     def setUp(self) -> None:
         self.make(2.0)
 
-    def make(self, ttl: float, log: Troubled | None = None) -> None:
-        """A member over this log, or a new one, and its page."""
+    def make(self, ttl: float, log: Troubled | None = None, **work: Any) -> None:
+        """A member over this log, or a new one, and its page. Its work is nothing, or what these callbacks do."""
         self.log = log or Troubled(Opening.first(HEADER, self.NAMES))
-        self.member = Member(self.log, 2, lambda assignment: None, lambda assignment: None, ttl)
+        self.member = Member(self.log, 2, ttl=ttl, **(work or {'start': lambda work: None, 'stop': lambda work: None}))
         self.workers = Workers(['true'], self.NAMES[1], 0.0)
         self.page = page.Page(('127.0.0.1', 0), self.NAMES[1])
         self.addCleanup(self.page.close)

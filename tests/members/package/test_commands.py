@@ -1,9 +1,7 @@
 """Tests of the command `bully-member`, but for `run`."""
 from __future__ import annotations
 
-import contextlib
 import json
-import sqlite3
 import threading
 import time
 from collections.abc import Callable
@@ -18,12 +16,12 @@ from bully.shared_log import Log
 from ..steps import HEADER, LONG
 from ..waiting import wait_until
 from .configurations import TOP, toml
-from .folders import InFolder
+from .folders import InFolder, changed
 from .member_processes import call
 from .threads import put
 
 
-REQUESTED = "update epochs set wish = json_set(opening, '$.epoch', 2,"
+REQUESTED = "update epochs set requested = json_set(opening, '$.epoch', 2,"
 
 
 class Commands(InFolder):
@@ -76,7 +74,7 @@ class Commands(InFolder):
             self.assertEqual(self.of_log(*resize), (0, 'epoch 2: 2 nodes, 4 partitions\n', ''))
         self.assertEqual(self.of_log('history', '--epoch', '1'), (0, f'{HEADER}\nrecover,2\n', ''))
         self.assertEqual(self.of_log('history'), (0, 'bully,1,2,4\n', ''))
-        self.assertTrue(self.of_log('status')[1].startswith('epoch 2, events 0, token -, coordinator -\n'))
+        self.assertTrue(self.of_log('status')[1].startswith('epoch 2, events 0, token -, coordinator -, eager\n'))
         new.write_bytes(toml({**TOP, 'weights': [1, 2, 3]}))
         self.assertEqual(self.of_log(*resize)[1], 'epoch 3: 3 nodes, 6 partitions\n')
         self.assertEqual(self.of_log('prune', '--keep', '2'), (0, 'epochs 2 to 3 are left\n', ''))
@@ -91,7 +89,7 @@ class Commands(InFolder):
     def test_begins_later(self) -> None:
         """A log may begin with a later epoch than those of another one, so that its tokens are higher."""
         self.assertEqual(self.of_log('init', '--config', str(self.config), '--epoch', '7'), (0, '', ''))
-        self.assertTrue(self.of_log('status')[1].startswith('epoch 7, events 0, token -, coordinator -\n'))
+        self.assertTrue(self.of_log('status')[1].startswith('epoch 7, events 0, token -, coordinator -, eager\n'))
         put(self.opened(), 'recover,2')
         self.assertEqual(self.of_log('history', '--epoch', '7'), (0, f'{HEADER}\nrecover,2\n', ''))
         new = self.other_config()
@@ -106,24 +104,26 @@ class Commands(InFolder):
         """What is no row, no event, no request to resize or no opening is reported with its offset, and by the status
         that a new try doesn't help."""
         cases = (
-            ("insert into log values (1, 1, char(10), 0)", 'the line at offset 1 of epoch 1 is not a row'),
-            ("insert into log values (1, 1, 'recover,1' || char(13, 10), 0)", 'the line at offset 1 of epoch 1 is not a row'),
-            ("insert into log values (1, 1, 'end,bully,1,3,6' || char(10), 0)", "row 3: The row doesn't have the form"),
-            ("insert into log values (1, 1, cast(x'ff0a' as text), 0)", 'decode'),
-            ("update epochs set wish = 'x'", 'the opening of epoch 2 can not be read'),
+            ("insert into log values (1, 1, packed(char(10)), 0)", 'the line at offset 1 of epoch 1 is not a row'),
+            ("insert into log values (1, 1, packed('recover,1' || char(13, 10)), 0)", 'the line at offset 1 of epoch 1 is not a row'),
+            ("insert into log values (1, 1, packed('end,bully,1,3,6' || char(10)), 0)", "row 3: The row doesn't have the form"),
+            ("insert into log values (1, 1, packed(x'ff0a'), 0)", "the append at offset 1 of epoch 1 can not be read: 'utf-8' codec can't decode"),
+            ("insert into log values (1, 1, 'recover,1' || char(10), 0)", 'the append at offset 1 of epoch 1 can not be read'),
+            ("insert into log values (1, 1, packed('recover,1'), 0)", 'the append at offset 1 of epoch 1 can not be read'),
+            ("update epochs set requested = 'x'", 'the opening of epoch 2 can not be read'),
             (f"{REQUESTED} '$.header', 'x')", 'the opening of epoch 2 can not be read: x is not a header'),
             (f"{REQUESTED} '$.names', json_array(1, 2, 3))", 'the opening of epoch 2 can not be read: a name of'),
-            ("update epochs set wish = json_set(opening, '$.epoch', 2, '$.limit', 5)", 'the opening of epoch 2 can not be read: a name of'),
+            ("update epochs set requested = json_set(opening, '$.epoch', 2, '$.limit', 5)", 'the opening of epoch 2 can not be read: a name of'),
             (f"{REQUESTED} '$.table', json_array(1, 2, 3, 1, 2, 4))", 'the opening of epoch 2 can not be read: a name of'),
             (f"{REQUESTED} '$.header', 'bully,2,3,6,1 1 0,clear')", 'the opening of epoch 2 can not be read: '),
-            ("update epochs set wish = opening", 'epoch 2 has the opening of epoch 1'),
+            ("update epochs set requested = opening", 'epoch 2 has the opening of epoch 1'),
             ("update epochs set opening = json_set(opening, '$.header', 'bully,1,4,6')", '1,4,6 has 3 names'),
         )  # fmt: skip
         for number, (asked, told) in enumerate(cases):
             self.path = self.folder / f'{number}.db'
             self.of_log('init', '--config', str(self.config))
             put(self.opened(), 'recover,2')
-            with contextlib.closing(sqlite3.connect(self.path, isolation_level=None)) as file:
+            with changed(self.path) as file:
                 file.execute(asked)
                 if 'into log' in asked:
                     file.execute('update epochs set count = 2')
@@ -139,22 +139,23 @@ class Commands(InFolder):
         """Damage is reported, and cut once that is wanted and nobody holds a lease. What is lawful stays, and tokens
         are new."""
         no_row = "row 5: The row doesn't have the form of a row"
-        missing = 'rows are missing, or there is something else between them'
-        cases = (
-            ("update log set rows = rows || char(10) || 'start,2' || char(10)", 5, ['', 'start,2'], "'' is not a row"),
-            ("update log set rows = rows || 'start,2' || char(13, 10)", 4, ['start,2\r'], "'start,2\\r' is not a row"),
-            ("update log set rows = rows || 'end,bully,1,3,6' || char(10)", 4, ['end,bully,1,3,6'], no_row),
-            ("insert into log values (1, 3, cast(x'ff0a' as text), 0)", 4, ['\ufffd'], no_row),
-            ("insert into log values (1, 4, 'x' || char(10), 0)", 5, ['x'], missing),
+        missing = 'rows are missing or can not be read, or there is something else between them'
+        cases: tuple[tuple[str, int, list[str], str], ...] = (
+            ("update log set rows = packed(unpacked(rows) || char(10) || 'start,2' || char(10))", 5, ['', 'start,2'], "'' is not a row"),
+            ("update log set rows = packed(unpacked(rows) || 'start,2' || char(13, 10))", 4, ['start,2\r'], "'start,2\\r' is not a row"),
+            ("update log set rows = packed(unpacked(rows) || 'end,bully,1,3,6' || char(10))", 4, ['end,bully,1,3,6'], no_row),
+            ("insert into log values (1, 3, packed(x'ff0a'), 0)", 4, ['\ufffd'], no_row),
+            ("insert into log values (1, 4, packed('x' || char(10)), 0)", 5, ['x'], missing),
+            ("insert into log values (1, 3, 'start,2' || char(10), 0)", 4, [], missing),
         )  # fmt: skip
         for number, (asked, count, rows, why) in enumerate(cases):
             self.path = self.folder / f'{number}.db'
             self.of_log('init', '--config', str(self.config))
             put(self.opened(), 'recover,2', 'recover,1', 'recover,3')
-            with contextlib.closing(sqlite3.connect(self.path, isolation_level=None)) as file:
+            with changed(self.path) as file:
                 file.execute(asked)
                 file.execute('update epochs set count = ?', (count,))
-            cut = f'{len(rows)} of {count} rows are to be cut, and then epoch 2 starts'
+            cut = f'{count - 3} of {count} rows are to be cut, and then epoch 2 starts'
             told = f'epoch 1, offset 3: {why}; {cut}\n' + ''.join(f'{row!r}\n' for row in rows)
             with self.subTest(asked=asked):
                 for words in ((), ('--cut', '2')):
@@ -180,18 +181,18 @@ class Commands(InFolder):
         refused."""
         self.of_log('init', '--config', str(self.config))
         self.acquire(self.opened(), 'a')
-        with contextlib.closing(sqlite3.connect(self.path, isolation_level=None)) as file:
-            file.execute("update presence set life = 'x'")
+        with changed(self.path) as file:
+            file.execute("update leases set session = 'x'")
             status, said, why = self.of_log('repair')
             self.assertEqual((status, said), (3, ''))
             self.assertIn('the lease of a can not be read', why)
-            file.execute('delete from presence')
+            file.execute('delete from leases')
         for change in (
-            "update epochs set wish = 'x'",
-            "update changes set orders = 'x'",
-            "update changes set orders = '{}'",
+            "update epochs set requested = 'x'",
+            "update changes set maintenance = 'x'",
+            "update changes set maintenance = '{}'",
         ):
-            with contextlib.closing(sqlite3.connect(self.path, isolation_level=None)) as file:
+            with changed(self.path) as file:
                 file.execute(change)
             self.assertEqual(self.of_log('status')[0], 3)
             said = 'epoch 1: the requested settings or the maintenance could not be read; both are taken back\n'
@@ -203,8 +204,8 @@ class Commands(InFolder):
         self.of_log('init', '--config', str(self.config))
         with mock.patch.object(time, 'time_ns', lambda: 1_700_000_000_007_000_000):
             put(self.opened(), 'recover,2', 'start,2')
-        with contextlib.closing(sqlite3.connect(self.path, isolation_level=None)) as file:
-            file.execute("insert into log values (1, 2, 'move,2' || char(10), null)")
+        with changed(self.path) as file:
+            file.execute("insert into log values (1, 2, packed('move,2' || char(10)), null)")
             file.execute('update epochs set count = 3')
         told = f',{HEADER}\n2023-11-14T22:13:20.007Z,recover,2\n2023-11-14T22:13:20.007Z,start,2\n,move,2\n'
         for words in ((), ('--epoch', '1')):
@@ -247,8 +248,8 @@ class Commands(InFolder):
         for _ in range(2):
             self.assertEqual(self.of_log('pause'), (0, 'the group is paused\n', ''))
         self.assertEqual(log.snapshot(1, 0).maintenance.sessions, sessions)
-        paused = 'coordinator -; paused: members that work continue, and nobody rebalances\n'
-        self.assertIn(paused, self.of_log('status')[1])
+        paused = 'coordinator -, eager; paused once the change under way is complete\n'
+        self.assertIn(paused, self.of_log('status')[1], 'both have promised the end, so a change is under way')
         self.assertEqual(json.loads(self.of_log('status', '--json')[1])['paused'], True)
         self.assertEqual(
             self.of_log('drain', 'b'), (0, 'b is drained, and leaves once the group is not paused any more\n', '')
@@ -352,12 +353,12 @@ class Commands(InFolder):
             self.assertTrue(log.acquire('c', Session(8, number), end, LONG))
             status, said, _ = self.of_log('status')
             self.assertEqual(status, 0, said)
-            self.assertRegex(said, 'coordinator b\n')
+            self.assertRegex(said, 'coordinator b, eager\n')
             log.release('c', Session(8, number))
         self.assertEqual(self.of_log('resize', '--config', str(self.other_config()), '--seconds', '0.01')[0], 1)
         status, said, _ = self.of_log('status')
         self.assertEqual(status, 1)
-        self.assertRegex(said, 'coordinator b; not idle yet: b for [0-9.]+ s\n')
+        self.assertRegex(said, 'coordinator b, eager; not idle yet: b for [0-9.]+ s\n')
 
     def other_config(self) -> Path:
         """A configuration of other settings."""
@@ -434,7 +435,7 @@ class Commands(InFolder):
         self.of_log('init', '--config', str(self.config))
         status, said, _ = self.of_log('status')
         self.assertEqual(status, 1)
-        self.assertEqual([line.split('  ')[0] for line in said.splitlines()[2:]], ['a?[2J?b', 'c?d', '\u00e4 z'])
+        self.assertEqual([line.split('  ')[0] for line in said.splitlines()[2:5]], ['a?[2J?b', 'c?d', '\u00e4 z'])
         self.config.write_bytes(toml({**TOP, 'names': ['a\0', 'b', 'c']}))
         status, _, told = call(
             'run', '--log', f'sqlite:{self.path}', '--config', str(self.config), '--node', 'b', '--', 'true'

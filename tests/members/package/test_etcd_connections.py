@@ -191,7 +191,7 @@ class Killed(InEtcd):
     def made(self, servers: Servers) -> str | None:
         """The revision at which the lease was acquired, if it is held."""
         wait_until(servers.are_up)
-        found = servers.each[0].keys('x/presence/life/a').get('x/presence/life/a')
+        found = servers.each[0].keys('x/lease/session/a').get('x/lease/session/a')
         return str(found['create_revision']) if found else None
 
     def test_leader_of_before(self) -> None:

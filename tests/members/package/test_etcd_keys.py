@@ -9,7 +9,8 @@ import tempfile
 import threading
 import time
 import unittest
-from base64 import b64encode
+import zlib
+from base64 import b64decode
 from collections.abc import Callable
 from pathlib import Path
 from typing import Any
@@ -18,6 +19,7 @@ from unittest import mock
 from bully import etcd, etcd_client
 from bully.clocks import SECOND
 from bully.core import Promise, Session, Until
+from bully.encoding import packed
 from bully.epochs import Opening
 from bully.etcd import EtcdLog
 from bully.etcd_client import Address, Client, Endpoint, range_at, read_address
@@ -26,9 +28,10 @@ from bully.repair import damage_of, repair
 from bully.shared_log import DamagedLog, ForeignLog, LogError, LogExists, NoEpoch, NoLog, Unanswered
 from bully.store_options import EtcdStore
 from places import environment
-from ..etcd_servers import OLDER, Json, begin_alone, coded, decoded, older_row, prune_in_part, put_older
+from ..etcd_servers import OLDER, OLDER_TEXT, Json, begin_alone, coded, older_row, prune_in_part, put_older
 from ..steps import EMPTY, LONG, OPENING, A, B, add, be_idle, live
 from ..waiting import PATIENCE, wait_until
+from .appends import BAD_APPENDS
 from .in_etcd import InEtcd
 
 # Opens logs where no names are told. It says what came of that, and how many threads wait still.
@@ -65,22 +68,23 @@ class Keys(InEtcd):
         self.assertTrue(log.acquire('größer', Session(17, 3), EMPTY, 2 * SECOND))
         with mock.patch.object(time, 'time_ns', lambda: 1_700_000_000_007_000_000):
             self.assertTrue(log.append(1, 0, ['recover,1', 'größer']))
+        self.assertTrue(log.promise('größer', Session(17, 3), Promise(1, 3), (0, 5, 17)))
         self.assertTrue(log.set_maintenance(Maintenance(frozenset(['größer', 'a']), {'größer': Session(17, 3)}), Maintenance()))
         requested = Opening(2, 'bully,1,2,4', ('a', 'b'), 500)
         self.assertTrue(log.ask(requested, 1))
-        wanted = {
-            'opening/0000000001': OPENING.text().replace('{"epoch"', '{"form": 3, "epoch"'), 'first': '0000000001',
-            'place': '0000000001/0000000002', 'log/0000000001/0000000000': 'recover,1\ngrößer\n', 'next': requested.text(),
-            'presence/life/größer': '17.3', 'presence/promise/größer': '0000000001/0000000000',
-            'time/0000000001/0000000000': '1700000000007',
-            'orders': '{"drained": ["a", "größer"], "paused": {"größer": [17, 3]}}',
+        wanted: dict[str, str | bytes] = {
+            'opening/0000000001': OPENING.text().replace('{"epoch"', '{"form": 4, "epoch"'), 'first': '0000000001',
+            'offset': '0000000001/0000000002', 'rows/0000000001/0000000000': zlib.compress('recover,1\ngrößer\n'.encode()),
+            'requested': requested.text(), 'lease/session/größer': '17.3',
+            'lease/promise/größer': '0000000001/0000000003 0 5 17', 'time/0000000001/0000000000': '1700000000007',
+            'maintenance': '{"drained": ["a", "größer"], "paused": {"größer": [17, 3]}}',
         }  # fmt: skip
         pairs = self.server.keys(f'{self.prefix}/')
-        found = {key[len(self.prefix) + 1 :]: decoded(pair['value']) for key, pair in pairs.items()}
-        self.assertRegex(found.pop('name'), '^3 [0-9a-f]{16}$')
-        self.assertEqual(found, wanted)
+        found = {key[len(self.prefix) + 1 :]: b64decode(pair['value']) for key, pair in pairs.items()}
+        self.assertRegex(found.pop('name'), b'^4 [0-9a-f]{16}$')
+        self.assertEqual(found, {key: b64decode(coded(value)) for key, value in wanted.items()})
         leased = {key for key, pair in pairs.items() if 'lease' in pair}
-        self.assertEqual(leased, {f'{self.prefix}/presence/{each}/größer' for each in ('life', 'promise')})
+        self.assertEqual(leased, {f'{self.prefix}/lease/{each}/größer' for each in ('session', 'promise')})
         self.assertEqual(len(set(self.leases().values())), 1)
         self.assertEqual(list(log.read(1, 1)), ['größer'])
 
@@ -90,7 +94,7 @@ class Keys(InEtcd):
         for number, (ttl, seconds) in enumerate([(0.01, '1'), (1.0, '1'), (1.01, '2'), (7, '7'), (86400.0, '86400')]):
             with self.subTest(ttl=ttl):
                 self.assertTrue(log.acquire(str(number), A, EMPTY, int(ttl * SECOND)))
-                lease = self.leases()[f'life/{number}']
+                lease = self.leases()[f'session/{number}']
                 self.assertEqual(self.server.ask('/v3/lease/timetolive', {'ID': lease})['grantedTTL'], seconds)
 
     def test_shorter_lease(self) -> None:
@@ -141,7 +145,7 @@ class Prefixes(InEtcd):
 
     ODD = (
         'x', 'x0', 'x-', 'xy', 'x/y', 'x.y', '/x', 'x//y', '..', ' x ', 'größer', '%2F', 'a?b#c', 'a=b&c', '"', "'\\",
-        '*', 'x,y', 'etcd://x/y', '0', 'logs', 'x/logs', 'presences', 'x\ny', '\U0001f600', 'x' * 1000,
+        '*', 'x,y', 'etcd://x/y', '0', 'rowss', 'x/rowss', 'leases', 'x\ny', '\U0001f600', 'x' * 1000,
     )  # fmt: skip
 
     def test_odd(self) -> None:
@@ -157,7 +161,7 @@ class Prefixes(InEtcd):
     def test_below_another(self) -> None:
         """What happens in a log below another one's prefix is no news of that one."""
         log = self.created()
-        for part in ('b', 'next', 'place', 'first', 'oz'):
+        for part in ('b', 'requested', 'offset', 'first', 'oz'):
             below = self.created(f'{self.address}/{part}')
             sessions = log.snapshot(1, 0).sessions
             later = threading.Thread(
@@ -261,7 +265,7 @@ class Contents(InEtcd):
         """Something else, or a log of another form."""
         for key, value in (
             ('opening/0000000001', 'hello'), ('opening/0000000001', ''), ('x', 'x'), ('', 'x'),
-            ('opening/0000000001', '{"form": 4, "epoch": 1}'), ('opening/0000000001', OPENING.text()),
+            ('opening/0000000001', '{"form": 5, "epoch": 1}'), ('opening/0000000001', OPENING.text()),
         ):  # fmt: skip
             with self.subTest(key=key, value=value):
                 self.server.put(f'{self.prefix}/{key}', value)
@@ -272,8 +276,20 @@ class Contents(InEtcd):
                 )
                 self.server.delete(f'{self.prefix}/{key}')
 
+    def test_other_forms(self) -> None:
+        """They are refused in words."""
+        for key, value, form, version in (
+            ('opening/0000000001', OPENING.text(), 2, 'an older'), ('name', '3 0123456789abcdef', 3, 'an older'),
+            ('name', '5 0123456789abcdef', 5, 'a newer'), ('name', '10 0123456789abcdef', 10, 'a newer'),
+        ):  # fmt: skip
+            self.server.put(f'{self.prefix}/{key}', value)
+            told = f'a log of format {form}, by {version} version, not of format 4'
+            with self.subTest(form=form), self.assertRaisesRegex(ForeignLog, told):
+                EtcdLog(self.address)
+            self.server.delete(f'{self.prefix}/{key}')
+
     def key(self, offset: int, end: str = '') -> str:
-        return f'{self.prefix}/log/0000000001/{offset:010}{end}'
+        return f'{self.prefix}/rows/0000000001/{offset:010}{end}'
 
     def test_holes(self) -> None:
         log = self.begun()
@@ -289,10 +305,10 @@ class Contents(InEtcd):
                         self.refused(DamagedLog, lambda: log.read(1, first))
                         self.refused(DamagedLog, lambda: log.snapshot(1, first))
                     self.assertEqual(list(log.read(1, offset + 2)), rows[offset + 2 :])
-                    self.server.put(self.key(offset, '0'), 'start,1\nstart,1\n')
+                    self.server.put(self.key(offset, '0'), packed('start,1\nstart,1\n'))
                     self.refused(DamagedLog, lambda: log.read(1, offset))
                     self.server.delete(self.key(offset, '0'))
-                    self.server.put(self.key(offset), decoded(kept))
+                    self.server.put(self.key(offset), b64decode(kept))
                 self.assertEqual(list(log.read(1, 0)), rows)
 
     def test_a_part_is_taken_away(self) -> None:
@@ -304,7 +320,7 @@ class Contents(InEtcd):
         here = be_idle(log, ('a', A))
         self.assertTrue(log.roll_over(1, here.offset, OPENING.after(None)))
         prune_in_part(other, 2)
-        self.assertEqual(list(self.server.keys(f'{self.prefix}/log/')), [self.key(offset) for offset in (4, 6, 8)])
+        self.assertEqual(list(self.server.keys(f'{self.prefix}/rows/')), [self.key(offset) for offset in (4, 6, 8)])
         for offset in (0, 2, 3, 4, 5, 10):
             with self.subTest(offset=offset):
                 found = log.snapshot(1, offset)
@@ -312,32 +328,51 @@ class Contents(InEtcd):
                 with self.assertRaisesRegex(NoEpoch, 'there is no epoch 1, only 2'):
                     log.read(1, offset)
         other.prune(2)
-        self.assertEqual(self.server.keys(f'{self.prefix}/log/'), {}, 'the next one takes the rest away')
+        self.assertEqual(self.server.keys(f'{self.prefix}/rows/'), {}, 'the next one takes the rest away')
 
     def test_no_rows(self) -> None:
         log = self.begun()
         add(log, ['recover,1', 'recover,2'])
-        for value in ('recover,1\nrecover,2', 'recover,1\n', '', 'recover,1\nrecover,2\nrecover,3\n'):
-            self.server.put(self.key(0), value)
+        for rows in ('recover,1\nrecover,2', 'recover,1\n', '', 'recover,1\nrecover,2\nrecover,3\n', '\nx\n', 'x\r\nx\n'):
+            self.server.put(self.key(0), packed(rows))
             self.refused(DamagedLog, lambda: log.read(1, 0))
-        self.server.ask('/v3/kv/put', {'key': coded(self.key(0)), 'value': b64encode(b'\xff\n\n').decode()})
-        self.refused(DamagedLog, lambda: log.read(1, 0))
+
+    def test_bad_appends(self) -> None:
+        """What can't be decompressed, or would have too many bytes, is reported with its offset, and cut by a repair."""
+        for number, value in enumerate(BAD_APPENDS):
+            log = self.begun(f'{self.address}/{number}')
+            for rows in (['recover,1', 'recover,2'], ['recover,3']):
+                add(log, rows)
+            log.release('a', A)
+            self.server.put(f'{self.prefix}/{number}/rows/0000000001/0000000002', value)
+            with self.subTest(value=value[:20]):
+                reads: list[Callable[[], object]] = [lambda: log.read(1, 0), lambda: log.snapshot(1, 2)]
+                for call in reads:
+                    with self.assertRaisesRegex(DamagedLog, 'the append at offset 2 of epoch 1 can not be read'):
+                        call()
+                damage = damage_of(log)
+                assert damage is not None
+                self.assertEqual((damage.offset, damage.rows), (2, []))
+                self.assertTrue(repair(log, damage))
+                self.assertEqual((list(log.read(1, 0)), damage_of(log)), (['recover,1', 'recover,2'], None))
 
     def test_bad_leases(self) -> None:
         cases = (
-            ('life/b', '1.2'), ('life/a', 'x'), ('life/a', '1'), ('promise/a', ''), ('promise/a', '1'),
-            ('promise/b', 'x'),
+            ('session/b', '1.2'), ('session/a', 'x'), ('session/a', '1'), ('promise/a', ''), ('promise/a', '1'),
+            ('promise/b', 'x'), ('promise/a', '0000000001/0000000000 '), ('promise/a', '0000000001/0000000000 x'),
+            ('promise/a', '0000000001/0000000000 2 1'), ('promise/a', '0000000001/0000000000 1 1'),
+            ('promise/a', '0000000001/0000000000 -1'), ('promise/a', '0000000001/0000000000  1'),
         )  # fmt: skip
         for number, (key, value) in enumerate(cases):
             with self.subTest(key=key, value=value):
                 log = self.begun(f'{self.address}/{number}')
-                self.server.put(f'{self.prefix}/{number}/presence/{key}', value)
+                self.server.put(f'{self.prefix}/{number}/lease/{key}', value)
                 self.refused(DamagedLog, lambda: log.snapshot(1, 0))
 
     def test_no_end(self) -> None:
         log = self.begun()
         for value in ('', 'x', '1'):
-            self.server.put(f'{self.prefix}/place', value)
+            self.server.put(f'{self.prefix}/offset', value)
             for call in (log.epochs, lambda: log.snapshot(1, 0), lambda: log.read(1, 0)):
                 self.refused(DamagedLog, call)
 
@@ -393,13 +428,13 @@ class Contents(InEtcd):
             for rows in (['recover,1', 'recover,2'], ['recover,3']):
                 add(log, rows)
             log.release('a', A)
-            self.server.put(f'{self.prefix}/{key}/log/0000000001/{key}', 'recover,3\n')
+            self.server.put(f'{self.prefix}/{key}/rows/0000000001/{key}', packed('recover,3\n'))
             with self.subTest(key=key):
                 self.refused_rows(log)
                 damage = damage_of(log)
                 assert damage is not None
                 self.assertEqual(
-                    (damage.offset, damage.why), (count, 'rows are missing, or there is something else between them')
+                    (damage.offset, damage.why), (count, 'rows are missing or can not be read, or there is something else between them')
                 )
                 self.assertTrue(repair(log, damage))
                 self.assertEqual((log.epochs(), damage_of(log)), (range(1, 3), None))
@@ -508,7 +543,7 @@ class OlderForm(InEtcd):
         self.store = EtcdStore(self.address, None, '', '')
 
     def test_refused(self) -> None:
-        with self.assertRaisesRegex(ForeignLog, 'older version, not of format 3; history writes it'):
+        with self.assertRaisesRegex(ForeignLog, 'a log of format 3, by an older version, not of format 4; history writes it'):
             self.store.open()
         with self.assertRaises(LogExists):
             self.store.create(OPENING)
@@ -519,6 +554,8 @@ class OlderForm(InEtcd):
             self.assertEqual(list(self.store.history(epoch)), OLDER[2])
         with self.assertRaises(NoEpoch):
             self.store.history(3)
+        timed = [f'{OLDER_TEXT},{row}' for row in OLDER[2][1:]]
+        self.assertEqual(list(self.store.history(2, True)), [f',{OLDER[2][0]}', *timed])
         self.server.delete(older_row(self.prefix, 1, 500))
         with self.assertRaises(DamagedLog):
             self.store.history(1)

@@ -16,7 +16,7 @@ from ..waiting import wait_until
 from .epoch_laws import EpochLaws
 from .in_etcd import InEtcd
 from .laws import Laws
-from .races import race
+from .races import race, race_of_promises
 from .wait_laws import Waits
 
 
@@ -42,6 +42,7 @@ class OverEtcd(Laid, Laws, Waits):
     TTL = 2 * SECOND
     SHORT = SECOND
     PAGE = 10
+    COMPARES_ALL = True
 
     def setUp(self) -> None:
         super().setUp()
@@ -60,6 +61,9 @@ class OverEtcd(Laid, Laws, Waits):
 
     def test_processes(self) -> None:
         race(self, self.begun(), 'etcd', self.address)
+
+    def test_promises_of_processes(self) -> None:
+        race_of_promises(self, self.created(), 'etcd', self.address)
 
 
 class ManyOverEtcd(Laid, Waits):

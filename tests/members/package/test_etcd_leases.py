@@ -11,9 +11,9 @@ from bully.core import Promise, Session
 from bully.epochs import Opening
 from bully.etcd import EtcdLog
 from bully.etcd_client import Client
-from bully.shared_log import ForeignLog, Holder, Unanswered
+from bully.shared_log import ForeignLog, Holder, Known, Unanswered
 from ..etcd_servers import Json, begin_alone
-from ..steps import EMPTY, LONG, OPENING, A, B, C, add, be_idle, live
+from ..steps import EMPTY, LONG, OPENING, A, B, C, add, be_idle, end_of, known_to, live, where
 from .in_etcd import GRANT, KEEPALIVE, PUT, TXN, InEtcd
 
 
@@ -30,21 +30,22 @@ class Promises(InEtcd):
         self.log, self.other = self.begun(), self.opened()
         self.assertTrue(self.log.promise('a', A, Promise(1, 5)))
 
-    def late(self, call: Callable[[], object], part: str = 'request_put') -> Json:
-        """The transaction of this call that writes, which isn't done; it may be so later."""
+    def late(self, call: Callable[[], object], part: str = 'request_put', after: int = 0) -> Json:
+        """The transaction of this call that writes, which isn't done; it may be so later. It comes after so many others
+        that are answered."""
         asked: list[Json] = []
         ask = Client.ask
 
         def lose(client: Client, path: str, told: Json, repeats: bool = False) -> Json:
             if path == etcd_client.KV_TXN and any(part in each for each in told['success']):
                 asked.append(told)
-                raise Unanswered('lost')
+                if len(asked) > after:
+                    raise Unanswered('lost')
             return ask(client, path, told, repeats)
 
         with mock.patch.object(Client, 'ask', lose), self.assertRaises(Unanswered):
             call()
-        self.assertEqual(len(asked), 1)
-        return asked[0]
+        return asked[after]
 
     def is_done(self, asked: Json) -> bool:
         """Whether it is done now that it comes. (etcd refuses what puts a key that isn't there.)"""
@@ -61,14 +62,14 @@ class Promises(InEtcd):
         before = self.leases()
         self.assertTrue(self.other.renew('a', A, LONG))
         after = self.leases()
-        self.assertEqual((set(after), len(set(after.values()))), ({'life/a', 'promise/a'}, 1))
+        self.assertEqual((set(after), len(set(after.values()))), ({'session/a', 'promise/a'}, 1))
         self.assertNotEqual(after, before)
-        self.revoke(before['life/a'])
+        self.revoke(before['session/a'])
         self.assertEqual(live(self.log), {'a': Holder(A, Promise(1, 5))})
         self.assertFalse(self.log.append(1, 0, ['recover,1']))
 
     def test_lost_together(self) -> None:
-        self.revoke(self.leases()['life/a'])
+        self.revoke(self.leases()['session/a'])
         self.assertEqual((self.leases(), live(self.log)), ({}, {}))
         self.assertFalse(self.log.renew('a', A, LONG))
         self.assertFalse(self.log.promise('a', A, Promise(1, 6)))
@@ -82,7 +83,7 @@ class Promises(InEtcd):
         self.assertTrue(self.is_done(late))
         self.assertTrue(self.log.promise('a', A, Promise(1, 8)))
         self.assertEqual(self.leases(), after)
-        self.revoke(before['life/a'])
+        self.revoke(before['session/a'])
         self.assertEqual(live(self.log), {'a': Holder(A, Promise(1, 8))})
 
     def test_a_promise_while_it_moves(self) -> None:
@@ -99,6 +100,96 @@ class Promises(InEtcd):
         with mock.patch.object(Client, 'ask', promise_first):
             self.assertTrue(self.other.renew('a', A, LONG))
         self.assertEqual((done, live(self.log)), ([True], {'a': Holder(A, Promise(1, 9))}))
+
+    def test_late_promises(self) -> None:
+        """Whichever was asked for first: of two of one offset the one stays that keeps less."""
+        here = Promise(1, 6)
+        one, two = (self.late(lambda: self.log.promise('a', A, here, kept)) for kept in ((1, 2), (3,)))
+        self.assertTrue(self.is_done(one))
+        self.assertFalse(self.is_done(two), 'neither is within the other')
+        less = self.late(lambda: self.log.promise('a', A, here, (1,)), after=1)
+        self.assertTrue(self.other.promise('a', A, here, (2,)))
+        for late in (one, two, less):
+            self.assertFalse(self.is_done(late))
+        self.assertEqual(live(self.log), {'a': Holder(A, here, (2,))})
+
+    def test_promises_at_one_moment(self) -> None:
+        """What was read of a promise of the same offset is the same at the end, or it is read again, once."""
+        cases: list[tuple[list[tuple[int, ...]], bool, tuple[int, ...]]] = [
+            ([(0, 1)], True, (0,)), ([()], True, ()), ([(0, 1, 2), (0, 1)], False, (0, 1)),
+        ]  # fmt: skip
+        for number, (more, is_done, kept) in enumerate(cases):
+            here, asked = Promise(2, number), []
+            self.assertTrue(self.log.promise('a', A, here, (0, 1, 2, 3)))
+            ask = Client.ask
+
+            def promise_first(client: Client, path: str, told: Json, repeats: bool = False) -> Json:
+                asked.append(path)
+                if len(asked) > 1 and more:
+                    with mock.patch.object(Client, 'ask', ask):
+                        self.assertTrue(self.other.promise('a', A, here, more.pop(0)))
+                return ask(client, path, told, repeats)
+
+            with mock.patch.object(Client, 'ask', promise_first):
+                if is_done:
+                    self.assertTrue(self.log.promise('a', A, here, (0,)))
+                else:
+                    with self.assertRaisesRegex(Unanswered, 'at the same time'):
+                        self.log.promise('a', A, here, (0,))
+            self.assertEqual((more, live(self.log)), ([], {'a': Holder(A, here, kept)}))
+
+    def test_a_change_by_whom_it_does_not_know(self) -> None:
+        """Only a session that acquired its lease by this handle can leave others out of what is compared."""
+        end = self.log.snapshot(1, 0)
+        known = Known(frozenset(), end.holders, end.revision)
+        self.assertFalse(self.other.append(1, 0, ['recover,1'], known))
+        self.assertTrue(self.log.append(1, 0, ['recover,1'], known))
+
+    def test_a_change_among_names_that_are_alike(self) -> None:
+        """Whatever the name of another one, it is compared."""
+        self.assertTrue(self.log.promise('a', A, Promise(1, 6), (1,)))
+        for name in ('a0', 'a/', 'a ', 'aa', 'a\x01', 'A', 'b', '`', '\x01', 'ä'):
+            end = end_of(self.log)
+            self.assertTrue(self.other.acquire(name, B, end, LONG))
+            known = known_to(self.log, 'a', name)
+            with self.subTest(name=name):
+                self.assertTrue(self.other.promise(name, B, Promise(1, 99), (2,)))
+                self.assertFalse(self.log.append(*where(end), ['recover,1'], known))
+                self.assertTrue(self.log.append(*where(end), ['recover,1'], known_to(self.log, 'a', name)))
+
+    def test_a_change_after_a_move(self) -> None:
+        """A lease that moves to a new one of etcd is written, so the change is refused once; one's own move isn't."""
+        self.assertTrue(self.other.acquire('b', B, EMPTY, LONG))
+        known = known_to(self.log, 'a', 'b')
+        self.assertTrue(self.log.renew('a', A, LONG + SECOND))
+        self.assertTrue(self.log.append(1, 0, ['recover,1'], known))
+        known = known_to(self.log, 'a', 'b')
+        self.assertTrue(self.other.renew('b', B, LONG + SECOND))
+        self.assertFalse(self.log.append(1, 1, ['recover,2'], known))
+        self.assertTrue(self.log.append(1, 1, ['recover,2'], known_to(self.log, 'a', 'b')))
+
+    def test_a_late_change(self) -> None:
+        """It is done only while all is as it is known."""
+        self.assertTrue(self.other.acquire('b', B, EMPTY, LONG) and self.other.promise('b', B, Promise(1, 4), (1,)))
+        self.assertTrue(self.log.promise('a', A, Promise(1, 6), (0,)))
+
+        def come_again() -> None:
+            self.log.release('a', A)
+            self.assertTrue(self.log.acquire('a', A, end_of(self.log), LONG))
+
+        acts: list[tuple[Callable[[], object], bool]] = [
+            (lambda: self.other.promise('b', B, Promise(1, 4), (1,)), True),
+            (lambda: self.other.promise('b', B, Promise(1, 4)), False),
+            (lambda: self.log.promise('a', A, Promise(1, 6)), False),
+            (lambda: self.other.acquire('c', C, end_of(self.log), LONG), False),
+            (come_again, False), (lambda: self.other.release('c', C), True), (lambda: self.log.release('a', A), False),
+        ]  # fmt: skip
+        for number, (act, is_done) in enumerate(acts):
+            with self.subTest(act=number):
+                here, known = where(end_of(self.log)), known_to(self.log, 'a', 'b')
+                late = self.late(lambda: self.log.append(*here, ['recover,1'], known))
+                act()
+                self.assertEqual(self.is_done(late), is_done)
 
     def test_a_late_move(self) -> None:
         """What is done later than a newer renewal changes nothing."""
@@ -125,7 +216,7 @@ class Promises(InEtcd):
             self.late(lambda: self.log.release('a', A), 'request_delete_range'),
             self.late(lambda: self.log.append(1, 0, ['recover,1'])),
         ]  # fmt: skip
-        self.revoke(self.leases()['life/a'])
+        self.revoke(self.leases()['session/a'])
         for is_acquired in (False, True):
             if is_acquired:
                 self.assertTrue(self.log.acquire('a', B, EMPTY, LONG))

@@ -148,7 +148,7 @@ class Commands(OverEtcd):
         put(self.opened(), 'recover,2')
         self.assertEqual(self.of_log('history'), (0, f'{HEADER}\nrecover,2\n', ''))
         status, said, _ = self.of_log('status')
-        self.assertEqual((status, said.splitlines()[0]), (1, 'epoch 1, events 1, token -, coordinator -'))
+        self.assertEqual((status, said.splitlines()[0]), (1, 'epoch 1, events 1, token -, coordinator -, eager'))
         self.assertEqual(
             [node['status'] for node in json.loads(self.of_log('status', '--json')[1])['nodes']],
             ['down', 'election', 'down'],
@@ -196,11 +196,19 @@ class Commands(OverEtcd):
         self.assertEqual((store.user, store.password), ('x', ' c d '))
         self.assertNotIn('c d', repr(store))
 
+    def test_below_keys(self) -> None:
+        """No log is made where another one may have its keys."""
+        for part in ('failing', 'lease', 'rows'):
+            address = f'{self.address}/{part}/x'
+            said = f'bully-member: --log is {address}, and no part of a new prefix may be `failing`, `lease` or `rows`\n'
+            self.assertEqual(call('init', '--config', self.config, '--log', address), (2, '', said))
+        self.assertEqual(self.server.keys(self.prefix), {})
+
     def test_an_older_form(self) -> None:
         """Its history is written, and all else is refused."""
         put_older(self.server, self.prefix)
         before = self.server.keys(self.prefix)
-        form = 'a log of an older version, not of format 3; history writes it as a trace, and init makes a new log'
+        form = 'a log of format 3, by an older version, not of format 4; history writes it as a trace, and init makes a new log'
         for words in (
             ['status'],
             ['resize', '--config', self.config],
@@ -242,7 +250,7 @@ class Runs(OverEtcd):
         self.end(member)
         self.assertFalse(is_running(worker))
         self.assertEqual(log.read(1, 0)[-1], 'crash,2')
-        self.assertEqual(self.server.keys(f'{self.prefix}/presence/'), {})
+        self.assertEqual(self.server.keys(f'{self.prefix}/lease/'), {})
         self.judge(1)
 
     def test_talks(self) -> None:
@@ -467,6 +475,6 @@ class AwayOverEtcd(WithEtcd, Away):
         for row in ('crash,1', 'recover,2', 'crash,2'):
             put(self.log, row)
         self.pass_epoch('c', 'b')
-        left = self.server.keys(f'{self.address.split("/", 3)[3]}/log/0000000001/')
+        left = self.server.keys(f'{self.address.split("/", 3)[3]}/rows/0000000001/')
         self.assertEqual([int(key[-10:]) for key in left], [offset + 1, offset + 2])
         self.see_it_work()

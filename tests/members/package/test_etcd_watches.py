@@ -16,7 +16,7 @@ from bully.maintenance import Maintenance
 from bully.shared_log import DamagedLog, NoLog, Unanswered
 from ..etcd_servers import Json, begin_alone, coded, decoded
 from ..steps import EMPTY, LONG, OPENING, A, B, add, live
-from ..waiting import PATIENCE
+from ..waiting import PATIENCE, wait_until
 from .in_etcd import TXN, InEtcd
 
 
@@ -59,7 +59,7 @@ class Watching(InEtcd):
         """What a watch reports late of what a snapshot has found already is no news, nor does it bring back what is
         gone."""
         self.assertTrue(self.direct.acquire('b', B, EMPTY, LONG))
-        found = self.server.keys(f'{self.prefix}/presence/')
+        found = self.server.keys(f'{self.prefix}/lease/')
         self.direct.release('b', B)
         self.log.snapshot(1, 0)
         for key, pair in found.items():
@@ -113,7 +113,19 @@ class Watching(InEtcd):
             self.assertEqual(self.between.requests, asked + 1)
             self.assertTrue(self.direct.promise('a', A, Promise(1, 8)))
             self.wait(0, 0.3, Until.ANY_IDLE)
-        self.assertIn(f'{self.prefix}/presence/promise/a', seen)
+        self.assertIn(f'{self.prefix}/lease/promise/a', seen)
+
+    def test_what_a_watch_reports(self) -> None:
+        """Neither rows nor their times, nor notes of nodes whose work fails."""
+        self.log.snapshot(1, 0)
+        self.wait(0, 0.1)
+        seen = self.seen()
+        self.direct.note('a', True)
+        self.assertTrue(self.direct.append(1, 0, ['recover,1']) and self.direct.promise('a', A, Promise(1, 1)))
+        self.assertTrue(self.direct.set_maintenance(Maintenance(frozenset('b')), None) and self.direct.ask(OPENING.after(None), 1))
+        wait_until(lambda: self.log._hear(lambda: f'{self.prefix}/requested' in seen, True, 0.1))
+        wanted = ('offset', 'lease/promise/a', 'maintenance', 'requested')
+        self.assertEqual(seen, [f'{self.prefix}/{key}' for key in wanted])
 
     def seen(self) -> list[str]:
         """The keys of all events from now on."""
@@ -157,7 +169,7 @@ class Watching(InEtcd):
 
         def count(found: Json) -> list[etcd_client.Pair]:
             pairs = pairs_of(found)
-            read.append(sum(b'/presence/' in pair.key for pair in pairs))
+            read.append(sum(b'/lease/' in pair.key for pair in pairs))
             return pairs
 
         acts: list[Callable[[], object]] = [
@@ -176,12 +188,12 @@ class Watching(InEtcd):
 
     def test_damage(self) -> None:
         """Whatever is damaged is left for a snapshot to find."""
-        for key in ('presence/life/b', 'presence/promise/a', 'place'):
+        for key in ('lease/session/b', 'lease/promise/a', 'offset'):
             self.log.snapshot(1, 0)
             before = self.server.keys(f'{self.prefix}/{key}').get(f'{self.prefix}/{key}')
             later = threading.Timer(0.1, lambda: self.server.put(f'{self.prefix}/{key}', 'x'))
             later.start()
-            self.assertLess(self.wait(0, until=Until.ALL_IDLE if key == 'place' else Until.NEWS), PATIENCE)
+            self.assertLess(self.wait(0, until=Until.ALL_IDLE if key == 'offset' else Until.NEWS), PATIENCE)
             later.join()
             with self.assertRaises(DamagedLog):
                 self.log.snapshot(1, 0)

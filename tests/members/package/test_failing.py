@@ -24,8 +24,9 @@ from bully.member import Assignment, Member
 from bully.memory import MemoryLog
 from bully.shared_log import Holder, Log, Snapshot
 from bully.sqlite import SqliteLog
-from bully.work_failures import AWAY_MAX, BACKOFF_MAX, Failures, Health
+from bully.work_failures import ALL, AWAY_MAX, BACKOFF_MAX, Failures, Health
 from bully.worker import Workers
+from bully.worker_states import WorkerState
 from .. import waiting
 from ..processes import children, is_running
 from ..steps import EMPTY, LONG, OPENING, A, B, C
@@ -191,7 +192,8 @@ class Services(unittest.TestCase):
         member = SimpleNamespace(assignment=lambda: work, is_drained=False, gave_up=False)
         told = systemd.Service(cast(Member, member), workers)
         self.assertEqual(told._stands(), 'works on 2 partitions by token 40000002')
-        workers._assignment = work
+        state = workers._workers[ALL] = WorkerState(ALL, workers, workers._failures)
+        state.working = frozenset(work.partitions)
         workers._failures.failed(seconds_of_boot())
         self.assertRegex(told._stands(), '^owns 2 partitions by token 40000002; its worker failed, and backs off for [01]')
         member.assignment, member.gave_up = lambda: None, True
@@ -275,19 +277,21 @@ class GivesUp(Threads):
         wait_until(lambda: self.failing() == {'2': False})
         self.assertFalse(self.shown.show().is_well)
         wait_until(lambda: fails.member.gave_up and self.owners() == {'1'})
-        self.assertEqual((fails.begun, self.failing(), fails.member.is_drained), (3, {'2': True}, False))
+        tries = fails.begun
+        self.assertGreaterEqual(tries, 3)
+        self.assertEqual((self.failing(), fails.member.is_drained), ({'2': True}, False))
         group = self.shown.show()
         wanted = True, False, 'no, gave up, its worker fails'
         self.assertEqual((group.is_stable, group.is_well, group.nodes[1].told_live), wanted)
         told = 'node 2: its worker keeps failing; it gives up what it owns, and tries again in 6.0 s'
         self.assertEqual([line for line in self.said.output if told in line], [f'WARNING:bully:{told}'])
-        wait_until(lambda: fails.begun == 4)
+        wait_until(lambda: fails.begun == tries + 1)
         wait_until(lambda: fails.member.gave_up and self.owners() == {'1'})
         self.assertTrue(any('tries again in 12.0 s' in line for line in self.said.output))
         fails.fails = False
         wait_until(lambda: '2' in self.owners())
         wait_until(lambda: self.shown.show().is_well)
-        self.assertEqual((fails.begun, self.log.failing, self.owners()), (5, {}, {'1', '2'}))
+        self.assertEqual((fails.begun, self.log.failing, self.owners()), (tries + 2, {}, {'1', '2'}))
 
     def test_all_fail(self) -> None:
         """Each keeps what it owns, since nobody else could work on it: nothing is appended for that."""
@@ -513,21 +517,3 @@ class InProcesses(InFolder):
         self.assertNotEqual(fails.worker(), worker)
         self.assertIn('the worker failed, with status -9, and is started again in 0.2 s', fails.said)
         self.assertEqual([member.end() for member in members], [0, 0])
-
-
-class OlderLogs(InFolder):
-    """A log in a file that an older version made."""
-
-    def test_no_table(self) -> None:
-        """It has no table of whose work fails, and gets one with the first note."""
-        SqliteLog.create(self.path, OPENING).close()
-        with contextlib.closing(sqlite3.connect(self.path)) as file:
-            tables = {name for name, in file.execute('select name from sqlite_master')}
-        self.assertNotIn('failing', tables)
-        log, other = self.opened(), self.opened()
-        self.assertEqual(log.snapshot(1, 0).failing, {})
-        self.assertTrue(log.acquire('a', A, EMPTY, LONG))
-        self.assertTrue(other.give_up('b', 'a', A))
-        self.assertEqual((log.snapshot(1, 0).failing, other.snapshot(1, 0).failing), ({'b': True}, {'b': True}))
-        log.note('b', None)
-        self.assertEqual(other.snapshot(1, 0).failing, {})

@@ -12,11 +12,12 @@ from collections.abc import Callable
 from pathlib import Path
 from unittest import mock
 
-from bully import boots, processes, sqlite, sqlite_file
+from bully import boots, encoding, processes, sqlite, sqlite_file
 from bully.clocks import SECOND, nanoseconds_of_boot
 from bully.core import Promise, Until
+from bully.encoding import packed
 from bully.epochs import Opening
-from bully.repair import damage_of
+from bully.repair import damage_of, repair
 from bully.shared_log import (
     DamagedLog, DiskFull, ForeignLog, Holder, LogBusy, LogError, LogExists, NoEpoch, NoLog, OtherLog, ReadOnlyLog,
 )  # fmt: skip
@@ -26,6 +27,7 @@ from bully.worker import Workers
 from places import environment
 from ..steps import EMPTY, LONG, OPENING, A, B, Clock, add, live
 from ..waiting import PATIENCE
+from .appends import BAD_APPENDS
 from .folders import WithLogs
 
 # Opens a log, and says what came of it.
@@ -40,16 +42,13 @@ except LogError as fault:
     print(fault)
 '''
 
-# Acquires a lease for so many seconds, and says what came of it; maybe as a version before time namespaces did.
+# Acquires a lease for so many seconds, and says what came of it.
 ACQUIRES = '''
 import sys
-from bully import boots, sqlite
 from bully.clocks import SECOND
 from bully.shared_log import LogError
 from bully.core import Session, Promise
 from bully.sqlite import SqliteLog
-if 'older' in sys.argv:
-    sqlite.boot_name = lambda: boots.machine_boot(boots.boot_name())
 try:
     print(SqliteLog(sys.argv[1]).acquire('b', Session(1, 1), Promise(1, 0), int(sys.argv[2]) * SECOND))
 except LogError as fault:
@@ -136,13 +135,13 @@ class Files(WithLogs):
 
     def test_another_form(self) -> None:
         """A log of another version is reported as one."""
-        for form, word in ((1, 'an older'), (2, 'an older'), (4, 'another')):
+        for form, word in ((1, 'an older'), (2, 'an older'), (3, 'an older'), (5, 'a newer')):
             self.created().close()
             with sqlite3.connect(self.path) as other:
                 other.execute(f'pragma user_version = {form}')
             other.close()
             with self.subTest(form=form):
-                self.refused(ForeignLog, f'a log of format {form}, by {word} version, not of format 3')
+                self.refused(ForeignLog, f'a log of format {form}, by {word} version, not of format 4')
 
     def test_exists(self) -> None:
         self.created()
@@ -169,26 +168,74 @@ class Files(WithLogs):
         log = self.closing(SqliteLog.create(self.path, Opening(1, 'bully,1,1,2', ('a',), 1000, (0, 1))))
         for lawful, table in ((0, (0, 1)), (len(rows), (1, 1))):
             log._file.execute('delete from log')
-            log._file.execute('insert into log values (1, 0, ?, 0)', (''.join(f'{row}\n' for row in [*rows[:lawful], 'x']),))
+            text = ''.join(f'{row}\n' for row in [*rows[:lawful], 'x'])
+            log._file.execute('insert into log values (1, 0, ?, 0)', (packed(text),))
             log._file.execute('update epochs set count = ?', (lawful + 1,))
             damage = damage_of(log)
             self.assertEqual(damage and (damage.offset, damage.opening.epoch, damage.opening.table), (lawful, 2, table))
+
+    def test_ends_that_are_repaired(self) -> None:
+        """What an append has after its last line end is cut, and an append without rows: both can't be read."""
+        for appends, cut in ((['recover,1\nmove'], ['move']), (['recover,1\n', ''], [])):
+            self.path.unlink(missing_ok=True)
+            log = self.closing(SqliteLog.create(self.path, Opening.first('bully,1,1,2', ('a',))))
+            for offset, text in enumerate(appends):
+                log._file.execute('insert into log values (1, ?, ?, 0)', (offset, packed(text)))
+            log._file.execute('update epochs set count = 1')
+            with self.assertRaises(DamagedLog):
+                log.read(1, 0)
+            damage = damage_of(log)
+            assert damage is not None
+            self.assertEqual((damage.offset, damage.rows, repair(log, damage)), (1, cut, True))
+            self.assertEqual((list(log.read(1, 0)), damage_of(log)), (['recover,1'], None))
+            log.close()
 
     def test_holes(self) -> None:
         log = self.begun()
         for rows in (['recover,1', 'start,1'], ['recover,2'], ['recover,3']):
             add(log, rows)
-        self.change('delete from log where place = 2')
+        self.change('delete from log where offset = 2')
         for offset in (0, 1, 2):
             with self.assertRaises(DamagedLog):
                 log.read(1, offset)
             with self.assertRaises(DamagedLog):
                 log.snapshot(1, offset)
         self.assertEqual(list(log.read(1, 3)), ['recover,3'])
-        self.change('delete from log where place = 3')
+        self.change('delete from log where offset = 3')
         with self.assertRaises(DamagedLog):
             log.read(1, 3)
         self.assertEqual(list(log.read(1, 4)), [])
+
+    def test_bad_appends(self) -> None:
+        """What can't be decompressed, or would have too many bytes, is reported with its offset, and cut by a repair."""
+        for value in BAD_APPENDS:
+            log = self.begun()
+            for rows in (['recover,1', 'recover,2'], ['recover,3']):
+                add(log, rows)
+            log.release('a', A)
+            log._file.execute('update log set rows = ? where offset = 2', (value,))
+            with self.subTest(value=value[:20]):
+                reads: list[Callable[[], object]] = [lambda: log.read(1, 0), lambda: log.snapshot(1, 2)]
+                for call in reads:
+                    with self.assertRaisesRegex(DamagedLog, 'the append at offset 2 of epoch 1 can not be read'):
+                        call()
+                damage = damage_of(log)
+                assert damage is not None
+                self.assertEqual((damage.offset, damage.rows), (2, []))
+                self.assertIn('1 of 3 rows are to be cut', damage.told)
+                self.assertTrue(repair(log, damage))
+                self.assertEqual((list(log.read(1, 0)), damage_of(log)), (['recover,1', 'recover,2'], None))
+
+    def test_large_appends(self) -> None:
+        """What is appended has no more bytes than can be read."""
+        log = self.begun()
+        with mock.patch.object(encoding, 'LARGEST', 20):
+            with self.assertRaises(ValueError):
+                log.append(1, 0, ['größer' * 3])
+            self.assertTrue(log.append(1, 0, ['größer', 'recover,1']))
+            self.assertEqual(list(log.read(1, 0)), ['größer', 'recover,1'])
+        with mock.patch.object(encoding, 'LARGEST', 17), self.assertRaises(DamagedLog):
+            log.read(1, 0)
 
     def change(self, *asked: str) -> None:
         """Somebody changes the file."""
@@ -456,7 +503,7 @@ except LogError as fault:
         clock = mock.patch.object(sqlite, 'nanoseconds_of_boot', Clock())
         clock.start()
         self.addCleanup(clock.stop)
-        self.change('update presence set since = since + 3600 * 1000000000')
+        self.change('update leases set since = since + 3600 * 1000000000')
         with mock.patch.object(sqlite, 'boot_name', lambda: 'another'):
             later = self.opened()
         self.assertEqual(live(later), {})
@@ -528,26 +575,10 @@ except LogError as fault:
         for call in calls:
             with self.assertRaisesRegex(ForeignLog, OTHER_CLOCK):
                 call()
-        self.change('update presence set until = since + 1')  # as if it hadn't been renewed
+        self.change('update leases set until = since + 1')  # as if it hadn't been renewed
         self.assertTrue(log.acquire('a', A, EMPTY, LONG))
         self.assertEqual(live(log), {'a': Holder(A, EMPTY)})
         self.assertEqual(in_clocks(self, 100_000, ACQUIRES, str(self.path), '5'), f'{self.path}: {OTHER_CLOCK}\n')
-
-    def test_time_namespace_of_an_older_version(self) -> None:
-        """Leases of a version that wrote no namespace count by the machine's clock, and by the clock of any later member:
-        so they keep others out of their own namespace, too. That version is refused after a newer one."""
-        self.created().close()
-        both = f'{ACQUIRES}\nsys.argv.remove("older")\nsqlite.boot_name = boots.boot_name\n{ACQUIRES}'
-        said = in_clocks(self, 100_000, both, str(self.path), '1000', 'older')
-        self.assertEqual(said, f'True\n{self.path}: {OTHER_CLOCK}\n')
-        self.created().close()
-        self.assertEqual(in_clocks(self, 100_000, ACQUIRES, str(self.path), '1000'), 'True\n')
-        self.assertEqual(self.machine_boots(), [boots.boot_name()] * 2, 'an older version finds it, and not last')
-
-    def machine_boots(self) -> list[str]:
-        """The boots that have used the log, without their namespaces."""
-        with contextlib.closing(sqlite3.connect(self.path)) as file:
-            return [boots.machine_boot(boot) for boot, in file.execute('select boot from boots order by number')]
 
     def test_a_kernel_without_time_namespaces(self) -> None:
         there = boots.boot_name()
@@ -601,10 +632,14 @@ except LogError as fault:
         return seen >= count
 
     def test_bad_lease(self) -> None:
-        for number, asked in enumerate(("life = 'x'", "life = '1.x'", "epoch = 'x'", "until = 'x'")):
+        bad = (
+            "session = 'x'", "session = '1.x'", "epoch = 'x'", "until = 'x'", "kept = 'x'", "kept = '2 1'", "kept = '1 1'",
+            "kept = ' 1'", "kept = '-1'",
+        )  # fmt: skip
+        for asked in bad:
             log = self.begun()
-            self.change(f'update presence set {asked}')
-            with self.subTest(number=number), self.assertRaisesRegex(DamagedLog, 'the lease of a can not be read'):
+            self.change(f'update leases set {asked}')
+            with self.subTest(asked=asked), self.assertRaisesRegex(DamagedLog, 'the lease of a can not be read'):
                 log.snapshot(1, 0)
 
     def test_another_log(self) -> None:
@@ -675,33 +710,35 @@ class OlderForm(WithLogs):
     """A log of the form before is read, and nothing more."""
 
     TABLES = """
-    create table epochs (epoch integer primary key, opening text not null, wish text);
-    create table packs (epoch integer, number integer, rows text not null, primary key (epoch, number));
-    create table log (epoch integer, place integer, row text not null, primary key (epoch, place));
+    create table epochs (epoch integer primary key, opening text not null, wish text, count integer);
+    create table log (epoch integer, place integer, rows text not null, time integer, primary key (epoch, place));
     create table presence (
-        epoch integer, node integer, life text not null, boot text not null, until real not null,
-        primary key (epoch, node)
+        name text primary key, life text not null, epoch integer not null, place integer not null, boot text not null,
+        since integer not null, until integer not null
     );
+    create table changes (name text not null, lives integer not null, promises integer not null, orders text not null);
+    create table boots (number integer primary key, boot text not null unique);
     """
 
     def setUp(self) -> None:
         super().setUp()
-        with sqlite3.connect(self.path) as file:
-            file.executescript(f'pragma application_id = {sqlite.APPLICATION}; pragma user_version = 2; {self.TABLES}')
-            packed = ['bully,1,3,6', *(f'start,{number}' for number in range(1, 2000))]
-            for number in (0, 1):
-                text = ''.join(f'{row}\n' for row in packed[1000 * number : 1000 * number + 1000])
-                file.execute('insert into packs values (1, ?, ?)', (number, text))
-            file.executemany('insert into log values (1, ?, ?)', [(2000, 'recover,1'), (2001, 'end,bully,1,3,6')])
-            file.executemany('insert into log values (2, ?, ?)', [(0, 'bully,1,3,6'), (1, 'recover,2')])
-        file.close()
-        self.wanted = [*packed, 'recover,1']
+        kinds = f'pragma application_id = {sqlite.APPLICATION}; pragma user_version = 3; pragma journal_mode = wal'
+        first, second = OPENING.text(), OPENING.after(None).text()
+        self.wanted = ['bully,1,3,6', *(f'start,{number}' for number in range(2000))]
+        with contextlib.closing(sqlite3.connect(self.path, isolation_level=None)) as file:
+            file.executescript(f'{kinds}; {self.TABLES}')
+            file.executemany('insert into epochs values (?, ?, null, ?)', [(1, first, 2000), (2, second, 1)])
+            file.execute("insert into changes values ('0123456789abcdef', 5, 9, '')")
+            for place in range(0, 2000, 500):
+                rows = ''.join(f'{row}\n' for row in self.wanted[place + 1 : place + 501])
+                file.execute('insert into log values (1, ?, ?, 1700000000007)', (place, rows))
+            file.execute("insert into log values (2, 0, 'größer' || char(10), null)")
         self.store = FileStore(str(self.path))
 
     def test_refused(self) -> None:
         for reads in (False, True):
             with self.assertRaisesRegex(
-                ForeignLog, 'a log of format 2, by an older version, not of format 3; history writes it'
+                ForeignLog, 'a log of format 3, by an older version, not of format 4; history writes it'
             ):
                 self.store.open(reads=reads)
         with self.assertRaises(LogExists):
@@ -711,12 +748,14 @@ class OlderForm(WithLogs):
         before = self.path.read_bytes()
         self.assertEqual(list(self.store.history(1)), self.wanted)
         for epoch in (2, None):
-            self.assertEqual(list(self.store.history(epoch)), ['bully,1,3,6', 'recover,2'])
+            self.assertEqual(list(self.store.history(epoch)), ['bully,1,3,6', 'größer'])
+        timed = [f'2023-11-14T22:13:20.007Z,{row}' for row in self.wanted[1:]]
+        self.assertEqual(list(self.store.history(1, True)), [f',{self.wanted[0]}', *timed])
         with self.assertRaises(NoEpoch):
             self.store.history(3)
         self.assertEqual(self.path.read_bytes(), before)
         with sqlite3.connect(self.path) as file:
-            file.execute('delete from packs where number = 1')
+            file.execute('delete from log where place = 500')
         file.close()
         with self.assertRaises(DamagedLog):
             self.store.history(1)

@@ -19,7 +19,7 @@ from bully.maintenance import Maintenance
 from bully.sqlite import SqliteLog
 from places import environment
 from .configurations import TOP, toml
-from .folders import WithFolder
+from .folders import WithFolder, changed
 from .member_processes import call
 from .threads import put
 
@@ -115,7 +115,7 @@ class Kills(WithFolder):
 
     def change(self, *asked: str) -> None:
         """Somebody changes the file."""
-        with contextlib.closing(sqlite3.connect(self.path, isolation_level=None)) as file:
+        with changed(self.path) as file:
             for each in asked:
                 file.execute(each)
 
@@ -200,12 +200,12 @@ class Kills(WithFolder):
 
     def test_repair(self) -> None:
         self.began('recover,2')
-        self.change("update epochs set wish = 'x'", "update changes set orders = '{}'")
+        self.change("update epochs set requested = 'x'", "update changes set maintenance = '{}'")
         self.before = (3,)
         self.kill_at_each('repair')
 
     def test_cut(self) -> None:
         self.began('recover,2', 'recover,1')
-        self.change("insert into log values (1, 2, 'x' || char(10), 0)", 'update epochs set count = 3')
+        self.change("insert into log values (1, 2, packed('x' || char(10)), 0)", 'update epochs set count = 3')
         self.before = (3,)
         self.kill_at_each('repair', '--cut', '2')

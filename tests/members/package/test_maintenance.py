@@ -5,10 +5,12 @@ import logging
 import threading
 import unittest
 from collections.abc import Callable
+from dataclasses import replace
+from functools import partial
 from unittest import mock
 
 from bully import adapter, operations, settings, view
-from bully.core import Lease, Promise, Seen, Session, Until
+from bully.core import Ask, Lease, Promise, Request, Seen, Session, Until
 from bully.epochs import Opening, Token
 from bully.group import Setup
 from bully.history import timed
@@ -31,7 +33,7 @@ class Values(unittest.TestCase):
 
     def test_text(self) -> None:
         some = Maintenance(frozenset(['b', 'größer', '"'])), Maintenance(frozenset('a'), {"'": A, 'b': Session(2**64 - 1, 7)})
-        for maintenance in (Maintenance(), Maintenance(sessions={}), *some):
+        for maintenance in (Maintenance(), Maintenance(sessions={}), Maintenance(leaving={'b': A, 'ö': B}), *some):
             self.assertEqual(Maintenance.parse(maintenance.text()), maintenance)
         self.assertEqual(Maintenance().text(), '')
         for text in (
@@ -42,6 +44,8 @@ class Values(unittest.TestCase):
             '{"drained": 7}',
             '{"drained": [], "paused": []}',
             '{"drained": [], "paused": {"a": [1]}}',
+            '{"drained": [], "leaving": ["a"]}',
+            '{"drained": [], "leaving": {"a": 1}}',
         ):
             with self.subTest(text=text), self.assertRaises((ValueError, KeyError, TypeError, AttributeError)):
                 Maintenance.parse(text)
@@ -58,6 +62,24 @@ class Values(unittest.TestCase):
         self.assertEqual(told, [False, False, True, True, False, False, True, False])
         self.assertEqual(paused.among({'a', 'c'}), Maintenance(sessions={}))
 
+    def test_who_is_known_to_leave(self) -> None:
+        """Drained nodes, and sessions that have noted it; nobody in a pause."""
+        some = Maintenance(frozenset('b'), leaving={'a': A, 'c': C})
+        for name, session, is_known in (('a', A, True), ('a', D, False), ('b', B, True), ('c', C, True), ('d', D, False)):
+            with self.subTest(name=name, session=session):
+                self.assertIs(some.is_known_to_leave(name, session), is_known)
+                self.assertFalse(replace(some, sessions={}).is_known_to_leave(name, session))
+        self.assertEqual(some.among({'a', 'b'}), Maintenance(frozenset('b'), leaving={'a': A}))
+        after = some.with_leaving('d', {'a': A, 'c': D, 'd': D})
+        self.assertEqual(after, Maintenance(frozenset('b'), leaving={'a': A, 'd': D}), 'session C is gone')
+
+    def test_who_leaves_is_shown(self) -> None:
+        """A member is shown who else is known to leave, and its own lease as that of a session that stays."""
+        there = {'a': Holder(A, WORKS), 'b': Holder(B, IDLE), 'c': Holder(C, WORKS)}
+        own, leaves, stays = Lease(1, A, WORKS), Lease(2, B, IDLE, is_leaving=True), Lease(3, C, WORKS)
+        for maintenance in (Maintenance(frozenset('ab')), Maintenance(leaving={'a': A, 'b': B, 'c': D})):
+            self.assertEqual(self.seen(there, maintenance), Seen(1, (own, leaves, stays), False, False))
+
     def seen(
         self,
         holders: dict[str, Holder],
@@ -73,7 +95,7 @@ class Values(unittest.TestCase):
         """Without a pause a member is told everything as it is."""
         there = {'b': Holder(B, IDLE), 'a': Holder(A, WORKS)}
         wanted = Lease(1, A, WORKS), Lease(2, B, IDLE)
-        self.assertEqual(self.seen(there, Maintenance(frozenset('b'))), Seen(1, wanted, False, False))
+        self.assertEqual(self.seen(there, Maintenance(frozenset('c'))), Seen(1, wanted, False, False))
         self.assertEqual(
             self.seen({**there, 'x': Holder(C, IDLE)}, Maintenance(), has_request=True), Seen(1, wanted, True, True)
         )
@@ -97,7 +119,7 @@ class Values(unittest.TestCase):
         )
         self.assertEqual(
             self.seen({'a': Holder(D, IDLE)}, paused),
-            Seen(1, (Lease(1, D, IDLE), *others), True, False),
+            Seen(1, (Lease(1, D, IDLE, is_leaving=True), *others), True, False),
             'it came in the pause',
         )
         down = self.seen({'a': Holder(A, WORKS), 'c': Holder(C, WORKS)}, paused, up=frozenset({1, 2}))
@@ -116,6 +138,23 @@ class Values(unittest.TestCase):
                 Seen(1, (Lease(1, A, WORKS), Lease(2, B, IDLE)), False, True),
             )
         self.assertTrue(self.seen(there, Maintenance(sessions={'a': A, 'b': C})).has_unknown, 'this session came later')
+        keeps = {**there, 'b': Holder(B, IDLE, (1, 4))}
+        self.assertEqual(
+            self.seen(keeps, Maintenance(sessions={'a': A, 'b': B})),
+            Seen(1, (Lease(1, A, WORKS), Lease(2, B, IDLE, (1, 4))), False, False),
+            'it has stopped what it does not keep',
+        )
+
+    def test_who_comes_in_a_pause(self) -> None:
+        """A member that has acquired its lease since the pause began is shown that as one that leaves, so it isn't
+        admitted; one that was there before as it is."""
+        there = {'a': Holder(A, WORKS), 'b': Holder(B, WORKS)}
+        before: tuple[tuple[dict[str, Session], bool], ...] = (
+            ({'a': A, 'b': B}, False), ({'b': B}, True), ({'a': C, 'b': B}, True), ({}, True),
+        )  # fmt: skip
+        for sessions, is_late in before:
+            own = self.seen(there, Maintenance(sessions=sessions)).leases[0]
+            self.assertEqual((own.session, own.is_leaving), (A, is_late), sessions)
 
     def test_waits(self) -> None:
         """An unknown process must go before all can be idle, so nobody waits until all are."""
@@ -158,6 +197,29 @@ class Drains(unittest.TestCase):
         self.assertEqual(operations.drain(self.log, '3', False).drained, frozenset('123'), 'it is so already')
         operations.undrain(self.log, '1')
         self.assertEqual(operations.undrain(self.log, '1'), Maintenance(frozenset('23')))
+
+    def test_note_that_one_leaves(self) -> None:
+        """Only if its session is live beside another one, that isn't known yet, and the group isn't paused."""
+        note = partial(adapter.note_leaving, self.log, '2')
+        self.assertTrue(self.log.acquire('2', B, Promise(1, 0), LONG))
+        note(B)
+        self.assertEqual(self.log.maintenance, Maintenance(), 'it is alone')
+        self.assertTrue(self.log.acquire('1', A, Promise(1, 0), LONG))
+        note(C)
+        self.assertEqual(self.log.maintenance, Maintenance(), 'this session is not live')
+        operations.pause(self.log)
+        note(B)
+        self.assertEqual(operations.resume(self.log), Maintenance())
+        operations.drain(self.log, '2', False)
+        note(B)
+        self.assertEqual(operations.undrain(self.log, '2'), Maintenance())
+        note(B)
+        adapter.note_leaving(self.log, '1', A)
+        self.assertEqual(self.log.maintenance, Maintenance(leaving={'1': A, '2': B}))
+        self.log.release('2', B)
+        self.assertTrue(self.log.acquire('3', C, Promise(1, 0), LONG))
+        adapter.note_leaving(self.log, '3', C)
+        self.assertEqual(self.log.maintenance, Maintenance(leaving={'1': A, '3': C}))
 
     def test_the_last_one_that_is_there(self) -> None:
         self.assertTrue(self.log.acquire('2', B, Promise(1, 0), LONG))
@@ -304,6 +366,43 @@ class Maintained(Threads):
         self.become_stable(1, 2, 3)
         self.assertFalse(member.is_drained)
         self.assertNotEqual(self.log.holders['2'].session.process, before.process, 'no session is there twice')
+
+    def stop_at_once(self, change: Callable[[], object]) -> None:
+        """The others stop while the work of node 2 still stops, and the group is rebalanced once, after that."""
+        released = threading.Event()
+        released.set()
+        self.begin_members(1)
+        self.members[2] = self.begin(self.log, 2, stop=lambda _: released.wait(PATIENCE))
+        self.addCleanup(released.set)
+        self.begin_members(3)
+        self.become_stable(1, 2, 3)
+        plans = self.plans()
+        released.clear()
+        change()
+        wait_until(lambda: all(self.members[node][1][-1].startswith('stop') for node in (1, 3)))
+        self.assertEqual((self.plans(), '2' in self.log.holders), (plans, True))
+        released.set()
+        self.become_stable(1, 3)
+        self.assertEqual(self.plans(), plans + 1)
+
+    def test_a_drain_is_one_round(self) -> None:
+        self.stop_at_once(lambda: operations.drain(self.log, '2', False))
+
+    def test_a_leave_is_one_round(self) -> None:
+        self.stop_at_once(lambda: self.members[2][0].leave())
+        self.assertEqual(list(self.log.maintenance.leaving), ['2'])
+
+    def test_a_leave_in_a_pause(self) -> None:
+        """The others work on by the same token."""
+        self.begin_members(1, 2)
+        self.become_stable(1, 2)
+        operations.pause(self.log)
+        told = self.members[1][1][:]
+        self.members[2][0].leave()
+        wait_until(lambda: '2' not in self.log.holders)
+        self.log.pass_renewals('1', 5)
+        self.assertEqual((self.members[1][1], self.log.maintenance.leaving), (told, {}))
+        self.assertIsNotNone(self.members[1][0].assignment())
 
     def test_a_process_that_begins_drained(self) -> None:
         """It acquires no lease, and ends if it is told to."""

@@ -16,10 +16,15 @@ from bully.clocks import seconds_of_boot
 from bully.core import Promise, Session
 from bully.epochs import Token
 from bully.maintenance import Maintenance
+from bully.member import Member
 from bully.shared_log import DamagedLog, Holder, Snapshot, Unanswered
+from bully.work_failures import ALL, Failures
+from bully.worker_states import WorkerState
 from ..steps import LONG
 from ..waiting import PATIENCE, wait_until
+from .grouped import COOPERATIVE
 from .paged import Paged
+from .test_cooperative import Worker
 from .threads import Troubled, put
 
 
@@ -32,7 +37,7 @@ class Pages(Paged):
         self.assertEqual((status, kind), (200, 'application/json; charset=utf-8'))
         told = json.loads(text)
         self.assertEqual((told['epoch'], told['events'], told['token'], told['coordinator']), (1, 0, None, None))
-        self.assertEqual(told['owners'], [None] * 6)
+        self.assertEqual((told['owners'], told['states'], told['mode']), ([None] * 6, ['waiting'] * 6, 'eager'))
         self.assertEqual(json.loads(self.get('/assignment')[2])['partitions'], [])
 
     def test_group(self) -> None:
@@ -40,6 +45,8 @@ class Pages(Paged):
         told = json.loads(self.get('/group')[2])
         self.assertEqual((told['coordinator'], set(told['owners'])), (self.NAMES[1], {self.NAMES[1]}))
         self.assertEqual([node['live'] for node in told['nodes']], [False, True, False])
+        self.assertEqual((told['states'], told['tokens'], told['coming']), (['working'] * 6, [told['token']] * 6, [None] * 6))
+        self.assertEqual((told['moves'], told['stops'], told['stable'], told['frozen']), (0, {}, True, False))
         self.assertEqual([(row['row'], row['text']) for row in told['last']], list(enumerate(self.log.rows, 2))[-20:])
         assigned = json.loads(self.get('/assignment')[2])
         self.assertEqual(
@@ -255,12 +262,13 @@ class Pages(Paged):
         self.workers.begin(self.member)
         self.addCleanup(self.workers.close)
         self.assertEqual(self.get('/healthz')[0], 200)
-        self.workers._survivors, self.workers._stop_begun = [os.getpid()], seconds_of_boot() - 10.0
+        state = self.workers._workers[ALL] = WorkerState(ALL, self.workers, Failures())
+        state.survivors, state.stop_begun = [os.getpid()], seconds_of_boot() - 10.0
         self.assertEqual(self.get('/healthz')[::2], (503, 'its worker does not stop\n'))
         self.assertRegex(self.get('/')[2], 'nodes live; its worker has not stopped for 1[0-9][.][0-9] s<')
         told = dict(line.rsplit(' ', 1) for line in self.get('/metrics')[2].splitlines() if not line.startswith('#'))
         self.assertGreaterEqual(float(told[f'bully_stopping_seconds{page.labels(self.NAMES[1])}']), 10.0)
-        self.workers._survivors, self.workers._stop_begun = [], None
+        state.survivors, state.stop_begun = [], None
 
     def test_an_epoch_that_is_not_told(self) -> None:
         """Where the log doesn't answer with what the next epoch began with, the page goes on once it does."""
@@ -308,7 +316,8 @@ class Pages(Paged):
         self.assertIn('bully_node_partitions{node="<script>alert(1)</script>"} 6', text)
         self.assertIn('bully_node_live{node="a\\"\\\\b"} 0', text)
         token = Token.of(1, 1 + self.log.rows.index(next(row for row in self.log.rows if row.startswith('plan'))))
-        self.assertTrue({'bully_epoch 1', f'bully_token {token}'} <= set(text.splitlines()))
+        self.assertTrue({'bully_epoch 1', f'bully_token {token}', 'bully_cooperative 0'} <= set(text.splitlines()))
+        self.assertTrue({'bully_stable 1', 'bully_partitions_moving 0'} <= set(text.splitlines()))
 
     def test_behind(self) -> None:
         """Who isn't idle is named, with how long the others have waited."""
@@ -335,3 +344,92 @@ class Pages(Paged):
         self.assertEqual(self.get('/group', Host=f'localhost:{self.page.port}')[0], 200)
         for target in ('/group?after=x', '/group?after=-1', '/group?after=99999999999999'):
             self.assertEqual(self.get(target)[0], 200)
+
+
+class Cooperating(Paged):
+    """What is shown of a cooperative group of four, which have three partitions each."""
+
+    def setUp(self) -> None:
+        self.worker = Worker()
+        self.make(2.0, Troubled(COOPERATIVE), on_assigned=self.worker.assigned, on_revoked=self.worker.revoked)
+        self.others: dict[str, Member] = {}
+
+    def come(self, *names: str) -> None:
+        """Members of these nodes run, whose work ends at once."""
+        for name in names:
+            worker, node = Worker(), COOPERATIVE.names.index(name) + 1
+            calls = worker.assigned, worker.revoked
+            self.others[name] = Member(self.log, node, ttl=2.0, on_assigned=calls[0], on_revoked=calls[1])
+            self.run_apart(self.others[name])
+
+    def counts(self) -> list[int]:
+        """How many partitions each may work on, by its member."""
+        shown = [member.assignment() for member in (self.member, *self.others.values())]
+        return [0 if work is None else len(work.partitions) for work in shown]
+
+    def begin_change(self) -> tuple[set[int], int]:
+        """Node d comes, while the work of node b stops slowly. What node b goes on with, and what moves from it."""
+        self.begin()
+        self.come('a', 'c')
+        self.addCleanup(self.worker.may_stop.set)
+        wait_until(lambda: self.counts() == [4, 4, 4])
+        before = set(self.worker.works)
+        self.worker.may_stop.clear()
+        self.come('d')
+        self.addCleanup(self.worker.may_stop.set)
+        wait_until(lambda: self.counts() == [3, 3, 3, 0])
+        work = self.member.assignment()
+        assert work is not None
+        (moving,) = before - set(work.partitions)
+        self.assertIn(moving, self.worker.works, 'it works on that still')
+        return set(work.partitions), moving
+
+    def test_a_change(self) -> None:
+        """By partition: who works on it, and to whom it moves. The slow node alone is named."""
+        goes_on, moving = self.begin_change()
+        wait_until(lambda: json.loads(self.get('/group')[2])['moves'] == 3)
+        wait_until(lambda: list(json.loads(self.get('/group')[2])['behind']) == ['b'])
+        told = json.loads(self.get('/group')[2])
+        self.assertEqual((told['mode'], told['stable'], told['stops']), ('cooperative', False, {'b': [moving]}))
+        by_state = {state: [each for each in range(12) if told['states'][each] == state] for state in told['states']}
+        self.assertEqual(by_state['moving'], [moving])
+        self.assertEqual((told['owners'][moving], told['coming'][moving]), ('b', 'd'))
+        self.assertEqual([(told['owners'][each], told['coming'][each]) for each in by_state['waiting']], [(None, 'd')] * 2)
+        self.assertEqual({each for each in by_state['working'] if told['owners'][each] == 'b'}, goes_on)
+        self.assertEqual([told['coming'][each] for each in by_state['working']], [told['owners'][each] for each in by_state['working']])
+        shown = self.get('/')[2]
+        self.assertIn('cooperative, 4 of 4 nodes live; 3 of 12 partitions move; not stopped yet: b on', shown)
+        self.assertRegex(shown, f'; not stopped yet: b on {moving} for [0-9.]+ s<')
+        self.assertIn(f'<span class="cell moving" title="token {told["tokens"][moving]}">{moving} <b>b</b> to d</span>', shown)
+        self.assertIn(f'<span class="cell waiting">{by_state["waiting"][0]} <b>-</b> to d</span>', shown)
+        self.worker.may_stop.set()
+        wait_until(lambda: self.counts() == [3] * 4 and json.loads(self.get('/group')[2])['stable'])
+        told = json.loads(self.get('/group')[2])
+        self.assertEqual((told['moves'], told['stops'], told['behind'], set(told['states'])), (0, {}, {}, {'working'}))
+
+    def test_metrics_of_a_change(self) -> None:
+        """How many move, who still has to stop how many, and since when."""
+        _, _ = self.begin_change()
+        wait_until(lambda: self.measured()['bully_idle_behind_seconds{node="b"}'] > 0.3)
+        told = self.measured()
+        group = {name: told[f'bully_{name}'] for name in ('cooperative', 'stable', 'partitions_moving', 'partitions_free')}
+        self.assertEqual(group, {'cooperative': 1, 'stable': 0, 'partitions_moving': 3, 'partitions_free': 2})
+        self.assertEqual([told[f'bully_node_stops{page.labels(name)}'] for name in 'abcd'], [0, 1, 0, 0])
+        self.assertEqual([told[f'bully_idle_behind_seconds{page.labels(name)}'] for name in 'acd'], [0, 0, 0])
+        self.worker.may_stop.set()
+        wait_until(lambda: self.measured()['bully_stable'])
+        told = self.measured()
+        self.assertEqual((told['bully_partitions_moving'], told['bully_node_stops{node="b"}'], told['bully_partitions_free']), (0, 0, 0))
+
+    def test_what_a_member_may_work_on(self) -> None:
+        """That is what goes on, and not what has to stop, though the work there hasn't ended."""
+        goes_on, moving = self.begin_change()
+        token = self.worker.works[moving]
+        told = json.loads(self.get('/assignment')[2])
+        self.assertEqual((told['partitions'], told['token']), (sorted(goes_on), token))
+        self.assertEqual({each for each in range(12) if self.status(f'/partitions/{each}') == 200}, goes_on)
+        self.assertEqual([self.status(each) for each in ('/livez', '/readyz', '/leader')], [200, 200, 503])
+        self.worker.may_stop.set()
+        wait_until(lambda: self.counts() == [3] * 4 and json.loads(self.get('/assignment')[2])['token'] > token)
+        self.assertEqual(json.loads(self.get('/assignment')[2])['partitions'], sorted(goes_on))
+        self.assertEqual({each for each in range(12) if self.status(f'/partitions/{each}') == 200}, goes_on)

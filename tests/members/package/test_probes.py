@@ -48,9 +48,9 @@ class Noting(Troubled):
         if name in self.members:
             self.led.append((asked, name, self.members[name].leads))
 
-    def promise(self, name: str, session: Session, promise: Promise) -> bool:
+    def promise(self, name: str, session: Session, promise: Promise, kept: tuple[int, ...] = ()) -> bool:
         self.mark('promise', name)
-        return super().promise(name, session, promise)
+        return super().promise(name, session, promise, kept)
 
     def release(self, name: str, session: Session) -> None:
         self.mark('release', name)

@@ -29,7 +29,7 @@ from .configurations import TOP, toml
 from .member_processes import BEGINS, STARTS, TALKS, MemberProcess, WithMember, started
 from .unlisted import unlisted_from
 
-UNTIL = 'select max(until) from presence'
+UNTIL = 'select max(until) from leases'
 
 
 class Processes(WithMember):
@@ -127,11 +127,14 @@ class Processes(WithMember):
 import os, signal, sqlite3, time
 from types import SimpleNamespace
 from bully.worker import Workers
+from bully.working import Assignment
 file = sqlite3.connect({str(self.path)!r}, isolation_level=None, timeout=60)
 workers = Workers(['true'], 'x', 1.0)
-workers.begin(SimpleNamespace(ttl={ttl}), {str(self.path)!r})
-workers._tell('stop')
-workers._stopped.get()  # so its watchdog is there
+ended = []
+workers.begin(SimpleNamespace(ttl={ttl}, margin=1.0, ended=ended.append), {str(self.path)!r})
+workers.start(Assignment(1, 1, (0,), SimpleNamespace(text=lambda *_: '{{}}', name=str)), frozenset([0]))
+while not ended:  # so its watchdog is there
+    time.sleep(0.01)
 until, = file.execute('{UNTIL}').fetchone()
 soon = until / {SECOND} - {ttl} * 7 / 8  # a second before it is to be renewed; a stop of 1.6 s is let be
 time.sleep(max(0.0, soon - time.clock_gettime(time.CLOCK_BOOTTIME)))

@@ -122,7 +122,7 @@ class Running(Threads):
         self.assertEqual({work.token for work in begun}, {self.token_of(log)})
         rows = log.rows[:]
         member.lose(begun[0])
-        wait_until(lambda: not member._lost)
+        wait_until(member._to_call.empty)
         renewals = len(sure)
         wait_until(lambda: len(sure) > renewals + 1)  # before which it would have stopped
         self.assertEqual((log.rows, len(begun)), (rows, 4))
@@ -169,7 +169,7 @@ class Running(Threads):
         wait_until(slow.assignment)
         other, _, _ = self.begin(log, 3)
         self.addCleanup(is_over.set)
-        wait_until(lambda: '3' in log.holders and other.behind._since)
+        wait_until(lambda: '3' in log.holders and other.behind._waits[1])
         begun = seconds_of_boot()
         wait_until(lambda: seconds_of_boot() > begun + 0.5)
         shown = view.LogView(log, other.behind)
@@ -357,23 +357,25 @@ class Running(Threads):
         second, _, _ = self.begin(log, 1)
         with mock.patch.object(second.behind, 'see', wraps=second.behind.see) as seen:
             wait_until(lambda: seen.call_count > 1)
-        self.assertEqual((second.assignment(), second.behind._since), (None, {}))
+        self.assertEqual((second.assignment(), second.behind._waits[1]), (None, {}))
 
     def test_how_long_behind(self) -> None:
-        """It counts from when it was seen first, at this end of the log, by this session."""
+        """It counts from when a change first waited for it, at this end of the log, for this session."""
         late, one, other = (
             view.Behind(),
             {'a': Holder(Session(1, 1), Promise(1, 3))},
             {'a': Holder(Session(1, 2), Promise(1, 3))},
         )
+        nobody: dict[str, Holder] = {}
         seen = [
-            (4, one, False, {'a': 0.0}), (4, one, False, {'a': 2.0}), (5, one, False, {'a': 0.0}),
-            (5, one, False, {'a': 2.0}), (5, other, False, {'a': 0.0}), (5, other, True, {}),
-            (5, other, False, {'a': 0.0}), (3, other, False, {}),
+            (4, one, {'a': 0.0}), (4, one, {'a': 2.0}), (5, one, {'a': 0.0}), (5, one, {'a': 2.0}),
+            (5, other, {'a': 0.0}), (5, nobody, {}), (5, other, {'a': 0.0}),
         ]  # fmt: skip
         with mock.patch.object(view, 'seconds_of_boot', side_effect=range(10, 100, 2)):
-            for offset, holders, is_stable, wanted in seen:
-                self.assertEqual(late.see(Promise(1, offset), holders, is_stable), wanted)
+            for offset, holders, wanted in seen:
+                self.assertEqual(late.see(Promise(1, offset), holders), wanted)
+            for offset, holders, told in ((5, other, {'a': 2.0}), (5, one, {}), (6, other, {}), (5, nobody, {})):
+                self.assertEqual(late.seen(Promise(1, offset), holders), told)
 
     def test_other_group(self) -> None:
         with self.assertRaises(OtherGroup):

@@ -64,7 +64,7 @@ class Signals(WithMember):
 
     def until(self) -> int:
         """Up to when the lease is held."""
-        return int(self.opened()._one('select max(until) from presence'))
+        return int(self.opened()._one('select max(until) from leases'))
 
     def test_as_it_begins(self) -> None:
         """At whichever moment: it has acquired nothing yet, or releases it."""

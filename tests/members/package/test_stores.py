@@ -13,12 +13,13 @@ from bully.epochs import Opening, Token
 from bully.group import setup_of
 from bully.memory import MemoryLog
 from bully.shared_log import Log
-from ..steps import EMPTY, HEADER, LONG, OPENING, A, Clock
+from bully.sqlite import SqliteLog
+from ..steps import EMPTY, HEADER, LONG, OPENING, A, B, Clock, live
 from ..waiting import PATIENCE
 from .epoch_laws import EpochLaws
 from .folders import WithLogs
 from .laws import Laws
-from .races import race
+from .races import race, race_of_promises
 from .wait_laws import Waits
 
 
@@ -53,6 +54,48 @@ class InFile(WithLogs, InMemory):
         patch = mock.patch.object(sqlite, 'nanoseconds_of_boot', self.clock)
         patch.start()
         self.addCleanup(patch.stop)
+
+
+    def test_a_pause_in_a_snapshot(self) -> None:
+        """A lease that is always renewed in time is seen, wherever a process is paused that reads a snapshot."""
+        log, other = self.pair()
+        self.assertTrue(other.acquire('b', B, EMPTY, self.TTL))
+        pauses = Pauses(self.clock, lambda: other.renew('b', B, self.TTL), 3 * self.TTL // 5)
+        with mock.patch.object(sqlite, 'nanoseconds_of_boot', pauses):
+            for _ in range(3):
+                self.assertEqual(set(live(log)), {'b'})
+        self.assertGreater(pauses.count, 3, 'the clock was read')
+        self.assertTrue(other.renew('b', B, self.TTL))
+
+
+    def test_a_pause_before_a_write(self) -> None:
+        """What waits until others have written does nothing for a lease that has ended meanwhile."""
+        for is_acquired in (False, True):
+            log, other = self.pair()
+            self.assertTrue(log.acquire('b', B, EMPTY, self.TTL))
+            assert isinstance(log, SqliteLog)
+            log._file.set_trace_callback(lambda asked: self.pass_end(log) if asked.startswith('begin') else None)
+            done = log.acquire('b', A, EMPTY, self.TTL) if is_acquired else log.renew('b', B, self.TTL)
+            log._file.set_trace_callback(None)
+            self.assertEqual((done, set(live(other))), (is_acquired, {'b'} if is_acquired else set()))
+
+
+class Pauses:
+    """A clock that passes some time before it is read. Until then something is done, by the clock as it was before."""
+
+    def __init__(self, clock: Clock, act: Callable[[], bool], time: int) -> None:
+        self.clock, self.act, self.time = clock, act, time
+        self.count = 0
+        self.is_acting = False
+
+    def __call__(self) -> int:
+        if not self.is_acting:
+            self.is_acting = True
+            assert self.act()
+            self.is_acting = False
+            self.clock.now += self.time
+            self.count += 1
+        return self.clock()
 
 
 class WaitsInMemory(Waits, unittest.TestCase):
@@ -113,6 +156,9 @@ class Races(WithLogs):
         log = self.created()
         self.assertTrue(log.acquire('a', A, EMPTY, LONG))
         race(self, log, 'file', str(self.path))
+
+    def test_promises(self) -> None:
+        race_of_promises(self, self.created(), 'file', str(self.path))
 
 
 class Openings(unittest.TestCase):

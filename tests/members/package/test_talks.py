@@ -6,17 +6,19 @@ import socket
 import subprocess
 import sys
 import threading
+from functools import partial
 from pathlib import Path
+from typing import Any
 
 from bully import Setup, clocks, watchdog
 from bully.epochs import Token
 from bully.member import Assignment
 from bully.settings import Settings
-from bully.worker import WATCHDOG, Workers
+from bully.worker import WATCHDOG, Kind
 from places import ROOT
 from ..processes import children, descriptors_of, is_running
 from ..waiting import PATIENCE, wait_until
-from .below import Below, assigned
+from .below import Below, Timely, assigned
 
 # One that stays, and writes what it is told. It is `silent`, or answers too often, or by a `longer` line, or ends in place
 # of an answer, or at its second begin.
@@ -43,6 +45,21 @@ for line in sys.stdin:
     if begun == 2 and way == 'fails':
         sys.exit(9)
 """
+# Of a group that isn't cooperative: it takes each stop for one of all.
+EARLIER = """
+import json, os, sys
+name = ''
+for line in sys.stdin:
+    told = json.loads(line)
+    if name:
+        os.remove(name)
+    name = ''
+    if 'begin' in told:
+        name = os.path.join(sys.argv[1], ' '.join(['works', *map(str, told['partitions'])]))
+        open(name, 'w').close()
+    if 'stop' in told:
+        os.write(3, b'stopped\\n')
+"""
 # Answers without an end, and makes a file once more of that was read than a pipe holds.
 FLOODING = """
 import os, sys
@@ -57,9 +74,9 @@ while True:
 class Talks(Below):
     """Workers that stay over changes."""
 
-    talks = True
+    kind = Kind.TALKS
 
-    def begin(self, way: str, patience: float = PATIENCE, seconds: float = 1000.0) -> Workers:
+    def begin(self, way: str, patience: float = PATIENCE, seconds: float = 1000.0) -> Timely:
         workers = self.made([sys.executable, '-c', TALKING, str(self.folder), way], patience, seconds)
         workers.start(assigned(2, 0, 5))
         self.heard(1)
@@ -131,6 +148,7 @@ class Talks(Below):
         self.assertTrue(is_running(worker))
         workers.hear_until(clocks.seconds_of_boot() + 1000)
         workers.start(assigned(3, 1))
+        self.heard(3)
         workers.hear_until(clocks.seconds_of_boot())
         wait_until(lambda: self.lost)
         self.assertFalse(is_running(worker))
@@ -140,6 +158,22 @@ class Talks(Below):
         wait_until(lambda: self.worker() != worker)
         workers.stop(assigned(0))
         self.assertEqual((self.failures, self.lost), ([], [assigned(3, 1)]))
+
+    def test_too_late(self) -> None:
+        """One that is idle isn't told of work whose time is over: it is killed, and another one begins after that."""
+        workers = self.begin('talks')
+        worker = self.worker()
+        workers.stop(assigned(0))
+        workers.hear_until(clocks.seconds_of_boot() - 1)
+        workers.start(assigned(3, 1))
+        wait_until(lambda: self.lost)
+        self.assertFalse(is_running(worker))
+        self.assertEqual(len(self.heard(2)), 2)
+        workers.hear_until(clocks.seconds_of_boot() + 1000)
+        workers.start(assigned(4, 1))
+        self.assertIn('40000004', self.heard(3)[-1])
+        workers.stop(assigned(0))
+        self.assertEqual(self.failures, [])
 
     def test_no_answer(self) -> None:
         """It is killed, if it doesn't answer in time, or by a line that only begins so; or at the moment until which its
@@ -205,10 +239,10 @@ class Talks(Below):
             watchdog = subprocess.Popen(words, stdin=subprocess.DEVNULL, stderr=said, pass_fds=[given.fileno()])
             self.addCleanup(watchdog.kill)
             given.close()
-            for message in (f'until {clocks.nanoseconds_of_boot() + 10**12}', 'begin {}'):
+            for message in (f'until {clocks.nanoseconds_of_boot() + 10**12}', 'begin all 1 {}'):
                 channel.send(message.encode())
             wait_until(child.exists)
-            channel.send(b'stop')
+            channel.send(b'stop all 1 {"stop": true}')
             self.assertEqual(
                 clocks.sleep_until_ready(PATIENCE, channel.fileno()), [channel.fileno()]
             )  # it has said that nothing is worked on
@@ -248,6 +282,133 @@ class Talks(Below):
         self.assertIn('with status 9', said.output[0])
         self.assertEqual((self.failures, self.lost), ([], [assigned(3, 1)]))
         workers.stop(assigned(0))
+
+    # In a cooperative group.
+
+    def lines(self, count: int) -> list[dict[str, Any]]:
+        """The lines that workers were told, without the settings, once there are so many."""
+        told = [json.loads(line.partition(' ')[2]) for line in self.heard(count)]
+        return [{name: value for name, value in line.items() if name in ('begin', 'partitions', 'stop')} for line in told]
+
+    def test_a_part_stops(self) -> None:
+        """It is told what stops, and after each change all that its node owns. What isn't told to stop goes on."""
+        workers = self.begin('talks')
+        workers.ask_to_stop(5)
+        wait_until(lambda: self.member.ends)
+        workers.start(assigned(3, 0), frozenset())
+        workers.start(assigned(4, 0, 1), frozenset([1]))
+        workers.ask_to_stop(0, 1)
+        wait_until(lambda: len(self.member.ends) == 2)
+        wanted = [
+            {'begin': 40000002, 'partitions': [0, 5]}, {'stop': [5]}, {'begin': 40000003, 'partitions': [0]},
+            {'begin': 40000004, 'partitions': [0, 1]}, {'stop': True},
+        ]  # fmt: skip
+        self.assertEqual((self.lines(5), self.member.ends), (wanted, [{5}, {0, 1}]))
+        self.assertEqual(len({line.split()[0] for line in self.heard(5)}), 1)
+        self.assertEqual((self.failures, self.lost), ([], []))
+
+    def test_what_comes_late(self) -> None:
+        """A stop, or a line, of an earlier process isn't for this one."""
+        workers = self.begin('talks')
+        for late in (b'stop all 0 {"stop": true}', b'stop 5 1 {"stop": true}', b'part {', b'begin all 0 }'):
+            workers._ask(partial(workers._send, late))
+        workers._ask(lambda: workers._hear(b'answered all 0'))
+        workers.ask_to_stop(5)
+        wait_until(lambda: self.member.ends)
+        self.assertEqual(self.lines(2), [{'begin': 40000002, 'partitions': [0, 5]}, {'stop': [5]}])
+        self.assertEqual((self.member.ends, self.failures, self.lost), ([{5}], [], []))
+
+    def test_stops_in_a_row(self) -> None:
+        """Each is answered by one line, in order; what isn't answered hasn't ended."""
+        worker = 'read -r line; for each in 1 2 3; do read -r line; echo "$line" >> $0; done; '
+        answers = 'for each in 1 2 3; do while [ ! -e $0.$each ]; do sleep 0.01; done; echo stopped >&3; done; read -r line'
+        told = self.folder / 'told'
+        workers = self.made(['sh', '-c', worker + answers, str(told)])
+        workers.start(assigned(2, 0, 1, 5))
+        for partition in (5, 0, 1):
+            workers.ask_to_stop(partition)
+        self.assertEqual(self.heard(3), ['{"stop": [5]}', '{"stop": [0]}', '{"stop": true}'])
+        for count, partition in enumerate((5, 0, 1), 1):
+            self.assertEqual(len(self.member.ends), count - 1)
+            (self.folder / f'told.{count}').touch()
+            wait_until(lambda: len(self.member.ends) == count)
+            self.assertEqual(self.member.ends[-1], {partition})
+            self.assertEqual(workers.stopping_seconds > 0, count < 3)
+        self.assertEqual((self.failures, self.lost), ([], []))
+
+    def test_a_stop_that_is_not_answered(self) -> None:
+        """All is killed, at the time of the first stop. All of it has ended then."""
+        for patience, seconds in ((0.3, 1000.0), (PATIENCE, 0.5)):
+            with self.subTest(patience=patience):
+                (self.folder / 'told').unlink(missing_ok=True)  # by the worker before this one
+                self.member.ends.clear()
+                workers = self.begin('silent', patience)
+                worker = self.worker()
+                workers.hear_until(clocks.seconds_of_boot() + seconds)
+                workers.ask_to_stop(5)
+                self.heard(2)
+                workers.ask_to_stop(0)
+                wait_until(lambda: self.member.ends)
+                self.assertEqual((self.member.ends, is_running(worker)), ([{0, 5}], False))
+        self.assertEqual(self.failures, [])
+
+    def test_work_that_is_left(self) -> None:
+        """It is killed at the moment until which that is sure, though it has answered all stops."""
+        workers = self.begin('talks')
+        worker = self.worker()
+        workers.ask_to_stop(5)
+        wait_until(lambda: self.member.ends)
+        workers.hear_until(clocks.seconds_of_boot())
+        wait_until(lambda: len(self.member.ends) == 2)
+        self.assertEqual((self.member.ends, is_running(worker)), ([{5}, {0}], False))
+
+    def test_ends_in_place_of_an_answer(self) -> None:
+        """Then all of its work has ended, and nothing has failed."""
+        workers = self.begin('ends')
+        workers.ask_to_stop(5)
+        wait_until(lambda: self.member.ends)
+        self.assertEqual((self.member.ends, self.failures, workers.is_failing), ([{0, 5}], [], False))
+        workers.start(assigned(2, 0))
+        self.assertEqual(self.lines(3)[-1], {'begin': 40000002, 'partitions': [0]})
+
+    def test_of_an_earlier_protocol(self) -> None:
+        """One that stops all at each stop is safe, and works on all that is left after the next line."""
+        workers = self.made([sys.executable, '-c', EARLIER, str(self.folder)])
+        workers.start(assigned(2, 0, 5))
+        wait_until((self.folder / 'works 0 5').exists)
+        workers.ask_to_stop(5)
+        wait_until(lambda: self.member.ends)
+        self.assertFalse((self.folder / 'works 0 5').exists())
+        workers.start(assigned(3, 0), frozenset())
+        wait_until((self.folder / 'works 0').exists)
+        workers.stop()
+        self.assertEqual([each.name for each in self.folder.iterdir()], [])
+        self.assertEqual((self.member.ends, self.failures, self.lost), ([{5}, {0}], [], []))
+
+    def test_examples_of_parts(self) -> None:
+        """Both go on with what isn't told to stop, and work on nothing that they have stopped."""
+        for name in ('talking.py', 'talking.sh'):
+            with self.subTest(name=name):
+                folder = self.folder / name
+                folder.mkdir()
+                self.member.ends.clear()
+                workers = self.made([str(ROOT / 'examples' / 'members' / name), str(folder)])
+                files = {each: folder / str(each) for each in (0, 2, 5)}
+
+                def count(partition: int) -> int:
+                    return files[partition].read_text().count('\n') if files[partition].exists() else 0
+
+                workers.start(assigned(3, 0, 2, 5))
+                wait_until(lambda: all(map(count, files)))
+                workers.ask_to_stop(0, 5)
+                wait_until(lambda: self.member.ends)
+                before = {each: count(each) for each in files}
+                wait_until(lambda: count(2) > before[2] + 2)
+                self.assertEqual((count(0), count(5)), (before[0], before[5]))
+                workers.start(assigned(4, 2, 5), frozenset([5]))
+                wait_until(lambda: count(5) > before[5])
+                self.assertTrue(files[5].read_text().endswith(f'{Token.of(4, 4)} x\n'))
+                workers.close()
 
     def test_examples(self) -> None:
         """Both work on what they are told, and on nothing else once they have answered."""

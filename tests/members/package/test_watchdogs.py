@@ -20,9 +20,9 @@ from bully.member import Assignment, Member
 from bully.settings import Settings
 from bully.worker import ChildrenUnlisted, WatchdogLost, WorkerEnded, WorkerStuck, Workers
 from places import environment
-from ..processes import children, freeze, is_running, name_of, thaw
+from ..processes import children, descriptors_of, freeze, is_running, name_of, thaw
 from ..waiting import PATIENCE, wait_until
-from .below import Below, assigned
+from .below import Below, Timely, assigned
 from .unlisted import unlisted_from
 
 ENDS = (signal.SIGTERM, signal.SIGINT, signal.SIGHUP, signal.SIGQUIT, signal.SIGUSR1, signal.SIGUSR2)
@@ -52,21 +52,22 @@ from bully import clocks, worker
 from bully.member import Assignment
 logging.basicConfig(stream=sys.stdout, format='%(message)s')
 worker._logger.error = lambda _, processes: print('these processes may work on:', processes, flush=True)
-failures, lost = [], []
+failures, ended = [], []
 words = [rooted, '--reuid', '0', '--regid', '0', '--clear-groups', 'sh', '-c', 'echo $$; exec sleep 1000']
 workers = worker.Workers(words, 'x', 0.1)
-workers.begin(SimpleNamespace(ttl=2.0, margin=0.4, end_with=failures.append, lose=lost.append, is_leaving=True))
+member = SimpleNamespace(ttl=2.0, margin=0.4, end_with=failures.append, ended=ended.append, is_leaving=True)
+workers.begin(member)
 workers.hear_until(clocks.seconds_of_boot() + 1000.0)
 settings = SimpleNamespace(text=lambda *_: '{}', name=str)
-workers.start(Assignment(1, 1, (0,), settings))
+workers.start(Assignment(1, 1, (0,), settings), frozenset([0]))
 input()
 workers._watchdog.kill() if kills else workers.hear_until(clocks.seconds_of_boot())
-stopping = threading.Thread(target=workers.stop, args=[None])
-stopping.start()
+workers.stop(None, frozenset([0]))
 while not workers.is_stuck:
     time.sleep(0.01)
 print('stuck', flush=True)
-stopping.join()
+while not ended:
+    time.sleep(0.01)
 print('stopped', flush=True)
 print(*[type(failure).__name__ for failure in failures] or ['lost'], flush=True)
 workers.close()
@@ -82,10 +83,10 @@ from types import SimpleNamespace
 from bully import clocks, worker
 lost = []
 workers = worker.Workers(['sleep', '1000'], 'x', 1000.0)
-workers.begin(SimpleNamespace(ttl=2.0, margin=0.4, end_with=print, lose=lost.append))
+workers.begin(SimpleNamespace(ttl=2.0, margin=0.4, end_with=print, ended=lost.append))
 workers.hear_until(clocks.seconds_of_boot() + 1000.0)
 settings = SimpleNamespace(text=lambda *_: '{}', name=str)
-workers.start(worker.Assignment(1, 1, (0,), settings))
+workers.start(worker.Assignment(1, 1, (0,), settings), frozenset([0]))
 while not Path(f'/proc/{workers._watchdog.pid}/task/{workers._watchdog.pid}/children').read_text():
     time.sleep(0.01)
 print('not yet')
@@ -96,7 +97,7 @@ print('lost')
 workers.close()
 log = SqliteLog.create(sys.argv[1], Opening.first('bully,1,3,6'))
 log.acquire('a', Session(1, 1), Promise(1, 0), 5 * clocks.SECOND)
-print(log._one('select until from presence') > 1_000_000 * clocks.SECOND)
+print(log._one('select until from leases') > 1_000_000 * clocks.SECOND)
 '''
 
 # It begins a write to a file once it is told to.
@@ -117,12 +118,12 @@ class Watchdogs(Below):
 
     assignment = assigned(2, 0, 5)
 
-    def begin(self, way: str, patience: float = PATIENCE, seconds: float = 1000.0) -> Workers:
+    def begin(self, way: str, patience: float = PATIENCE, seconds: float = 1000.0) -> Timely:
         workers = self.made([sys.executable, '-c', WORKER, str(self.folder), way], patience, seconds)
         self.begin_again(workers)
         return workers
 
-    def begin_again(self, workers: Workers) -> None:
+    def begin_again(self, workers: Timely) -> None:
         workers.start(self.assignment)
         wait_until((self.folder / 'begun').exists)
         self.worker, self.child = map(int, (self.folder / 'begun').read_text().split()[:2])
@@ -217,14 +218,17 @@ class Watchdogs(Below):
 
     def test_unread(self) -> None:
         """What a watchdog says at its end is heard, also if it didn't read all that it was told."""
-        workers = Workers([], 'x', 1.0)
-        workers._member = cast(Member, SimpleNamespace(ttl=4.0))
-        workers._channel, watchdog = socket.socketpair(socket.AF_UNIX, socket.SOCK_SEQPACKET)
-        with workers._channel:
-            workers.hear_until(1.0)
-            watchdog.send(b'stopped')
+        workers = self.made(['sleep', '1000'])
+        workers.start(self.assignment)
+        wait_until(lambda: children(workers._watchdog.pid))
+        watchdog, given = socket.socketpair(socket.AF_UNIX, socket.SOCK_SEQPACKET)
+        first, workers._channel = workers._channel, given
+        with first:
+            workers.hear_until(1000.0)
+            watchdog.send(b'lost all 1')
             watchdog.close()
-            self.assertEqual((workers._hear(), workers._hear()), (b'stopped', b''))
+            wait_until(lambda: self.lost)
+            wait_until(lambda: self.failures)
 
     def test_ends_by_itself(self) -> None:
         """Once it is done its member ends."""
@@ -279,26 +283,21 @@ class Watchdogs(Below):
         workers = self.made([sys.executable, '-c', WORKER, str(self.folder), 'stubborn'], 0.1, ttl=1.0)
         self.begin_again(workers)
         freeze(self, self.worker)
-        raised: list[WorkerStuck] = []
-
-        def stop() -> None:
-            try:
-                workers.stop(self.assignment)
-            except WorkerStuck as stuck:
-                raised.append(stuck)
-
         self.assertEqual((workers.stopping_seconds, workers.is_stuck, workers.about), (0.0, False, ''))
-        thread = threading.Thread(target=stop, daemon=True)
         with self.assertLogs('bully', 'ERROR') as said:
-            thread.start()
+            workers.ask_to_stop()
             wait_until(lambda: said.output)
         self.assertTrue(said.output[0].endswith(f'nothing is started here before they end: [{self.worker}]'), said.output)
         wait_until(lambda: workers.is_stuck)
-        self.assertTrue(thread.is_alive())
+        self.assertEqual((self.member.ends, self.member.stuck), ([], []))
         self.assertRegex(workers.about, '^; its worker has not stopped for [0-9.]+ s$')
         self.member.is_leaving = True
-        thread.join(PATIENCE)
-        self.assertEqual((len(raised), self.failures), (1, []))
+        wait_until(lambda: self.member.stuck)
+        self.assertEqual([type(each) for each in self.member.stuck], [WorkerStuck])
+        ending = threading.Thread(target=workers.end, daemon=True)
+        ending.start()
+        ending.join(PATIENCE)
+        self.assertEqual((ending.is_alive(), self.member.ends, self.failures), (False, [], []))
         closing = threading.Thread(target=workers.close, daemon=True)
         closing.start()
         closing.join(PATIENCE)
@@ -354,7 +353,7 @@ class Watchdogs(Below):
         workers.stop(assigned(0))
         self.assertIsInstance(self.failures[0], WatchdogLost)
 
-    def begin_unlisted(self, way: str) -> Workers:
+    def begin_unlisted(self, way: str) -> Timely:
         """A worker that has begun, and whose watchdog isn't told any more what is below it."""
         since = self.folder / 'since'
         with mock.patch.dict(os.environ, unlisted_from(self, self.folder, since)):
@@ -478,6 +477,30 @@ class Watchdogs(Below):
             workers.start(self.assignment)
             wait_until(lambda: self.lost)
         self.assertIn('with status 127', said.output[0])
+
+    def test_no_more_processes(self) -> None:
+        """Nothing of a worker that can't be started stays open."""
+        for talks in (False, True):
+            count = descriptors_of(os.getpid())
+            with mock.patch('os.fork', side_effect=BlockingIOError), self.assertRaises(watchdog.NotStarted):
+                watchdog.Worker(['sleep', '1000'], [], talks)
+            self.assertEqual(descriptors_of(os.getpid()), count)
+
+    def test_a_worker_that_is_not_seen(self) -> None:
+        """It has started, but can't be watched: then it isn't reported as one that ended, and the watchdog ends."""
+        mine, given = socket.socketpair(socket.AF_UNIX, socket.SOCK_SEQPACKET)
+        with mine, given:
+            rules, member = watchdog.Rules(1.0, False, 4.0, ['sleep', '1000']), watchdog.MemberWatchdog('', 4.0)
+            keeper = watchdog.Keeper(given, rules, member, clocks.nanoseconds_of_boot() + 1000 * clocks.SECOND)
+            self.addCleanup(os.close, keeper.timer)
+            before = set(children(os.getpid()))
+            with mock.patch('os.pidfd_open', side_effect=PermissionError), self.assertRaises(PermissionError):
+                keeper.begin(b'x 1', b'')
+            [worker] = set(children(os.getpid())) - before
+            os.kill(worker, signal.SIGKILL)
+            os.waitpid(worker, 0)
+            with self.assertRaises(BlockingIOError):
+                mine.recv(100, socket.MSG_DONTWAIT)
 
     def test_signals(self) -> None:
         """A worker begins as any process: no signal is ignored or held back that the watchdog, or Python, lets go by."""

@@ -19,6 +19,7 @@ import bully
 from bully import command, store_options
 from bully.epochs import Opening
 from bully.shared_log import Log, LogExists
+from bully.sqlite import SqliteLog
 from places import ROOT, environment
 from ..processes import children
 from .configurations import TOP, toml
@@ -98,18 +99,35 @@ class Inits(WithLog):
         said = 'bully-member: the log already exists, in epoch 1, and not in 2 or later\n'
         self.assertEqual(self.init('--if-missing', '--epoch', '2'), (3, '', said))
 
+    def test_rebalance(self) -> None:
+        """A group is eager unless something else is wanted; and stays what it is."""
+        cases: list[tuple[list[str], str, str]] = [
+            ([], 'eager', 'cooperative'), (['--rebalance', 'eager'], 'eager', 'cooperative'),
+            (['--rebalance', 'cooperative'], 'cooperative', 'eager'),
+        ]  # fmt: skip
+        for number, (words, way, other) in enumerate(cases):
+            self.log = f'sqlite:{self.folder}/{number}.db'
+            self.assertEqual(self.init(*words)[0], 0)
+            with contextlib.closing(SqliteLog(f'{self.folder}/{number}.db')) as log:
+                self.assertEqual(log.opening().is_cooperative, way == 'cooperative')
+            self.assertEqual(self.init('--if-missing'), (0, '', ''))
+            self.assertEqual(self.init('--if-missing', '--rebalance', way), (0, '', ''))
+            said = f'bully-member: --rebalance is {other}, and the log is {way}\n'
+            self.assertEqual(self.init('--if-missing', '--rebalance', other), (2, '', said))
+        self.assertEqual(self.init('--rebalance', 'both')[0], 2)
+
     def test_another_form(self) -> None:
         """No further try helps where something else is, or a log of another form."""
         self.assertEqual(self.init()[0], 0)
         with contextlib.closing(sqlite3.connect(self.path)) as file:
-            file.execute('pragma user_version = 2')
+            file.execute('pragma user_version = 3')
         for name, *words in (
             ['status'], ['run', '--node', 'b', '--', 'true'], ['init', '--config', str(self.config), '--if-missing'],
         ):  # fmt: skip
             with self.subTest(name=name):
                 status, said, told = call(name, '--log', self.log, *words)
                 self.assertEqual((status, said), (6, ''))
-                self.assertIn('a log of format 2, by an older version', told)
+                self.assertIn('a log of format 3, by an older version', told)
         self.path.write_text('something else')
         self.assertEqual(self.init('--if-missing')[0], 6)
 

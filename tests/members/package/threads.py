@@ -12,7 +12,7 @@ from bully.core import Promise, Session
 from bully.epochs import Opening, Token
 from bully.member import Member
 from bully.memory import MemoryLog
-from bully.shared_log import Log, Snapshot, Unanswered
+from bully.shared_log import Known, Log, Snapshot, Unanswered
 from ..steps import LONG
 from ..waiting import PATIENCE
 
@@ -69,9 +69,9 @@ class Noting(MemoryLog):
         super().__init__(opening)
         self.appends: list[int] = []
 
-    def append(self, epoch: int, offset: int, rows: Sequence[str]) -> bool:
+    def append(self, epoch: int, offset: int, rows: Sequence[str], known: Known | None = None) -> bool:
         self.appends.append(offset)
-        return super().append(epoch, offset, rows)
+        return super().append(epoch, offset, rows, known)
 
 
 class Threads(unittest.TestCase):
@@ -82,11 +82,14 @@ class Threads(unittest.TestCase):
     def begin(
         self, log: MemoryLog, node: int, ttl: float = 2.0, made: Callable[[Member], object] = id, **more: Any
     ) -> tuple[Member, list[str], threading.Thread]:
-        """A member that runs. `made` gets it before its callbacks may be called."""
+        """A member that runs. `made` gets it before its callbacks may be called. `work` are callbacks by partition, in
+        place of `start` and `stop`."""
         told: list[str] = []
-        start = more.pop('start', lambda assignment: told.append(f'start {assignment.token}'))
-        stop = more.pop('stop', lambda assignment: told.append(f'stop {assignment.token}'))
-        member = Member(log, node, start, stop, ttl=ttl, settings=log.opening().settings, **more)
+        whole: dict[str, Any] = {
+            'start': more.pop('start', lambda assignment: told.append(f'start {assignment.token}')),
+            'stop': more.pop('stop', lambda assignment: told.append(f'stop {assignment.token}')),
+        }
+        member = Member(log, node, ttl=ttl, settings=log.opening().settings, **more.pop('work', whole), **more)
         made(member)
         thread = threading.Thread(target=self.run_member, args=[member])
         thread.start()

@@ -97,6 +97,47 @@ class Waits(Tests):
             lambda: other.promise('1', A, Promise(1, 1)), lambda seconds: log.wait(1, 1, sessions, Until.ANY_IDLE, seconds)
         )
 
+    def test_idle_ones_keep_nothing(self) -> None:
+        """A live node that has promised the end of the log and keeps something isn't idle; once it keeps nothing it
+        is."""
+        for until in (Until.ANY_IDLE, Until.ALL_IDLE):
+            log, other = self.pair()
+            self.assertTrue(other.acquire('1', A, EMPTY, self.LONG) and other.append(1, 0, ['recover,1']))
+            sessions = log.snapshot(1, 0).sessions
+            for kept in ((0, 5), (5,)):
+                self.assertTrue(other.promise('1', A, Promise(1, 1), kept))
+                begun = time.monotonic()
+                log.wait(1, 1, sessions, until, 0.2)
+                self.assertGreaterEqual(time.monotonic(), begun + 0.2)
+            with self.subTest(until=until):
+                self.ends_by(
+                    lambda: other.promise('1', A, Promise(1, 1)),
+                    lambda seconds: log.wait(1, 1, sessions, until, seconds),
+                )
+
+    def test_other_promises(self) -> None:
+        """A wait for them ends with one of another offset, or that keeps something else; not with one that is known,
+        nor with a renewal."""
+        log, other = self.pair()
+        self.assertTrue(other.acquire('1', A, EMPTY, self.LONG) and other.acquire('2', B, EMPTY, self.LONG))
+        for promise, kept in ((Promise(1, 4), (1, 2)), (Promise(1, 4), (2,)), (Promise(1, 4), ()), (Promise(1, 5), ())):
+            sessions = log.snapshot(1, 0).sessions
+            later = threading.Timer(0.05, lambda: other.renew('2', B, self.LONG))
+            later.start()
+            begun = time.monotonic()
+            log.wait(1, 0, sessions, Until.PROMISES, 0.2)
+            took = time.monotonic() - begun
+            later.join()
+            self.assertGreaterEqual(took, 0.2)
+            with self.subTest(promise=promise, kept=kept):
+                self.ends_by(
+                    lambda: other.promise('2', B, promise, kept),
+                    lambda seconds: log.wait(1, 0, sessions, Until.PROMISES, seconds),
+                )
+                begun = time.monotonic()
+                log.wait(1, 0, sessions, Until.PROMISES, PATIENCE)
+                self.assertLess(time.monotonic(), begun + PATIENCE, 'it is so already')
+
     def test_promises_are_no_news(self) -> None:
         """A wait for less goes on. (It need not, but then each would wake all.)"""
         log, other = self.pair()

@@ -1,12 +1,14 @@
 //! How a member takes in the answers of the store, and what is reported to it of its work and its end.
 ghost use Rattle.std.specs.Prelude.{◌≡◌, None, Some, true};
-ghost use Rattle.bully_member.specs.Told.{answered, end_for, lost_by, renewed_by, acquired_by, to_end_session};
+ghost use Rattle.bully_member.specs.Due.{with_works};
+ghost use Rattle.bully_member.specs.Told.{answered, end_for, lost, renewed_by, acquired_by, stopped, stopped_on};
+ghost use Rattle.bully_member.specs.Told.{to_end_session};
 ghost use Rattle.bully_member.specs.Told.{to_snapshot, to_pause, when_answered, when_appended, when_rolled_over};
 ghost use Rattle.bully_member.specs.Told.{when_promised, when_released, when_renewed, when_acquired};
-ghost use Rattle.bully_member.specs.declared.values.Work.{Work as WorkState};
 
 use super::Member;
-use crate::values::{Asked, Ending, Promise, Request, SessionId, SessionState, StoreAnswer, Work};
+use crate::activities::{all_idle, any_working, end_all, end_one};
+use crate::values::{Asked, Ending, Promise, Request, SessionId, SessionState, StoreAnswer};
 
 impl Member {
     /// What became of the last request. Nothing changes if none is awaited. A `Snapshot` or a `Follow` whose result
@@ -59,6 +61,7 @@ impl Member {
                     epoch: self.terms.epoch,
                     offset,
                 };
+                self.is_exact = all_idle(&self.works);
             }
             StoreAnswer::Refused => {}
             StoreAnswer::Unanswered => {
@@ -98,6 +101,7 @@ impl Member {
                 epoch: self.terms.epoch,
                 offset,
             };
+            self.is_exact = self.is_asked_exact;
         } else {
             self.note_appended(now, answer);
         }
@@ -168,19 +172,40 @@ impl Member {
         }
     }
 
-    /// The work that was started by this token has ended outside the member.
+    /// All work has ended by itself. The token is that of the last `Step::Begin`, also for work that was started before.
+    /// Nothing changes with another one, or if the member works on nothing that it wasn't asked to stop.
     pub fn lost(&mut self, token: u32)
-        ensures { self.new ≡ record self.old { work = lost_by self.old.work token } }
+        ensures { self.new ≡ lost self.old token }
     {
-        if self.work == Work::Working(token) {
-            self.work = Work::Lost(token);
+        if token == self.token && any_working(&self.works) {
+            self.is_lost = true;
         }
     }
 
-    /// All work has ended.
+    /// All work has ended. Even if there was none, the member promises again before a change that affects it.
     pub fn stopped(&mut self)
-        ensures { self.new ≡ record self.old { work = WorkState.Idle } }
+        ensures { self.new ≡ stopped self.old }
     {
-        self.work = Work::Idle;
+        end_all(&mut self.works);
+        self.note_work_changed();
+        self.is_lost = false;
+    }
+
+    /// The work on this partition has ended, whether or not the member was asked to stop it. If the node still owns the
+    /// partition, the member begins again there. Even if there was no such work or partition, the member promises again
+    /// before a change that affects it.
+    pub fn stopped_on(&mut self, partition: u16)
+        ensures { self.new ≡ stopped_on self.old partition }
+    {
+        end_one(&mut self.works, partition);
+        self.note_work_changed();
+    }
+
+    // What a promise must keep has changed.
+    pub(super) fn note_work_changed(&mut self)
+        ensures { self.new ≡ with_works self.old self.old.works }
+    {
+        self.is_exact = false;
+        self.is_asked_exact = false;
     }
 }

@@ -1,9 +1,11 @@
 //! What a member learns of its epoch's log, and how it goes on in the next one.
-ghost use Rattle.std.specs.Prelude.{◌≡◌, ◌≤◌, IfErr, IfOk, List, None, OnOk, Some, [], true, false, replicate};
+ghost use Rattle.std.specs.Prelude.{◌≡◌, ◌≤◌, IfErr, IfOk, List, None, OnOk, Some, [], true, false, length, replicate};
+ghost use Rattle.bully_base.specs.declared.TheConstants.{PARTITIONS_MAX};
 ghost use Rattle.bully_member.specs.Learned.{RefusesTerms, after_learning, ending_behind, followed, in_epoch};
 ghost use Rattle.bully_member.specs.Learned.{is_broken, is_following, is_of_log, not_there};
 ghost use Rattle.bully_member.specs.Member.{nobody_yet};
 ghost use Rattle.bully_member.specs.Opening.{terms_fault};
+ghost use Rattle.bully_member.specs.declared.values.Activity.{Activity as ActivityState};
 ghost use Rattle.bully_replica.specs.RowReplica.{FollowsUpTo, Stops};
 ghost use Rattle.bully_rows.specs.Headers.{Record};
 ghost use Rattle.bully_rows.specs.declared.TheConstants.{ROWS_MAX};
@@ -11,8 +13,10 @@ ghost use Rattle.bully_member.specs.Told.{end_for, to_pause};
 ghost use Rattle.bully_member.specs.declared.values.Ending.{Ending as EndingState};
 
 use super::{Beginning, Member};
+use crate::activities::all_idle;
 use crate::opening::{MemberFault, Terms, terms_fault};
 use crate::values::{Asked, Ending, LastChange, Promise, Request};
+use bully_base::NodeSet;
 use bully_replica::{LearnFault, RowReplica};
 use bully_rows::{Header, RowReader, TraceCause};
 use std::alloc::Global;
@@ -38,6 +42,7 @@ impl Member {
     {
         let taken = self.learned.learn_all(alloc, reader);
         self.ending = ending_behind(self.ending, is_broken(&self.learned, &taken));
+        self.needs_snapshot = true;
         taken
     }
 
@@ -49,9 +54,9 @@ impl Member {
     }
 
     /// What the current epoch starts with: the member goes on there with its session, and has learned nothing of the
-    /// log. Nothing changes if no `Follow` is awaited. If the epoch is no later one than the member's, the member's
-    /// isn't over, and it reads a snapshot again after a pause. Refused, and then nothing changes, as the first of
-    /// these that holds: `BadNode`, `TableLength`, `BadRowsMax`, `OutOfMemory`.
+    /// log. Nothing changes if no `Follow` is awaited. If the epoch is no later one than the member's, or if the member
+    /// works on something, it stays in its epoch, and reads a snapshot again after a pause. Refused, and then nothing
+    /// changes, as the first of these that holds: `BadNode`, `TableLength`, `BadRowsMax`, `OutOfMemory`.
     pub fn followed(
         &mut self,
         alloc: Global,
@@ -70,7 +75,7 @@ impl Member {
         if !is_following(self.asked) {
             return Ok(());
         }
-        if terms.epoch <= self.terms.epoch {
+        if terms.epoch <= self.terms.epoch || !all_idle(&self.works) {
             self.stay_in_epoch(now);
             return Ok(());
         }
@@ -108,6 +113,9 @@ impl Member {
     fn begin_epoch(&mut self, alloc: Global, now: u64, beginning: Beginning, terms: Terms)
         requires fits { terms_fault beginning.learned.replica.world.setup terms ≡ None }
         requires nobody { beginning.arrivals.items ≡ replicate beginning.learned.replica.world.setup.nodes nobody_yet }
+        requires idle { beginning.works.items
+            ≡ replicate beginning.learned.replica.world.setup.partitions ActivityState.Idle }
+        requires few { length beginning.works.items ≤ PARTITIONS_MAX }
         ensures { self.new ≡ in_epoch self.old now beginning.learned terms }
     {
         self.learned = beginning.learned;
@@ -118,13 +126,18 @@ impl Member {
             epoch: 0,
             offset: 0,
         };
+        self.is_exact = false;
         self.leases = Vec::new(alloc);
+        self.group = NodeSet::new();
+        self.coming = None;
+        self.affected = NodeSet::new();
         self.has_unknown = false;
         self.has_request = false;
         self.needs_snapshot = true;
         self.last_change = LastChange { at: now, offset: 0 };
         self.is_past = false;
         self.has_closed = false;
+        self.works = beginning.works;
         self.asked = None;
     }
 }

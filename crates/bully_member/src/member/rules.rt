@@ -1,157 +1,299 @@
 //! What a member does next: the first rule of the table in docs/REBALANCING.md that applies.
-ghost use Rattle.std.specs.Prelude.{◌≡◌, ◌↔◌, ◌≤◌, IsTrue, Bool, None, length, Some};
+ghost use Rattle.std.specs.Prelude.{◌≡◌, ◌↔◌, ◌≤◌, ℕ, IsTrue, Bool, None, length, Some};
+ghost use Rattle.std.specs.List.{list_all, list_any};
+ghost use Rattle.std.specs.Option.{option_copied};
 ghost use Rattle.bully_base.specs.declared.TheConstants.{NODES_MAX};
-ghost use Rattle.bully_member.specs.Due.{absent_step, due, ending_step, going_step, goes_on, has_to_stop, idle_step};
-ghost use Rattle.bully_member.specs.Due.{is_due, is_some_token, leaving_step, session_step, noted, live_step};
-ghost use Rattle.bully_member.specs.Due.{stable_step, stable_wait, unstable_step, rebalance_left, step_by_work};
-ghost use Rattle.bully_member.specs.Due.{step_of_session, step_unless_awaiting, step_without_session, stopping_step};
-ghost use Rattle.bully_member.specs.Due.{acquiring_step, token_now};
-ghost use Rattle.bully_member.specs.Keeping.{Awaits, Keeps};
-ghost use Rattle.bully_member.specs.Member.{AllAreDown, SeesStable, above, all_idle, are_of, is_admitted, group_of};
-ghost use Rattle.bully_member.specs.Member.{has_room, here, is_alone, is_down, is_closing, most_idle, others_promise};
-ghost use Rattle.bully_member.specs.Member.{offset_in, offset_of, lease_of, live_of, replica_of, stay_left};
+ghost use Rattle.bully_member.specs.Due.{HasAll, HasAllOf, MayGoOn, Sees, absent_step, acquiring_step, ahead};
+ghost use Rattle.bully_member.specs.Due.{asked_for};
+ghost use Rattle.bully_member.specs.Due.{begun, change_step, due, ending_step, going_step, goes_on, goes_on_by, is_due};
+ghost use Rattle.bully_member.specs.Due.{admission_wait, is_admitted_since, is_outdated, is_to_come};
+ghost use Rattle.bully_member.specs.Due.{is_newcomer, last_table, leaving_step, live_step, live_stopping_step};
+ghost use Rattle.bully_member.specs.Due.{looks_ahead, noted, rebalance_left, session_step, stable_step};
+ghost use Rattle.bully_member.specs.Due.{step_by_work, step_of_session, step_unless_awaiting, step_without_session};
+ghost use Rattle.bully_member.specs.Due.{stopping, stopping_step, table_ahead, table_by, token_now, turn_step};
+ghost use Rattle.bully_member.specs.Due.{unstable_step, until_ready};
+ghost use Rattle.bully_member.specs.Keeping.{Awaits, Keeps, WorksOnlyIfSure};
+ghost use Rattle.bully_member.specs.Member.{AllAreDown, SeesStable, above, all_ready, are_of, closes, has_promised};
+ghost use Rattle.bully_member.specs.Member.{has_room};
+ghost use Rattle.bully_member.specs.Member.{heeded, heeds_promises, here, is_alone, is_closing, is_down, is_ready, is_ready_itself, lease_of};
+ghost use Rattle.bully_member.specs.Member.{most_promised, offset_in, replica_of, stay_left};
+ghost use Rattle.bully_member.specs.Told.{SeesIfFound};
+ghost use Rattle.bully_member.specs.Waiting.{WaitsFor};
+ghost use Rattle.bully_member.specs.declared.values.Sight.{Sight as SightState};
 ghost use Rattle.bully_member.specs.declared.values.Step.{Step as StepState};
+ghost use Rattle.bully_rebalance.specs.Leaving.{is_left};
 
 use super::Member;
+use crate::activities::{any_stopping, any_working, begin_all, stop_all_but, works_at};
 use crate::opening::REBALANCE_MAX;
 use crate::times::{
     awaiting_backoff, left, pause_left, paused_backoff, renewal_left, stopping_backoff, sure,
     turn_left,
 };
 use crate::values::{
-    Arrival, Asked, Ending, Lease, Promise, Request, SessionId, SessionState, Step, Until, Work,
+    Ahead, Arrival, Asked, Ending, Lease, Promise, Reason, Request, SessionId, SessionState, Sight,
+    Step, Until,
 };
 use bully_base::{NODES_MAX, Node, NodeSet, Status};
-use bully_rebalance::{is_stable, may_work};
+use bully_rebalance::{is_left, is_stable, may_work};
+use bully_table::Table;
 
 impl Member {
     /// What it does now: the first rule of docs/REBALANCING.md that applies. The member notes that it does this. As
     /// long as its last request isn't answered, it asks for nothing else: if no other call reports the answer,
     /// [`Member::answered`] must.
     pub fn next(&mut self, now: u64) -> Step
-        ensures due { (is_stable are_down : Bool) → (IsTrue is_stable ↔ SeesStable self.old now)
-            → (IsTrue are_down ↔ AllAreDown self.old) → result ≡ due self.old now is_stable are_down }
-        ensures noted { self.new ≡ noted self.old now result }
+        ensures due { (s : SightState) → Sees self.old now s → result ≡ due self.old now s }
+        ensures noted { (is_stable : Bool) → (IsTrue is_stable ↔ SeesStable self.old)
+            → self.new ≡ noted self.old now is_stable result }
         ensures keeps { Keeps self.old now result }
-        ensures awaits { Awaits self.old.asked result self.new.asked }
+        ensures waits { WaitsFor self.old now result }
+        ensures awaits { Awaits now self.old.asked result self.new.asked }
+        ensures stops { WorksOnlyIfSure self.old now self.new.works }
     {
-        let step = self.due(now, self.is_stable(now), self.are_down());
-        self.note(now, step);
+        let sight = self.sight(now);
+        let step = self.due(now, sight);
+        self.note(now, sight.is_stable, step);
         step
     }
 
+    // What it sees now.
+    fn sight(&self, now: u64) -> Sight
+        ensures sees { Sees self.now now result }
+        ensures ahead { SeesIfFound self.now }
+    {
+        let is_stable = self.is_stable();
+        Sight {
+            is_stable,
+            are_down: self.are_down(),
+            may_go_on: self.may_go_on(now, is_stable),
+            has_all: self.has_all(),
+        }
+    }
+
     // Notes that this is done now.
-    fn note(&mut self, now: u64, step: Step)
-        ensures { self.new ≡ noted self.old now step }
+    fn note(&mut self, now: u64, is_stable: bool, step: Step)
+        ensures { self.new ≡ noted self.old now is_stable step }
     {
         match step {
             Step::Ask(request) => self.note_request(now, request),
-            Step::Begin(token) => self.work = Work::Working(token),
-            Step::Stop => self.work = self.work.stopping(),
-            Step::Wait(..) | Step::BackOff(_) | Step::End(_) => {}
+            Step::Begin(token) => self.note_begun(token),
+            Step::Stop => self.note_stop(now, is_stable),
+            Step::Wait(..) | Step::BackOff(..) | Step::End(_) => {}
         }
     }
 
     // Notes that this is asked for now.
     fn note_request(&mut self, now: u64, request: Request)
-        ensures { self.new ≡ noted self.old now (StepState.Ask request) }
+        ensures { self.new ≡ asked_for self.old now request }
     {
         match request {
             Request::Acquire(session, offset) => {
                 self.tries = session.number;
                 self.promised = offset;
+                self.is_asked_exact = true;
             }
-            Request::Promise(_, offset) => self.promised = offset,
+            Request::Promise(_, offset) => {
+                self.promised = offset;
+                self.is_asked_exact = true;
+            }
             Request::Append(_) => self.has_closed = self.ending.is_some(),
             _ => {}
         }
         self.asked = Some(Asked { request, at: now });
     }
 
-    // What is due now, given whether the group is stable, and whether all nodes are Down.
-    fn due(&self, now: u64, is_stable: bool, are_down: bool) -> Step
-        ensures { result ≡ due self.now now is_stable are_down }
+    // Notes that it begins all that its node owns by this token.
+    fn note_begun(&mut self, token: u32)
+        ensures { self.new ≡ begun self.old token }
     {
-        if self.has_to_stop(now, is_stable) {
-            return Step::Stop;
-        }
-        self.step_unless_awaiting(now, is_stable, are_down)
+        let node = self.terms.node;
+        begin_all(&mut self.works, self.learned.replica().last_table(), node);
+        self.is_exact = false;
+        self.is_asked_exact = false;
+        self.is_lost = false;
+        self.token = token;
     }
 
-    // No work must stop.
-    fn step_unless_awaiting(&self, now: u64, is_stable: bool, are_down: bool) -> Step
-        ensures { result ≡ step_unless_awaiting self.now now is_stable are_down self.now.asked }
+    // Notes that it stops all that it may not go on with.
+    fn note_stop(&mut self, now: u64, is_stable: bool)
+        ensures { self.new ≡ stopping self.old (table_ahead self.old now is_stable) }
+    {
+        let ahead = self.ahead(now, is_stable);
+        let last = self.learned.replica().last_table();
+        let table = table_by(ahead, last, self.coming.as_ref());
+        stop_all_but(&mut self.works, table, self.terms.node);
+        self.is_lost = false;
+    }
+
+    // What is due now. Rule 1: it stops what it may not go on with.
+    fn due(&self, now: u64, s: Sight) -> Step
+        ensures { result ≡ due self.now now s }
+    {
+        if !s.may_go_on {
+            return Step::Stop;
+        }
+        self.step_unless_awaiting(now, s)
+    }
+
+    // Rule 2: no work must stop.
+    fn step_unless_awaiting(&self, now: u64, s: Sight) -> Step
+        ensures { result ≡ step_unless_awaiting self.now now s self.now.asked }
     {
         match self.asked {
-            Some(_) => Step::BackOff(awaiting_backoff(self.work, self.session, self.ttl, now)),
-            None => self.step_by_work(now, is_stable, are_down),
+            Some(_) => Step::BackOff(
+                awaiting_backoff(any_working(&self.works), self.session, self.ttl, now),
+                Reason::Answer,
+            ),
+            None => self.step_by_work(now, s),
         }
     }
 
     // No work must stop, and nothing is awaited.
-    fn step_by_work(&self, now: u64, is_stable: bool, are_down: bool) -> Step
-        ensures { result ≡ step_by_work self.now now is_stable are_down self.now.work }
+    fn step_by_work(&self, now: u64, s: Sight) -> Step
+        ensures { result ≡ step_by_work self.now now s }
     {
-        match self.work {
-            Work::Stopping(_) => self.stopping_step(now),
-            Work::Idle | Work::Working(_) | Work::Lost(_) => self.going_step(
-                now, is_stable, are_down,
-            ),
+        if any_stopping(&self.works) {
+            self.stopping_step(now)
+        } else {
+            self.going_step(now, s)
         }
     }
 
-    // Its work must end. Meanwhile the lease is renewed.
+    // Rule 3: some work must end. Meanwhile the lease is renewed.
     fn stopping_step(&self, now: u64) -> Step
         ensures { result ≡ stopping_step self.now now self.now.session }
     {
         match self.session {
-            SessionState::Live(session, _) => {
-                let backoff = stopping_backoff(self.session, self.ttl, now, self.paused);
-                if backoff == 0 {
-                    Step::Ask(Request::Renew(session))
-                } else {
-                    Step::BackOff(backoff)
-                }
+            SessionState::Live(session, _) => self.live_stopping_step(now, session),
+            SessionState::Absent | SessionState::Unknown(_) => {
+                Step::BackOff(self.ttl, Reason::Stop)
             }
-            SessionState::Absent | SessionState::Unknown(_) => Step::BackOff(self.ttl),
         }
     }
 
-    // Its work goes on, or it has none.
-    fn going_step(&self, now: u64, is_stable: bool, are_down: bool) -> Step
-        ensures { result ≡ going_step self.now now is_stable are_down }
+    fn live_stopping_step(&self, now: u64, session: SessionId) -> Step
+        ensures { result ≡ live_stopping_step self.now now session }
+    {
+        let backoff = stopping_backoff(
+            any_working(&self.works),
+            self.session,
+            self.ttl,
+            now,
+            self.paused,
+        );
+        if backoff == 0 {
+            return Step::Ask(Request::Renew(session));
+        }
+        if !self.looks_ahead(now) {
+            return Step::BackOff(backoff, Reason::Stop);
+        }
+        if self.needs_snapshot {
+            return Step::Ask(Request::Snapshot);
+        }
+        Step::Wait(
+            renewal_left(self.session, self.ttl, now),
+            Until::News,
+            Reason::Stop,
+        )
+    }
+
+    // Whether it reads a snapshot while some work must end, so that it finds what else it must stop.
+    fn looks_ahead(&self, now: u64) -> bool
+        ensures { result ≡ looks_ahead self.now now }
+    {
+        self.terms.is_cooperative && !self.is_past && !(0 < pause_left(self.paused, self.ttl, now))
+    }
+
+    // Rule 4: no work must end.
+    fn going_step(&self, now: u64, s: Sight) -> Step
+        ensures { result ≡ going_step self.now now s }
     {
         if 0 < pause_left(self.paused, self.ttl, now) {
-            return Step::BackOff(paused_backoff(
-                self.work,
+            let backoff = paused_backoff(
+                any_working(&self.works),
                 self.session,
                 self.ttl,
                 now,
                 self.paused,
-            ));
+            );
+            return Step::BackOff(backoff, Reason::Pause);
         }
-        self.session_step(now, is_stable, are_down)
+        self.session_step(now, s)
     }
 
-    fn has_to_stop(&self, now: u64, is_stable: bool) -> bool
-        ensures { result ≡ has_to_stop self.now now is_stable self.now.work }
+    // Whether it may go on with all that it works on, and wasn't asked to stop.
+    fn may_go_on(&self, now: u64, is_stable: bool) -> bool
+        ensures goes_on { IsTrue result ↔ MayGoOn self.now (table_ahead self.now now is_stable) }
+        ensures ahead { SeesIfFound self.now }
     {
-        match self.work {
-            Work::Lost(_) => true,
-            Work::Working(token) => !self.goes_on(now, is_stable, token),
-            Work::Idle | Work::Stopping(_) => false,
+        let last = self.learned.replica().last_table();
+        self.are_left(table_by(self.ahead(now, is_stable), last, self.coming.as_ref()))
+    }
+
+    // Whether this table, if there is one, leaves its node all that it works on, and wasn't asked to stop.
+    fn are_left(&self, table: Option<&Table>) -> bool
+        ensures { IsTrue result ↔ MayGoOn self.now (option_copied table.entry) }
+    {
+        for partition in 0..self.works.len() {
+            if works_at(&self.works, partition) && !is_left(table, self.terms.node, partition) {
+                return false;
+            }
+        }
+        true
+    }
+
+    // Which table says on what it may go on.
+    fn ahead(&self, now: u64, is_stable: bool) -> Ahead
+        ensures { result ≡ ahead self.now now is_stable }
+    {
+        if !self.goes_on(now) {
+            Ahead::Nothing
+        } else if !is_stable {
+            Ahead::Coming
+        } else if self.goes_on_by(self.token_now()) {
+            Ahead::Last
+        } else {
+            Ahead::Nothing
         }
     }
 
-    // Whether work by this token goes on.
-    fn goes_on(&self, now: u64, is_stable: bool, token: u32) -> bool
-        ensures { result ≡ goes_on self.now now is_stable token }
+    // Whether any work may go on.
+    fn goes_on(&self, now: u64) -> bool
+        ensures { result ≡ goes_on self.now now }
     {
-        sure(self.session, self.ttl, now)
-            && self.ending.is_none()
-            && !self.is_past
-            && is_stable
-            && is_some_token(self.token_now(), token)
+        sure(self.session, self.ttl, now) && self.ending.is_none() && !self.is_past && !self.is_lost
+    }
+
+    // Whether work goes on by the token of what the node owns.
+    fn goes_on_by(&self, token: Option<u32>) -> bool
+        ensures { result ≡ goes_on_by self.now token }
+    {
+        match token {
+            Some(token) => self.terms.is_cooperative || token == self.token,
+            None => false,
+        }
+    }
+
+    // Whether it works on all that the last plan gives its node.
+    fn has_all(&self) -> bool
+        ensures { IsTrue result ↔ HasAllOf self.now (last_table self.now) }
+    {
+        match self.learned.replica().last_table() {
+            Some(table) => self.works_on_all(table),
+            None => true,
+        }
+    }
+
+    fn works_on_all(&self, table: &Table) -> bool
+        ensures { IsTrue result ↔ HasAll self.now table.now }
+    {
+        for partition in 0..table.len() {
+            if table.owner(partition) == self.terms.node && !works_at(&self.works, partition) {
+                return false;
+            }
+        }
+        true
     }
 
     // The token by which it may work, if its node owns anything.
@@ -161,9 +303,9 @@ impl Member {
         may_work(self.learned.replica(), self.terms.node, self.promised)
     }
 
-    // No work must stop, and something may be asked for.
-    fn session_step(&self, now: u64, is_stable: bool, are_down: bool) -> Step
-        ensures { result ≡ session_step self.now now is_stable are_down self.now.session }
+    // Rules 5 to 7: no work must stop, and something may be asked for.
+    fn session_step(&self, now: u64, s: Sight) -> Step
+        ensures { result ≡ session_step self.now now s self.now.session }
     {
         match self.session {
             SessionState::Unknown(session) => Step::Ask(Request::Release(session)),
@@ -172,7 +314,7 @@ impl Member {
                 if self.is_due(now) {
                     Step::Ask(Request::Renew(session))
                 } else {
-                    self.step_of_session(now, is_stable, are_down, session)
+                    self.step_of_session(now, s, session)
                 }
             }
         }
@@ -196,12 +338,12 @@ impl Member {
         }
     }
 
-    fn step_of_session(&self, now: u64, is_stable: bool, are_down: bool, session: SessionId) -> Step
-        ensures { result ≡ step_of_session self.now now is_stable are_down session self.now.ending }
+    fn step_of_session(&self, now: u64, s: Sight, session: SessionId) -> Step
+        ensures { result ≡ step_of_session self.now now s session self.now.ending }
     {
         match self.ending {
-            Some(ending) => self.ending_step(now, are_down, session, ending),
-            None => self.live_step(now, is_stable, session),
+            Some(ending) => self.ending_step(now, s.are_down, session, ending),
+            None => self.live_step(now, s, session),
         }
     }
 
@@ -218,16 +360,16 @@ impl Member {
         self.acquiring_step(now)
     }
 
-    // By who holds the lease of its node: an earlier session of its own, which was acquired late; another process; or
-    // nobody.
+    // Rules 10 to 13, by who holds the lease of its node: an earlier session of its own, which was acquired late;
+    // another process; or nobody.
     fn acquiring_step(&self, now: u64) -> Step
         ensures { result ≡ acquiring_step self.now now (lease_of self.now.terms.node self.now.leases) }
     {
-        match self.own_lease().copied() {
+        match self.own_lease() {
             Some(lease) if lease.session.process == self.process => {
                 Step::Ask(Request::Release(lease.session))
             }
-            Some(_) => Step::Wait(self.ttl, Until::News),
+            Some(_) => Step::Wait(self.ttl, Until::News, Reason::Held),
             None => self.free_step(now),
         }
     }
@@ -238,7 +380,7 @@ impl Member {
     {
         let wait = self.rebalance_left(now);
         if 0 < wait {
-            return Step::Wait(wait, Until::News);
+            return Step::Wait(wait, Until::News, Reason::Rebalance);
         }
         let session = SessionId {
             process: self.process,
@@ -259,24 +401,53 @@ impl Member {
         }
     }
 
-    // It has its lease, and goes on.
-    fn live_step(&self, now: u64, is_stable: bool, session: SessionId) -> Step
-        ensures { result ≡ live_step self.now now is_stable session }
+    // Rules 8 and 15: it has its lease, and goes on.
+    fn live_step(&self, now: u64, s: Sight, session: SessionId) -> Step
+        ensures { result ≡ live_step self.now now s session }
     {
         if self.is_past {
             return Step::Ask(Request::Follow);
         }
-        if self.needs_snapshot {
+        if self.is_outdated(now) {
             return Step::Ask(Request::Snapshot);
         }
-        if is_stable {
-            self.stable_step(now)
+        if s.is_stable {
+            self.stable_step(now, s.has_all)
         } else {
             self.unstable_step(now, session)
         }
     }
 
-    // It ends, and still has its lease.
+    // Whether another snapshot is due: the last one is out of date, or a lease has been admitted since.
+    fn is_outdated(&self, now: u64) -> bool
+        ensures { result ≡ is_outdated self.now now }
+    {
+        self.needs_snapshot || self.is_one_admitted_since(now)
+    }
+
+    fn is_one_admitted_since(&self, now: u64) -> bool
+        ensures { result ≡ list_any (is_admitted_since self.now now) self.now.leases }
+    {
+        self.leases
+            .iter()
+            .any(|lease| self.is_admitted_since(now, lease))
+    }
+
+    // Whether a lease is admitted by now that wasn't when the last snapshot was read.
+    fn is_admitted_since(&self, now: u64, lease: &Lease) -> bool
+        ensures { result ≡ is_admitted_since self.now now lease.now }
+    {
+        self.is_to_come(lease) && self.stay_left(now, lease.node) == 0
+    }
+
+    // Whether a lease that wasn't admitted when the last snapshot was read will be, since its holder doesn't leave.
+    fn is_to_come(&self, lease: &Lease) -> bool
+        ensures { result ≡ is_to_come self.now lease.now }
+    {
+        !lease.is_leaving && !self.is_in_group(lease.node)
+    }
+
+    // Rules 14 and 15: it ends, and still has its lease.
     fn ending_step(&self, now: u64, are_down: bool, session: SessionId, ending: Ending) -> Step
         ensures { result ≡ ending_step self.now now are_down session ending }
     {
@@ -289,53 +460,62 @@ impl Member {
         self.leaving_step(are_down, session)
     }
 
-    // It was asked to leave: if it is the last one, it has all nodes crash before it goes.
+    // Rule 16: it was told to leave: if it is the last one, it has all nodes crash before it goes.
     fn leaving_step(&self, are_down: bool, session: SessionId) -> Step
         ensures { result ≡ leaving_step self.now are_down session }
     {
         if !(self.is_alone() && !are_down && self.has_room() && !self.has_closed) {
             return Step::Ask(Request::Release(session));
         }
-        if self.own == self.here() {
+        if self.has_promised() {
             Step::Ask(Request::Append(self.offset()))
         } else {
             Step::Ask(Request::Promise(session, self.offset()))
         }
     }
 
-    // The group is stable: it works on what its node owns.
-    fn stable_step(&self, now: u64) -> Step
-        ensures { result ≡ stable_step self.now now self.now.work (token_now self.now) }
+    // Rules 17 and 18: the group is stable, and it works on all that its node owns, by the last plan's token.
+    fn stable_step(&self, now: u64, has_all: bool) -> Step
+        ensures { result ≡ stable_step self.now now has_all (token_now self.now) }
     {
-        match (self.work, self.token_now()) {
-            (Work::Idle, Some(token)) => Step::Begin(token),
-            _ => Step::Wait(self.stable_wait(now), Until::AnyIdle),
+        match self.token_now() {
+            Some(token) if !(has_all && token == self.token) => Step::Begin(token),
+            _ => Step::Wait(self.admission_wait(now), Until::AnyIdle, Reason::Stable),
         }
     }
 
-    // The group isn't stable: it is idle, promises that, and waits for its turn.
+    // Rules 19 and 20: the group isn't stable.
     fn unstable_step(&self, now: u64, session: SessionId) -> Step
         ensures { result ≡ unstable_step self.now now session }
     {
-        if self.own != self.here() {
+        if self.is_newcomer() {
+            return Step::Wait(self.admission_wait(now), Until::News, Reason::Admission);
+        }
+        if !self.is_ready_itself() {
             return Step::Ask(Request::Promise(session, self.offset()));
         }
-        let turn = turn_left(self.above(), self.ttl, now, self.last_change.at);
-        if 0 < turn {
-            return Step::Wait(
-                renewal_left(self.session, self.ttl, now).min(turn),
-                Until::News,
-            );
-        }
-        self.idle_step(now)
+        self.turn_step(now)
     }
 
-    // It is its turn to roll the epoch over or to rebalance the group, once all are idle.
-    fn idle_step(&self, now: u64) -> Step
-        ensures { result ≡ idle_step self.now now }
+    // Rule 21: until its turn.
+    fn turn_step(&self, now: u64) -> Step
+        ensures { result ≡ turn_step self.now now }
     {
-        if !self.all_idle() {
-            return Step::Wait(renewal_left(self.session, self.ttl, now), Until::AllIdle);
+        let turn = turn_left(self.above(), self.ttl, now, self.last_change.at);
+        if 0 < turn {
+            let renewal = renewal_left(self.session, self.ttl, now);
+            return Step::Wait(renewal.min(turn), Until::News, Reason::Turn);
+        }
+        self.change_step(now)
+    }
+
+    // Rules 22 to 24: it is its turn to roll the epoch over or to rebalance the group, once all are ready.
+    fn change_step(&self, now: u64) -> Step
+        ensures { result ≡ change_step self.now now }
+    {
+        if !self.all_ready() {
+            let renewal = renewal_left(self.session, self.ttl, now);
+            return Step::Wait(renewal, self.until_ready(), Reason::Others);
         }
         if self.is_closing() {
             Step::Ask(Request::RollOver(self.offset()))
@@ -344,17 +524,33 @@ impl Member {
         }
     }
 
-    /// Whether the group is stable for the member, by its last snapshot: it is stable among the nodes that are admitted
-    /// now, by a plan at or after each offset that one of them has promised, and after all that the member's own
-    /// session has promised; and the epoch needn't roll over.
-    pub fn is_stable(&self, now: u64) -> bool
-        ensures { IsTrue result ↔ SeesStable self.now now }
+    // What ends the wait for the others.
+    fn until_ready(&self) -> Until
+        ensures { result ≡ until_ready self.now }
     {
-        is_stable(
-            self.learned.replica(),
-            &self.group(now),
-            self.most_idle(now),
-        ) && self.promised < self.learned.replica().token()
+        if self.terms.is_cooperative {
+            Until::Promises
+        } else {
+            Until::AllIdle
+        }
+    }
+
+    // Whether a cooperative group is rebalanced without it, since it isn't admitted yet.
+    fn is_newcomer(&self) -> bool
+        ensures { result ≡ is_newcomer self.now }
+    {
+        self.terms.is_cooperative && !self.is_in_group(self.terms.node)
+    }
+
+    /// Whether the group is stable for the member, by its last snapshot: it is stable among the nodes that were
+    /// admitted, by a plan after all that the member's own session has promised; and the epoch needn't roll over. In an
+    /// eager group, and for the highest live node of a cooperative one, the plan is at or after each offset that one of
+    /// the others has promised, too.
+    pub fn is_stable(&self) -> bool
+        ensures { IsTrue result ↔ SeesStable self.now }
+    {
+        is_stable(self.learned.replica(), &self.group, self.heeded())
+            && self.promised < self.learned.replica().token()
             && !self.is_closing()
     }
 
@@ -375,67 +571,55 @@ impl Member {
         }
     }
 
-    /// Which nodes of the group are live, as the last snapshot found.
-    pub fn live(&self) -> NodeSet
-        ensures { result ≡ live_of self.now.leases }
-    {
-        let mut live = NodeSet::new();
-        for lease in &self.leases {
-            live.insert(lease.node);
-        }
-        live
-    }
-
-    /// Which live nodes are admitted now: those that are up in the log, and those whose session has stayed long enough.
-    pub fn group(&self, now: u64) -> NodeSet
-        ensures { result ≡ group_of self.now now }
-    {
-        let mut group = NodeSet::new();
-        for lease in &self.leases {
-            if self.is_admitted(now, *lease) {
-                group.insert(lease.node);
-            }
-        }
-        group
-    }
-
-    // Whether a lease is admitted.
-    fn is_admitted(&self, now: u64, lease: Lease) -> bool
-        ensures { result ≡ is_admitted self.now now lease }
-    {
-        !self.is_down(lease.node) || stay_left(&self.arrivals, now, lease.node) == 0
-    }
-
     // Whether a node is Down, or none of the group's.
-    fn is_down(&self, node: Node) -> bool
+    pub(super) fn is_down(&self, node: Node) -> bool
         ensures { result ≡ is_down self.now node }
     {
         let world = self.learned.replica().world();
         world.setup().nodes() < node.number() || world.vector(node).status() == Status::Down
     }
 
-    // The highest offset of this epoch up to which an admitted session is idle, or the member's own.
-    fn most_idle(&self, now: u64) -> u32
-        ensures { result ≡ most_idle self.now now }
+    // Whether it goes by what others have promised when it finds whether the group is stable: in a cooperative group
+    // only the highest live node does, whose turn comes first.
+    fn heeds_promises(&self) -> bool
+        ensures { result ≡ heeds_promises self.now }
+    {
+        !self.terms.is_cooperative || self.above() == 0
+    }
+
+    // The offset after which the last plan must be in a stable group.
+    fn heeded(&self) -> u32
+        ensures { result ≡ heeded self.now }
+    {
+        if self.heeds_promises() {
+            self.most_promised()
+        } else {
+            offset_in(self.terms.epoch, self.own)
+        }
+    }
+
+    // The highest offset of this epoch that a session of the group has promised, or the member's own.
+    fn most_promised(&self) -> u32
+        ensures { result ≡ most_promised self.now }
     {
         let epoch = self.terms.epoch;
         self.leases
             .iter()
-            .filter(|lease| self.is_admitted(now, **lease))
+            .filter(|lease| self.is_in_group(lease.node))
             .fold(offset_in(epoch, self.own), |most, lease| {
                 most.max(offset_in(epoch, lease.promise))
             })
     }
 
-    // How long it waits while the group is stable: until the next renewal is due, or one more lease is admitted.
-    fn stable_wait(&self, now: u64) -> u64
-        ensures { result ≡ stable_wait self.now now }
+    // How long it waits while nothing is new: until the next renewal is due, or one more lease is admitted.
+    fn admission_wait(&self, now: u64) -> u64
+        ensures { result ≡ admission_wait self.now now }
     {
         self.leases
             .iter()
-            .filter(|lease| !self.is_admitted(now, **lease))
+            .filter(|lease| self.is_to_come(lease))
             .fold(renewal_left(self.session, self.ttl, now), |least, lease| {
-                least.min(stay_left(&self.arrivals, now, lease.node))
+                least.min(self.stay_left(now, lease.node))
             })
     }
 
@@ -451,15 +635,66 @@ impl Member {
     fn is_closing(&self) -> bool
         ensures { result ≡ is_closing self.now }
     {
-        self.has_request || !self.has_room()
+        self.closes(self.has_request)
     }
 
-    // Whether all holders of leases are idle up to the log's end.
-    fn all_idle(&self) -> bool
-        ensures { result ≡ all_idle self.now }
+    // ... if other settings are requested or not.
+    pub(super) fn closes(&self, has_request: bool) -> bool
+        ensures { result ≡ closes (replica_of self.now) self.now.terms has_request }
     {
-        let here = self.here();
-        !self.has_unknown && self.own == here && others_promise(&self.leases, self.terms.node, here)
+        has_request || !self.has_room()
+    }
+
+    // Whether the store is known to have its promise of the log's end, keeping exactly what it works on.
+    fn has_promised(&self) -> bool
+        ensures { result ≡ has_promised self.now }
+    {
+        self.own == self.here() && self.is_exact
+    }
+
+    // Whether a change may be made as far as it affects the member itself.
+    fn is_ready_itself(&self) -> bool
+        ensures { result ≡ is_ready_itself self.now }
+    {
+        !self.is_affected(self.terms.node) || self.has_promised()
+    }
+
+    // Whether a change may be made.
+    fn all_ready(&self) -> bool
+        ensures { result ≡ all_ready self.now }
+    {
+        (self.terms.is_cooperative || !self.has_unknown)
+            && self.is_ready_itself()
+            && self.others_ready()
+    }
+
+    fn others_ready(&self) -> bool
+        ensures { result ≡ list_all (is_ready self.now) self.now.leases }
+    {
+        self.leases.iter().all(|lease| self.is_ready(lease))
+    }
+
+    // Whether a change may be made as far as it affects the holder of this lease.
+    fn is_ready(&self, lease: &Lease) -> bool
+        ensures { result ≡ is_ready self.now lease.now }
+    {
+        lease.node == self.terms.node
+            || !self.is_affected(lease.node)
+            || (lease.promise == self.here() && self.is_left_to(lease.node, lease.kept.as_slice()))
+    }
+
+    // Whether the coming table leaves the node what it keeps.
+    fn is_left_to(&self, node: Node, kept: &[u16]) -> bool
+        ensures { result ≡ list_all (is_left self.now.coming node) kept.now }
+    {
+        kept.iter().all(|partition| is_left(self.coming.as_ref(), node, usize::from(*partition)))
+    }
+
+    // How much longer the session that holds the lease of a node must stay until it is admitted.
+    pub(super) fn stay_left(&self, now: u64, node: Node) -> u64
+        ensures { result ≡ stay_left self.now.arrivals now node }
+    {
+        stay_left(&self.arrivals, now, node)
     }
 
     // Whether nobody else holds a lease.
@@ -480,13 +715,18 @@ impl Member {
     }
 }
 
-// Whether it is this token.
-fn is_some_token(token: Option<u32>, by: u32) -> bool
-    ensures { result ≡ is_some_token token by }
+// The table that this names.
+fn table_by<'a>(
+    ahead: Ahead,
+    last: Option<&'a Table>,
+    coming: Option<&'a Table>,
+) -> Option<&'a Table>
+    ensures { option_copied result ≡ table_by ahead (option_copied last.entry) (option_copied coming.entry) }
 {
-    match token {
-        Some(token) => token == by,
-        None => false,
+    match ahead {
+        Ahead::Nothing => None,
+        Ahead::Last => last,
+        Ahead::Coming => coming,
     }
 }
 
@@ -499,15 +739,6 @@ pub(super) fn offset_in(epoch: u32, promise: Promise) -> u32
     } else {
         0
     }
-}
-
-// Whether all leases but those of this node have this promise.
-fn others_promise(leases: &[Lease], node: Node, promise: Promise) -> bool
-    ensures { result ≡ others_promise node promise leases.now }
-{
-    leases
-        .iter()
-        .all(|lease| lease.node == node || lease.promise == promise)
 }
 
 // Whether all leases are of this node.

@@ -1,7 +1,0 @@
-use Rattle.std.proofs.Common.{◌≡◌, take}
-use Rattle.bully_member.proofs.member.Member.live.Given as goal
-use Rattle.bully_member.specs.Member.{live_of}
-
--- the set has the nodes so far
-abbrev pub invariant-loop-lease : goal.invariant-loop-lease
-invariant-loop-lease l = l.live ≡ live_of (take l.lease-index l.self.leases)
