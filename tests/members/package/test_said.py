@@ -4,6 +4,7 @@ from __future__ import annotations
 import contextlib
 import logging
 import os
+import re
 import socket
 import threading
 import unittest
@@ -20,6 +21,8 @@ from ..steps import OPENING
 from ..waiting import PATIENCE, wait_until
 from .folders import InFolder
 
+LEFT_OUT = r' bully-member: (\d+) messages were left out, because nobody read them$'
+
 
 class Said(unittest.TestCase):
     """What is said on standard error."""
@@ -29,8 +32,8 @@ class Said(unittest.TestCase):
             logger.info('number %d', number)
 
     def test_left_out(self) -> None:
-        """While nobody reads some messages find room, and the others are counted: the next message reports that, or the
-        end does. All else is written, also if the pipe is one that doesn't block."""
+        """While nobody reads some messages find room, and the others are counted: the next message that finds room
+        reports that, or the end does. All else is written, also if the pipe is one that doesn't block."""
         for blocks, ends in ((True, False), (False, False), (True, True)):
             with self.subTest(blocks=blocks, ends=ends):
                 self.leave_out(blocks, ends)
@@ -54,15 +57,21 @@ class Said(unittest.TestCase):
             said.close()
             os.close(writes)
             reader.join()
-        *lines, told = texts[0].splitlines()
-        if not ends:
-            self.assertRegex(told, ' bully-member: the last one$')
-            told = lines.pop()
-        self.assertEqual(
-            [line.rpartition('number ')[2] for line in lines], [str(number) for number in range(len(lines))]
-        )
+        *lines, last = texts[0].splitlines()
+        if ends:
+            lines.append(last)
+        else:
+            self.assertRegex(last, ' bully-member: the last one$')
+        self.assertRegex(lines[-1], LEFT_OUT)
+        numbers = 0  # of messages that were written, or reported as left out
+        for line in lines:
+            if found := re.search(LEFT_OUT, line):
+                numbers += int(found[1])
+            else:
+                self.assertRegex(line, f' bully-member: number {numbers}$')
+                numbers += 1
+        self.assertEqual(numbers, 1500)
         self.assertGreaterEqual(len(lines), messages.WAITING_MAX)
-        self.assertRegex(told, f' bully-member: {1500 - len(lines)} messages were left out, because nobody read them$')
 
     def test_one_line(self) -> None:
         """What can't be printed of a name or a path in it ends no line, and turns nothing."""
