@@ -47,6 +47,7 @@ def calls_with(meant: Meant) -> list[tuple[int, str, Callable[[Log], object]]]:
     """Each call of a log: how often it is made compared with the others, its name, and the call."""
     name, session, here, kept, affected, _, rows, requested, opening, maintenance, known, gave_up, other, its = meant
     epoch, offset, many, some = here.epoch, here.offset, 8, 4
+    alone = name if len(kept) % 2 else None  # whose promise a snapshot has
     return [
         (some, f'acquire {name} {session} {here}', lambda log: log.acquire(name, session, here, LONG)),
         (2, f'renew {name} {session}', lambda log: log.renew(name, session, LONG)),
@@ -60,7 +61,9 @@ def calls_with(meant: Meant) -> list[tuple[int, str, Callable[[Log], object]]]:
         (some, f'roll_over {here} {opening} {affected}', lambda log: by_member(
             log, here, lambda seen: log.roll_over(epoch, offset, opening, seen._replace(affected=affected))
         )),
-        (some, f'snapshot {here}', lambda log: (plain_snapshot(log, epoch, offset), dict(log.snapshot(0, 0).failing))),
+        (some, f'snapshot {here} {alone}', lambda log: (
+            plain_snapshot(log, epoch, offset, alone), dict(log.snapshot(0, 0, alone).failing)
+        )),
         (1, f'read {here}', lambda log: list(log.read(epoch, offset))),
         (1, f'ask {requested} {epoch}', lambda log: log.ask(requested, epoch)),
         (1, f'cancel {epoch}', lambda log: log.cancel(epoch)),

@@ -98,7 +98,7 @@ class Member:
             self.ask(step)
         elif isinstance(step, Wait):
             self.awaited = self.waits(step)
-            self.later(step.at_most, self.wake)
+            self.later(0 if self.lacks_promises() else step.at_most, self.wake)
             self.simulation.tell(self)
         elif isinstance(step, BackOff):
             self.later(step.at_most, self.go)
@@ -111,6 +111,10 @@ class Member:
     def waits(self, wait: Wait) -> Wait:
         """What it waits for at the store."""
         return wait
+
+    def lacks_promises(self) -> bool:
+        """Whether its last snapshot left out promises that it needs now, so that it reads another one."""
+        return False
 
     def wake(self) -> None:
         self.awaited = None

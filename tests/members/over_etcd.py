@@ -15,7 +15,7 @@ from bully.clocks import SECOND
 from bully.core import Ask, Promise, Request as Asked, Until, Wait
 from bully.encoding import maintenance_of, session_of, unpacked
 from bully.epochs import FIRST, Opening
-from bully.etcd import FEW, WATCH_AGAIN, offset_of, promise_of
+from bully.etcd import WATCH_AGAIN, Part, offset_of, promise_of
 from bully.etcd_client import Json, Silent, behind
 from bully.maintenance import Maintenance
 from bully.settings import Settings
@@ -303,7 +303,7 @@ class Watched(EtcdMember):
     def hear(self, wait: Wait) -> bool:
         """Whether there is what it waits for, once what is due has been reported."""
         now, log = self.simulation.now, self.kept
-        is_wide = wait.until is not Until.NEWS or len(log._news.sessions) <= FEW
+        is_wide = log._is_wide_for(wait.until, len(log._news.sessions))
         if self.watch is None or self.watch.is_wide != is_wide:
             if now < self.broken + int(WATCH_AGAIN * SECOND):
                 return False
@@ -316,8 +316,9 @@ class Watched(EtcdMember):
     def begin_watch(self, log: KeptLog, is_wide: bool) -> None:
         """After what is known, which is read anew if it isn't fresh."""
         self.simulation.happened['a watch begins anew'] += 1
-        if not log._news.is_fresh:
-            log._see_all(log._look(*log._keys.standing(0)), 0)
+        if not log._news.is_known(is_wide):
+            part = Part(promise_of=None if is_wide else shared_log.NOBODY)
+            log._see_all(log._look(*log._keys.standing(part)), part)
         begin, end = interval(log._keys.watched(is_wide))
         assert end is not None
         self.watch = Subscription(is_wide, begin, end)

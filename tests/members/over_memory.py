@@ -11,7 +11,7 @@ from dataclasses import replace
 from functools import partial
 
 from bully import Status, operations, shared_log
-from bully.adapter import Requester, awaited, known_of, note_leaving, seen_of
+from bully.adapter import Leases, Requester, awaited, known_of, needs_promises, note_leaving, seen_of
 from bully.core import Ask, Ending, Promise, Request, Seen, Session, Wait
 from bully.epochs import FIRST, Opening
 from bully.maintenance import Maintenance
@@ -27,6 +27,7 @@ from .trouble import Trouble
 
 CHANGES = {Request.APPEND: 'an append', Request.ROLL_OVER: 'the end of an epoch'}
 NEVER = 2**63  # nanoseconds
+NOTHING = shared_log.Snapshot(0, (), {}, None)  # what a member has found at first
 TROUBLES_OF_MAINTENANCE = [
     'a node is drained', 'a drained node comes back', 'a group is paused',
     'members work on in a pause beside one that is gone', 'a change is finished in a pause',
@@ -72,7 +73,7 @@ class LogMember(Member):
 
     def __init__(self, simulation: Simulation, name: str, number: int, opening: Opening) -> None:
         super().__init__(simulation, name, number, opening)
-        self.log = self.opened()
+        self.log, self.leases = self.opened(), Leases()
 
     def opened(self) -> shared_log.Log:
         """The log that it asks."""
@@ -83,8 +84,9 @@ class LogMember(Member):
         """The call of the package's own driver, and what is noted of it here."""
         rules, lease, known = self.rules, self.simulation.lease, self.known() if ask.request in CHANGES else None
         requester = Requester(
-            self.log, self.name, self.opening, self.offset, lease, rules.rebalance, self.after, rules.works, lambda: known
-        )
+            self.log, self.name, self.opening, self.offset, lease, self.needs_promises(), rules.rebalance, self.after,
+            rules.works, lambda: known,
+        )  # fmt: skip
         call = requester.call(ask)
         if ask.request not in CHANGES:
             return call
@@ -130,7 +132,8 @@ class LogMember(Member):
     def see(self, told: shared_log.Snapshot) -> None:
         end = Promise(self.epoch, self.offset)
         numbers = {name: number for number, name in enumerate(self.opening.names, 1)}
-        self.seen = seen_of(told, end, self.name, numbers, self.is_up)
+        self.simulation.happened['a snapshot leaves out promises'] += not told.has_promises
+        self.seen = seen_of(told, end, self.name, numbers, self.is_up, self.leases)
         self.is_frozen = told.epoch == self.epoch and told.is_frozen(end)
         if self.opening.is_cooperative and self.rules.fault is None:
             self.expected.snapshot_read(self.simulation.now, told.rows, self.seen)
@@ -145,7 +148,18 @@ class LogMember(Member):
         return self.rules.state(number).status is not Status.DOWN
 
     def waits(self, wait: Wait) -> Wait:
-        return replace(wait, until=awaited(wait.until, self.seen))
+        return replace(wait, until=awaited(wait.until, self.seen, self.needs_promises()))
+
+    def needs_promises(self) -> bool:
+        """Whether its rules must be shown what others have promised."""
+        told = NOTHING if self.found is None else self.found.told
+        return needs_promises(self.rules, told, self.simulation.now)
+
+    def lacks_promises(self) -> bool:
+        assert self.found is not None
+        lacks = self.needs_promises() and not self.found.told.has_promises
+        self.simulation.happened['a member reads the promises that a snapshot left out'] += lacks
+        return lacks
 
     def stop(self) -> None:
         super().stop()

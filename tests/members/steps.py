@@ -29,9 +29,10 @@ def live(log: Log) -> dict[str, Holder]:
     return dict(log.snapshot(1, 0).holders)
 
 
-def plain_snapshot(log: Log, epoch: int, offset: int) -> object:
-    """What a snapshot finds, as plain values."""
-    found = log.snapshot(epoch, offset)
+def plain_snapshot(log: Log, epoch: int, offset: int, promise_of: str | None = None) -> object:
+    """What a snapshot finds, as plain values: with all promises, or with that of this holder alone."""
+    found = log.snapshot(epoch, offset, promise_of)
+    assert found.has_promises == (promise_of is None or found.maintenance.is_paused)
     return found.epoch, list(found.rows), dict(found.holders), found.requested, found.maintenance
 
 

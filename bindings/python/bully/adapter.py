@@ -7,6 +7,7 @@ from __future__ import annotations
 
 from collections.abc import Callable, Container, Iterable, Mapping, Sequence
 from dataclasses import dataclass
+from operator import attrgetter
 from typing import Union
 
 from .core import Ask, Core, CoreOpening, Lease, Promise, Request, Seen, Session, Until
@@ -22,15 +23,16 @@ Result = Union[bool, Snapshot, Opening]  # what a call of the log returns
 @dataclass(frozen=True)
 class Requester:
     """Makes a member's requests to its log. It has the log; the name of the member's node; its epoch, and how many rows
-    of that it has learned; for how long a lease is acquired; and functions for the rows of a rebalance and for the
-    opening of the next epoch, by what was learned; for the partitions that a promise keeps; and for what a change
-    compares of leases (`known_of`)."""
+    of that it has learned; for how long a lease is acquired; whether a snapshot must show all promises
+    (`needs_promises`); and functions for the rows of a rebalance and for the opening of the next epoch, by what was
+    learned; for the partitions that a promise keeps; and for what a change compares of leases (`known_of`)."""
 
     log: Log
     name: str
     opening: Opening
     offset: int
     ttl: Callable[[], int]
+    needs_promises: bool
     rebalance: Callable[[], Sequence[str]]
     after: Callable[[], Opening]
     works: Callable[[], tuple[int, ...]]
@@ -40,7 +42,8 @@ class Requester:
         """The call of the log for this request. It uses what is known now, whenever it runs."""
         log, name, session, here = self.log, self.name, ask.session, Promise(self.opening.epoch, ask.offset)
         if ask.request is Request.SNAPSHOT:
-            return lambda: log.snapshot(here.epoch, self.offset)
+            alone = None if self.needs_promises else name
+            return lambda: log.snapshot(here.epoch, self.offset, alone)
         if ask.request is Request.FOLLOW:
             return log.opening
         if ask.request is Request.ACQUIRE:
@@ -68,6 +71,12 @@ class Requester:
         return True
 
 
+def needs_promises(core: Core, found: Snapshot, now: int) -> bool:
+    """Whether the core must be shown what others have promised, after this snapshot, which it was shown last. In a
+    pause each member must (`Snapshot.is_frozen`)."""
+    return found.maintenance.is_paused or core.needs_promises(now)
+
+
 def known_of(core: Core, opening: Opening, found: Snapshot, name: str, own: Holder | None) -> Known | None:
     """What a change that the core asks for compares of leases: all, in an eager group, or if the member ends. The
     snapshot is the last one that the core was shown; `own` is what its session, for the node of this name, was last
@@ -87,17 +96,45 @@ def core_opening_of(opening: Opening, node: int) -> CoreOpening:
     return CoreOpening(opening.header, opening.epoch, node, opening.limit, table, opening.is_cooperative)
 
 
-def leases_of(
-    holders: Mapping[str, Holder], numbers: Mapping[str, int], leaving: Container[str] = ()
-) -> tuple[Lease, ...]:  # fmt: skip
-    """The leases of nodes of the group, in rising order of the nodes. The nodes of these names are known to leave."""
-    return tuple(sorted(
-        Lease(numbers[name], holder.session, holder.promise, holder.kept, name in leaving)
-        for name, holder in holders.items() if name in numbers
-    ))  # fmt: skip
+class Leases:
+    """Makes the leases that a core is shown. A lease is the same object as before if its holder is, and so are all of
+    them together."""
+
+    def __init__(self) -> None:
+        self._made: dict[str, tuple[Holder, Lease]] = {}  # the last ones, by name
+        self._of: tuple[Mapping[str, Holder], Mapping[str, int], Container[str]] = {}, {}, ()  # of which holders
+        self._last: tuple[Lease, ...] = ()
+
+    def of(
+        self, holders: Mapping[str, Holder], numbers: Mapping[str, int], leaving: Container[str] = ()
+    ) -> tuple[Lease, ...]:  # fmt: skip
+        """The leases of nodes of the group, in rising order of the nodes. The nodes of these names are known to
+        leave."""
+        last_holders, last_numbers, last_leaving = self._of
+        if holders is last_holders and numbers is last_numbers and leaving == last_leaving:
+            return self._last
+        there = [(name, holder, numbers[name]) for name, holder in holders.items() if name in numbers]
+        self._made = {name: (holder, self._lease(name, holder, node, name in leaving)) for name, holder, node in there}
+        self._of = holders, numbers, leaving
+        self._last = tuple(sorted((lease for _, lease in self._made.values()), key=attrgetter('node')))
+        return self._last
+
+    def _lease(self, name: str, holder: Holder, node: int, is_leaving: bool) -> Lease:
+        before, lease = self._made.get(name, (None, None))
+        if lease is not None and before is holder and (lease.node, lease.is_leaving) == (node, is_leaving):
+            return lease
+        return Lease(node, holder.session, holder.promise, holder.kept, is_leaving)
 
 
-def seen_of(found: Snapshot, end: Promise, name: str, numbers: Mapping[str, int], is_up: Callable[[int], bool]) -> Seen:
+def leases_of(holders: Mapping[str, Holder], numbers: Mapping[str, int]) -> tuple[Lease, ...]:
+    """The leases of nodes of the group, in rising order of the nodes."""
+    return Leases().of(holders, numbers)
+
+
+def seen_of(
+    found: Snapshot, end: Promise, name: str, numbers: Mapping[str, int], is_up: Callable[[int], bool],
+    leases: Leases | None = None,
+) -> Seen:  # fmt: skip
     """What the core is shown of a snapshot. The log ends at `end` for the core, which acts for the node of this name;
     `numbers` has the numbers of all names, and `is_up` says which numbers are up in the log. During a pause the core is
     shown an unknown process, for which it waits in an eager group. Its own lease is shown as that of a session that
@@ -107,14 +144,17 @@ def seen_of(found: Snapshot, end: Promise, name: str, numbers: Mapping[str, int]
     up = [each for each, number in numbers.items() if is_up(number)] if is_frozen else []
     holders = frozen(found, name, up) if is_frozen else found.holders
     was_there = name in up and found.sessions.get(name) == (found.maintenance.sessions or {}).get(name)
-    there = leases_of(holders, numbers, known_to_leave(found) - {name} | ({name} if is_frozen and not was_there else set()))
+    leaving = known_to_leave(found) - {name} | ({name} if is_frozen and not was_there else set())
+    there = (leases or Leases()).of(holders, numbers, leaving)
     has_unknown, has_request = is_frozen or len(there) < len(holders), found.requested is not None and not is_frozen
     return Seen(found.epoch, there, has_unknown, has_request)
 
 
 def known_to_leave(found: Snapshot) -> set[str]:
     """The nodes whose holders are known to leave."""
-    return {each for each, session in found.sessions.items() if found.maintenance.is_known_to_leave(each, session)}
+    maintenance, holders = found.maintenance, found.holders
+    maybe = holders.keys() & (maintenance.drained | maintenance.leaving.keys())
+    return {each for each in maybe if maintenance.is_known_to_leave(each, holders[each].session)}
 
 
 def note_leaving(log: Log, name: str, session: Session) -> None:
@@ -138,6 +178,8 @@ def frozen(found: Snapshot, name: str, up: Iterable[str]) -> dict[str, Holder]:
     return {**shown, **{each: holder for each, holder in found.holders.items() if each == name}}
 
 
-def awaited(until: Until, seen: Seen) -> Until:
-    """What a wait is for, after a snapshot that showed this: an unknown process must go before all can be idle."""
-    return Until.NEWS if until is Until.ALL_IDLE and seen.has_unknown else until
+def awaited(until: Until, seen: Seen, needs_promises: bool) -> Until:
+    """What a wait is for, after a snapshot that showed this, if the core needs promises or doesn't: an unknown process
+    must go before all can be idle."""
+    is_in_vain = until is Until.ALL_IDLE and seen.has_unknown
+    return Until.NEWS if is_in_vain or not needs_promises else until

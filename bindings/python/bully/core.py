@@ -244,6 +244,7 @@ class Work:
 
 RAW_LEASE = STRUCTURES['bully_lease']
 _ENDINGS, _UNTILS, _WAYS, _ANSWERS = list(Ending), list(Until), list(Way), list(StoreAnswer)
+_ACTIVITIES = list(Activity)  # these have numbers from 0 on
 
 _STEPS: dict[int, Callable[[ctypes.Structure], Step]] = {
     1: lambda raw: Ask(Request(raw.request), Session(raw.process, raw.number), raw.offset),
@@ -284,6 +285,9 @@ class Core(Learned):
         EVENTS_MAX; BadTtl: the ttl is below TTL_MIN or above TTL_MAX; OutOfMemory."""
         super().__init__()
         self.fault: BullyError | None = None  # why its log is broken, if it has a row that wasn't learned
+        self._made: dict[int, tuple[Lease, ctypes.Structure]] = {}  # the leases of the last snapshot, by their `id`
+        self._last: tuple[Lease, ...] = ()
+        self._raws: ctypes.Array[ctypes.Structure] = (RAW_LEASE * 0)()  # the same for the library
         number, length = number_of('a process', process, UINT64_MAX), number_of('a ttl', ttl, UINT64_MAX)
         self._begin('open', *self._epoch_of(opening), number, length)
 
@@ -331,7 +335,7 @@ class Core(Learned):
 
     def activities(self) -> list[Activity]:
         """What its process does on each partition, from partition 0 on."""
-        return [Activity(number) for number in list_of(self._partitions, self._function('activities'))]
+        return [_ACTIVITIES[number] for number in list_of(self._partitions, self._function('activities'))]
 
     def works(self) -> tuple[int, ...]:
         """The partitions on which its process works, in rising order, also those that it was asked to stop: what a
@@ -377,10 +381,18 @@ class Core(Learned):
 
         Raises BadNode; OutOfMemory, and then nothing changes, or the member reads another one after a pause."""
         count, epoch = len(seen.leases), number_of('an epoch', seen.epoch, UINT32_MAX)
-        leases = (RAW_LEASE * count)(*map(_raw_lease, seen.leases))
+        leases = self._raw_leases(seen.leases)
         kept = numbers_of('a partition', (partition for lease in seen.leases for partition in lease.kept))
         others = bool(seen.has_unknown), bool(seen.has_request)
         self._call('snapshot_read', _moment(now), epoch, leases, count, *kept, *others)
+
+    def _raw_leases(self, leases: tuple[Lease, ...]) -> ctypes.Array[ctypes.Structure]:
+        """These leases for the library. What is the same object as in the last snapshot is not made anew."""
+        if leases is not self._last:
+            made = [self._made.get(id(lease)) or (lease, _raw_lease(lease)) for lease in leases]
+            self._made = {id(lease): (lease, raw) for lease, raw in made}
+            self._last, self._raws = leases, (RAW_LEASE * len(made))(*(raw for _, raw in made))
+        return self._raws
 
     def passed(self) -> None:
         """In place of any other answer: the epoch is over, and its log was pruned. A store needs this call only if its

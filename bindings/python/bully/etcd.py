@@ -44,8 +44,8 @@ from .etcd_client import (
 from .maintenance import Maintenance
 from .repair import NOWHERE, Kept
 from .shared_log import (
-    BadLease, DamagedLog, ForeignLog, Holder, Known, LogError, LogExists, NoLog, OtherLog, Sessions, Snapshot,
-    Unanswered, is_awaited, may_change,
+    NOBODY, UNKNOWN, BadLease, DamagedLog, ForeignLog, Holder, Known, LogError, LogExists, NoLog, OtherLog, Sessions,
+    Snapshot, Unanswered, is_awaited, may_change,
 )  # fmt: skip
 from .values import Rows
 
@@ -56,9 +56,18 @@ FAILS, GAVE_UP = 'fails', 'gave up'  # notes of a node
 PAGE = 500  # appends that are read in one request
 READS = 3  # how often a read is tried, if etcd compacts its revision meanwhile
 WATCH_AGAIN = 0.2  # seconds between the end of a watch that broke and the next watch
-FEW = 64  # leases: while there are no more, each watch reports promises, whatever a wait is for
+FEW = 64  # leases: while there are no more, each watch reports promises after a snapshot that has all of them
 
 Told = tuple[Promise, tuple[int, ...]]  # a promise, and the partitions that it keeps
+
+
+class Part(NamedTuple):
+    """Which sessions and promises are read: those that were put after a revision; if a name is given, its promise in
+    place of these."""
+
+    sessions: int = 0
+    promises: int = 0
+    promise_of: str | None = None
 
 
 def offset_text(promise: Promise) -> str:
@@ -133,13 +142,15 @@ class Keys:
         """The range of an epoch's appends, from one key on, that are read in one request."""
         return range_from(begin, behind(self.rows(epoch)), limit=PAGE)
 
-    def standing(self, since: int) -> list[Json]:
-        """The ranges of all but rows: the end of the log, the requested settings, the maintenance, the sessions and
-        promises that were put after a revision, and the nodes whose work fails."""
-        newer = {'min_mod_revision': str(since + 1)}
+    def standing(self, part: Part) -> list[Json]:
+        """The ranges of all but rows: the end of the log, the requested settings, the maintenance, this part of the
+        sessions and promises, and the nodes whose work fails."""
         whole = map(range_at, (self.offset, self.requested, self.maintenance))
-        holders = (range_below(prefix, **newer) for prefix in (self.sessions, self.promises))
-        return [*whole, *holders, range_below(self.failing)]
+        sessions = range_below(self.sessions, min_mod_revision=str(part.sessions + 1))
+        promises = range_below(self.promises, min_mod_revision=str(part.promises + 1))
+        if part.promise_of is not None:
+            promises = range_at(self.promise(part.promise_of))
+        return [*whole, sessions, promises, range_below(self.failing)]
 
     def watched(self, is_wide: bool) -> Json:
         """The range of a watch, with promises or without them. Rows aren't in it, because a snapshot reads them."""
@@ -182,6 +193,7 @@ class EtcdLog:
         self._own: tuple[str, Session] | None = None  # the session that acquired a lease last, and of which name
         self._seen_wanted: tuple[bytes | None, bytes | None] = None, None
         self._seen: Mapping[str, Told] = {}  # the promises in the last snapshot
+        self._has_promises = True  # whether it had all of them
         self._news = News(self._keys)
         self._watch: Subscription | None = None
         self._is_wide = False  # whether it reports promises
@@ -542,43 +554,52 @@ class EtcdLog:
 
     # Snapshots and waits.
 
-    def snapshot(self, epoch: int, offset: int) -> Snapshot:
-        """Reads only sessions and promises that are newer than the last snapshot; all of them if one is gone that no
-        watch reported."""
+    def snapshot(self, epoch: int, offset: int, promise_of: str | None = None) -> Snapshot:
+        """Reads only sessions and promises that are newer than those that were read before; all of them if one is gone
+        that no watch reported."""
 
         def is_there(answer: Answer) -> bool:
             return self._end_of(answer.ranges[0]).epoch == epoch
 
-        for since in (self._news.known, 0):
-            answer, rows = self._read_with(epoch, offset, is_there, *self._keys.standing(since))
-            end = self._end_of(answer.ranges[0])
+        news, part = self._news, self._news.newer(promise_of)
+        while True:
+            answer, rows = self._read_with(epoch, offset, is_there, *self._keys.standing(part))
+            end, maintenance = self._end_of(answer.ranges[0]), maintenance_of(self.address, value_of(answer.ranges[2]))
             see_end(self.address, end, Promise(epoch, offset))
-            if self._see_all(answer, since):
+            if maintenance.is_paused and part.promise_of is not None:
+                part = news.newer(None)
+            elif self._see_all(answer, part) or part[:2] == (0, 0):
                 break
-        requested = requested_of(self.address, end.epoch, self._news.requested)
-        maintenance = maintenance_of(self.address, self._news.maintenance)
-        self._seen_wanted, self._seen = self._news.wanted, self._news.promises.copy()
-        holders, failing = self._news.holders(), self._news.failing
-        return Snapshot(end.epoch, rows or Rows(''), holders, requested, maintenance, failing, answer.revision)
+            else:
+                part = Part(promise_of=part.promise_of)
+        requested, holders = requested_of(self.address, end.epoch, news.requested), news.holders(part.promise_of)
+        self._seen_wanted, self._seen, self._has_promises = news.wanted, news.shown(part.promise_of), part.promise_of is None
+        there, failing, is_whole = rows or Rows(''), news.failing, self._has_promises
+        return Snapshot(end.epoch, there, holders, requested, maintenance, failing, answer.revision, is_whole)
 
-    def _see_all(self, answer: Answer, since: int) -> bool:
-        """Whether this answer was enough to know the state of the log."""
+    def _see_all(self, answer: Answer, part: Part) -> bool:
+        """Whether this answer was enough to know this part of the state of the log."""
         try:
-            return self._news.see_all(answer, since)
+            return self._news.see_all(answer, part)
         except (ValueError, KeyError) as fault:
             raise BadLease(f'{self.address}: a lease can not be read: {fault}') from fault
 
     def wait(
         self, epoch: int, offset: int, sessions: Sessions, until: Until, seconds: float, wake: int | None = None
     ) -> None:  # fmt: skip
-        """Waits by a watch. While there are many leases the watch reports promises only to a wait for them."""
+        """Waits by a watch. It reports promises to a wait for them; while there are few leases to each wait after a
+        snapshot that has all promises, so that it need not start anew."""
         end = seconds_of_boot() + seconds
         is_news = self._news.awaited(Promise(epoch, offset), sessions, until, self._seen_wanted, self._seen)
-        is_wide = until is not Until.NEWS or len(sessions) <= FEW
+        is_wide = self._is_wide_for(until, len(sessions))
         self._woken = wake
         while not self._hear(is_news, is_wide, max(0.0, end - seconds_of_boot())):
             if seconds_of_boot() >= end or sleep_until_ready(0.0, wake):
                 return
+
+    def _is_wide_for(self, until: Until, leases: int) -> bool:
+        """Whether a watch reports promises, for such a wait while there are so many leases."""
+        return until is not Until.NEWS or self._has_promises and leases <= FEW
 
     def _hear(self, is_news: Callable[[], bool], is_wide: bool, seconds: float) -> bool:
         """Whether there is what `wait` waits for, after so many seconds at most."""
@@ -593,16 +614,17 @@ class EtcdLog:
         return self._watch is not None and is_news()
 
     def _begin_watch(self, is_news: Callable[[], bool], is_wide: bool, seconds: float) -> bool:
-        """Starts a watch after what was found, unless that is what `wait` waits for. Returns whether it is. Raises
-        Silent."""
+        """Starts a watch after what was found, unless that is what `wait` waits for. Returns whether it is. What it
+        reports must all be known up to one revision: if it isn't, it is read anew. Raises Silent."""
         pause = self._broken + WATCH_AGAIN - seconds_of_boot()
         if pause > 0:
             sleep_until_ready(min(pause, seconds), self._woken)
             return False
         self._end_watch()
-        if not self._news.is_fresh:
+        if not self._news.is_known(is_wide):
+            part = Part(promise_of=None if is_wide else NOBODY)
             self._client.begin()
-            self._see_all(self._look(*self._keys.standing(0)), 0)
+            self._see_all(self._look(*self._keys.standing(part)), part)
         if is_news():
             return True
         behind_found = {'start_revision': str(self._news.revision + 1)}
@@ -661,56 +683,84 @@ class News:
 
     def __init__(self, keys: Keys) -> None:
         self.revision = 0  # of what was found
+        self.promised = 0  # up to which revision promises are known, if a snapshot left them out since
         self.is_fresh = False  # whether no watch has reported anything since, or broken
         self.end: bytes | None = None
         self.requested: bytes | None = None
         self.maintenance: bytes | None = None
         self.failing: dict[str, bool] = {}  # as of the last snapshot
         self.sessions: dict[str, Session] = {}
-        self.promises: dict[str, Told] = {}
+        self.promises: dict[str, Told] = {}  # some are out of date, or of sessions that are gone, after `promised`
+        self._made: dict[str, Holder] = {}  # the last holders that were made, with the promise of this name or of all
+        self._made_of: str | None = None
+        self._is_made = False  # whether nothing is new of sessions and promises since
         self._keys = keys
         self._is_odd = False  # whether only a snapshot can tell what happened
 
-    @property
-    def known(self) -> int:
-        """The revision up to which sessions and promises are known."""
-        return 0 if self._is_odd else self.revision
+    def newer(self, promise_of: str | None) -> Part:
+        """What need be read of sessions and promises, for a snapshot with the promise of this name alone, or with
+        all."""
+        return Part(0, 0, promise_of) if self._is_odd else Part(self.revision, self.promised, promise_of)
+
+    def is_known(self, is_wide: bool) -> bool:
+        """Whether all that a watch with promises or without them reports is known up to the revision of what was
+        found."""
+        return self.is_fresh and not (is_wide and self.promised < self.revision)
 
     @property
     def wanted(self) -> tuple[bytes | None, bytes | None]:
         return self.requested, self.maintenance
 
-    def see_all(self, answer: Answer, since: int) -> bool:
-        """Takes in what the ranges of `standing` found after a revision up to which all was known. Returns whether that
-        is all there is: what is gone can't be found. If not, nothing changes. Raises ValueError, KeyError if a lease
-        can't be read."""
+    def see_all(self, answer: Answer, part: Part) -> bool:
+        """Takes in what the ranges of `standing` found of this part. Returns whether that is all there is: what is gone
+        can't be found. If not, nothing changes. Raises ValueError, KeyError if a lease can't be read."""
         keys, (offset, requested, maintenance, *found) = self._keys, answer.ranges[:5]
-        sessions, promises = (dict(self.sessions), dict(self.promises)) if since else ({}, {})
+        sessions = dict(self.sessions) if part.sessions else {}
+        promises = dict(self.promises) if part.promises or part.promise_of is not None else {}
         for pair in pairs_of(found[0]):
             sessions[keys.node(pair.key, keys.sessions)] = session_of(pair.value.decode())
         for pair in pairs_of(found[1]):
             promises[keys.node(pair.key, keys.promises)] = promise_of(pair.value.decode())
-        if [len(sessions), len(promises)] != [int(each.get('count', 0)) for each in found]:
+        is_made = self._is_made and (sessions, promises) == (self.sessions, self.promises)
+        are_all = part.promise_of is None
+        there, expected = (sessions, promises)[: 1 + are_all], found[: 1 + are_all]
+        if [len(each) for each in there] != [int(each.get('count', 0)) for each in expected]:
             return False
-        for name in sessions:
+        for name in sessions if are_all else sessions.keys() & {part.promise_of}:
             promises[name]
-        self.sessions, self.promises, self._is_odd = sessions, promises, False
+        self.sessions, self.promises, self._is_odd, self._is_made = sessions, promises, False, is_made
         self.end, self.requested, self.maintenance = value_of(offset), value_of(requested), value_of(maintenance)
+        self.promised = answer.revision if are_all else self.promised
         notes = [(pair.key[len(keys.failing) :], pair.value) for pair in pairs_of(answer.ranges[5])]
         self.failing = {name.decode(errors='replace'): told == GAVE_UP.encode() for name, told in notes}
         self.revision, self.is_fresh = answer.revision, True
         return True
 
-    def holders(self) -> dict[str, Holder]:
-        """Who holds a lease."""
-        return {name: Holder(session, *self.promises[name]) for name, session in self.sessions.items()}
+    def shown(self, promise_of: str | None) -> dict[str, Told]:
+        """The promises in a snapshot with the promise of this name alone, or with all."""
+        names = self.sessions if promise_of is None else self.sessions.keys() & {promise_of}
+        return {name: self.promises[name] for name in names}
+
+    def holders(self, promise_of: str | None) -> dict[str, Holder]:
+        """Who holds a lease, with the promise of this name alone, or with all. If nothing is new these are the same
+        objects as before: the holder, and all of them. So in a large group others see that at once."""
+        if not (self._is_made and self._made_of == promise_of):
+            told, there = self.shown(promise_of), self.sessions.items()
+            self._made = {name: self._holder(name, session, told.get(name, UNKNOWN)) for name, session in there}
+            self._made_of, self._is_made = promise_of, True
+        return self._made
+
+    def _holder(self, name: str, session: Session, told: Told) -> Holder:
+        made = self._made.get(name)
+        is_same = made is not None and made.session is session and (made.promise, made.kept) == told
+        return made if made is not None and is_same else Holder(session, *told)
 
     def see(self, event: Json) -> None:
         """Takes in an event. When a session goes its promise goes, too, and a watch need not report that."""
         pair, is_put = pair_of(event['kv']), event.get('type', 'PUT') == 'PUT'
         if pair.modified <= self.revision:
             return
-        keys, key, self.is_fresh = self._keys, pair.key, False
+        keys, key, self.is_fresh, self._is_made = self._keys, pair.key, False, False
         try:
             if key == keys.offset:
                 self.end = pair.value if is_put else None

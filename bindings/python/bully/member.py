@@ -13,7 +13,9 @@ from contextlib import ExitStack, suppress
 from functools import partial
 from typing import Deque, TypeVar
 
-from .adapter import Requester, awaited, core_opening_of, known_of, note_leaving, seen_of
+from .adapter import (
+    Leases, Requester, awaited, core_opening_of, known_of, needs_promises, note_leaving, seen_of,
+)  # fmt: skip
 from .clocks import SECOND, nanoseconds_of_boot, seconds_of_boot, sleep_until_ready
 from .core import (
     Activity, Ask, BackOff, Begin, Core, End, Ending, Live, Promise, Reason, Request, Seen, Session, Step, Stop, StoreAnswer,
@@ -159,6 +161,7 @@ class Member:
         self._numbers = {name: number for number, name in enumerate(opening.names, 1)}
         self._found = Snapshot(opening.epoch, (), {}, None)  # the last snapshot
         self._seen = Seen(opening.epoch)  # what the core was shown of that
+        self._leases = Leases()
         self._own: Holder | None = None  # its own lease, with its last promise that was done
 
     # Any thread may call these.
@@ -392,19 +395,27 @@ class Member:
         self._to_call.put(partial(self._does.stop, left, stopped))
 
     def _wait(self, step: Wait) -> None:
-        """Waits for news in the log, or until it is woken; unless it must note something in the log."""
-        if self._notes() or self._announces(step.reason):
+        """Waits for news in the log, or until it is woken; unless it must note something in the log, or read promises
+        that the last snapshot left out."""
+        found, needs = self._found, self._needs_promises()
+        if self._notes() or self._announces(step.reason) or needs and not found.has_promises:
             self.core.woke()
             return
         self._see_behind(step.reason)
-        found, epoch, offset = self._found, self.opening.epoch, self.core.offset
-        until, seconds = awaited(step.until, self._seen), step.at_most / SECOND
+        epoch, offset = self.opening.epoch, self.core.offset
+        until, seconds = awaited(step.until, self._seen, needs), step.at_most / SECOND
         self._answer(lambda: self.log.wait(epoch, offset, found.sessions, until, seconds, self._woken.fileno()))
         self.core.woke()
 
+    def _needs_promises(self) -> bool:
+        """Whether the core must be shown what others have promised."""
+        return needs_promises(self.core, self._found, nanoseconds_of_boot())
+
     def _see_behind(self, reason: Reason) -> None:
-        """Notes for whom the change waits that is under way, if one is."""
+        """Notes for whom the change waits that is under way, if one is. Without promises it isn't known for whom."""
         core, found, end = self.core, self._found, Promise(self.opening.epoch, self.core.offset)
+        if not found.has_promises:
+            return
         is_over = reason is Reason.STABLE or core.session is None or found.is_frozen(end)
         with suppress(OutOfMemory):  # then that isn't shown
             self.behind.see(end, {} if is_over else waits_for(core, self.opening, found))
@@ -457,8 +468,9 @@ class Member:
     def _requester(self) -> Requester:
         ttl, core = int(self.ttl * SECOND), self.core
         return Requester(
-            self.log, self.name, self.opening, core.offset, lambda: ttl, core.rebalance, self._after, core.works, self._known
-        )
+            self.log, self.name, self.opening, core.offset, lambda: ttl, self._needs_promises(), core.rebalance,
+            self._after, core.works, self._known,
+        )  # fmt: skip
 
     def _known(self) -> Known | None:
         """What a change of the log compares of leases."""
@@ -472,10 +484,11 @@ class Member:
         """Takes in a snapshot."""
         self._found, self._own = found, None  # its own lease is in the snapshot
         self._giving_up.see(found)
-        self._see_other(found.sessions.get(self.name))
+        holder = found.holders.get(self.name)
+        self._see_other(holder.session if holder is not None else None)
         self.core.learn(found.rows)
         end = Promise(self.opening.epoch, self.core.offset)
-        self._seen = seen_of(found, end, self.name, self._numbers, self._is_up)
+        self._seen = seen_of(found, end, self.name, self._numbers, self._is_up, self._leases)
         self.core.snapshot_read(nanoseconds_of_boot(), self._seen)
         if found.maintenance.takes_out(self.name, self.core.sure_until > 0):
             self.core.leave()

@@ -10,7 +10,7 @@ from .core import Promise, Session, Until
 from .encoding import no_epoch, rows_text, see_end
 from .epochs import Opening
 from .maintenance import Maintenance
-from .shared_log import Holder, Known, Sessions, Snapshot, Wanted, is_awaited, may_change, promises_of
+from .shared_log import Holder, Known, Sessions, Snapshot, Wanted, is_awaited, may_change, promises_of, shown_in
 
 WAKEABLE_WAIT = 0.02  # the longest wait in memory, in seconds, if something else may wake it
 
@@ -151,11 +151,12 @@ class MemoryLog:
 
     # Snapshots and waits.
 
-    def snapshot(self, epoch: int, offset: int) -> Snapshot:
+    def snapshot(self, epoch: int, offset: int, promise_of: str | None = None) -> Snapshot:
         with self._changed:
             see_end('the log', self._end(), Promise(epoch, offset))
-            rows = self.rows[offset:] if epoch == self.epoch else []
-            found = Snapshot(self.epoch, rows, self.holders, self.requested, self.maintenance, dict(self.failing))
+            alone, failing = None if self.maintenance.is_paused else promise_of, dict(self.failing)
+            rows, holders = self.rows[offset:] if epoch == self.epoch else [], shown_in(self.holders, alone)
+            found = Snapshot(self.epoch, rows, holders, self.requested, self.maintenance, failing, 0, alone is None)
             self._seen.wanted, self._seen.holders = found.wanted, found.holders
             return found
 

@@ -12,10 +12,9 @@ from .adapter import core_opening_of, leases_of, seen_of
 from .clocks import SECOND, nanoseconds_of_boot
 from .core import Core, Promise
 from .epochs import REBALANCE, Opening
-from .shared_log import DamagedLog, Holder, Snapshot
+from .shared_log import NOBODY, DamagedLog, Holder, Snapshot
 from .values import Status
 
-NOBODY = ''  # the name of its node
 NO_PROCESS = 0  # no process that acquires a lease has this number
 Table = Sequence[int]  # the owners of the partitions
 

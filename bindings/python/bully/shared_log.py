@@ -101,6 +101,10 @@ class Holder(NamedTuple):
         return self.promise == here and not self.kept
 
 
+UNKNOWN: tuple[Promise, tuple[int, ...]] = Promise(), ()  # a promise that a snapshot leaves out
+NOBODY = ''  # the name of no node
+
+
 class Known(NamedTuple):
     """What a change compares of leases, in a cooperative group: those of these nodes. Each must be as the writer knows
     it: its own with its last promise that was done, all others as its last snapshot found them; or its holder must be
@@ -114,7 +118,9 @@ class Known(NamedTuple):
 class Snapshot(NamedTuple):
     """What a snapshot shows, all at one moment: the current epoch; the requested rows, if they are of that epoch; who
     holds a lease, by name; the requested settings; the maintenance; notes of the nodes whose work fails, which say
-    whether they have given up; and the revision of the store, if it counts them."""
+    whether they have given up; the revision of the store, if it counts them; and whether it has the promises of all
+    holders, as always in a pause. If not, those of others are left out: each is `UNKNOWN`, as if its session had
+    promised nothing."""
 
     epoch: int
     rows: Sequence[str]
@@ -123,6 +129,7 @@ class Snapshot(NamedTuple):
     maintenance: Maintenance = Maintenance()
     failing: Mapping[str, bool] = MappingProxyType({})
     revision: int = 0
+    has_promises: bool = True
 
     @property
     def wanted(self) -> Wanted:
@@ -141,8 +148,9 @@ class Snapshot(NamedTuple):
         """Whether the group is paused, and nobody rebalances. Not yet if a session that was live when the pause began
         has promised the end of the log: it can't work by the last plan any more, so the group is rebalanced first."""
         sessions = self.maintenance.sessions
-        promised = self.promised(end)
-        return sessions is not None and not any(sessions.get(name) == self.holders[name].session for name in promised)
+        if sessions is None:
+            return False
+        return not any(sessions.get(name) == self.holders[name].session for name in self.promised(end))
 
 
 class Log(Protocol):
@@ -180,10 +188,10 @@ class Log(Protocol):
         is the `next` of this epoch's for the requested settings. Each holder that is compared must be idle. Leases and
         promises stay; the request to resize is done. Returns whether it did."""
 
-    def snapshot(self, epoch: int, offset: int) -> Snapshot:
+    def snapshot(self, epoch: int, offset: int, promise_of: str | None = None) -> Snapshot:
         """The rows of that epoch after that offset, if it is the current one, and what else is kept at the same moment.
-        The caller has read up to there, so a log that ends before is damaged; likewise in `read`, `append` and
-        `roll_over`."""
+        If a name is given, and the group isn't paused, only the promise of that holder is read. The caller has read up
+        to that offset, so a log that ends before is damaged; likewise in `read`, `append` and `roll_over`."""
 
     def wait(
         self, epoch: int, offset: int, sessions: Sessions, until: Until, seconds: float, wake: int | None = None
@@ -191,8 +199,9 @@ class Log(Protocol):
         """Returns once another epoch is the current one, or there are rows after that offset, or other sessions than
         these are live, or other settings or maintenance are set than in the last snapshot. By `until` it also returns
         once a holder of a lease is idle there that wasn't in the last snapshot, once all are, or once one has made
-        another promise than in that snapshot. It also returns once the descriptor `wake` can be read, or the time is
-        over; and it may return sooner. It never misses what was so before the call."""
+        another promise than in that snapshot. (What that left out was promised since.) It also returns once the
+        descriptor `wake` can be read, or the time is over; and it may return sooner. It never misses what was so before
+        the call."""
 
     def ask(self, requested: Opening, epoch: int) -> bool:
         """Requests these settings, and no others, if the epoch is the current one and they are for the next. Returns
@@ -244,6 +253,24 @@ def may_change(holders: Mapping[str, Holder], here: Promise, known: Known | None
     compared = {name: holder for name, holder in holders.items() if known is None or name in known.affected}
     seen = known.holders if known is not None and is_append else {}
     return bool(holders) and all(each.is_idle(here) or each == seen.get(name) for name, each in compared.items())
+
+
+def shown_in(holders: Mapping[str, Holder], promise_of: str | None) -> Mapping[str, Holder]:
+    """These holders as a snapshot shows them: if a name is given, with the promise of that one alone."""
+    if promise_of is None:
+        return holders
+    return {name: each if name == promise_of else Holder(each.session, *UNKNOWN) for name, each in holders.items()}
+
+
+def kept_same(before: Mapping[str, Holder], holders: Mapping[str, Holder]) -> dict[str, Holder]:
+    """These holders; each is the same object as before if nothing about it is new. In a large group most of them are,
+    so others find fast what is new."""
+
+    def kept(name: str, holder: Holder) -> Holder:
+        last = before.get(name)
+        return last if last is not None and last == holder else holder
+
+    return {name: kept(name, holder) for name, holder in holders.items()}
 
 
 def promises_of(holders: Mapping[str, Holder]) -> dict[str, tuple[Promise, tuple[int, ...]]]:

@@ -9,7 +9,7 @@ import os
 import re
 import sqlite3
 import time
-from collections.abc import Iterator, Sequence
+from collections.abc import Iterator, Mapping, Sequence
 from contextlib import closing, contextmanager
 from typing import NamedTuple
 from urllib.parse import quote
@@ -26,8 +26,8 @@ from .maintenance import Maintenance
 from .releasing import release_in
 from .repair import Kept
 from .shared_log import (
-    BadLease, DamagedLog, DiskFull, ForeignLog, Holder, Known, LogBusy, LogExists, OtherLog, ReadOnlyLog, Sessions,
-    Snapshot, Unanswered, is_awaited, may_change, promises_of,
+    NOBODY, BadLease, DamagedLog, DiskFull, ForeignLog, Holder, Known, LogBusy, LogExists, OtherLog, ReadOnlyLog,
+    Sessions, Snapshot, Unanswered, is_awaited, kept_same, may_change, promises_of, shown_in,
 )  # fmt: skip
 from .sqlite_file import (
     NEW, OWNER_ALONE, beside, identity, keep_name, make, remove, see_alone, see_disk, told_holder, told_owner,
@@ -156,11 +156,13 @@ class SqliteLog:
         self._boot = boot_name()
         self._sight = 0  # when it must check again which files are there
         self._name = ''  # of the log, once it is known
-        self._live: dict[str, Session] = {}  # who was live when leases were last read
-        self._seen_wanted: tuple[str | None, str] = None, ''
-        self._seen: dict[str, Holder] = {}  # who held a lease in the last snapshot
-        self._session_changes = -1  # the count of these changes at that time
+        self._read: Mapping[str, Holder] = {}  # who held a lease when leases were last read
+        self._bare: Mapping[str, Holder] = {}  # the same without promises
+        self._live: dict[str, Session] = {}  # the same, their sessions
+        self._session_changes = self._promises_read = -1  # the counts of these changes at that time
         self._earliest = 0  # none of these leases ends before
+        self._seen_wanted: tuple[str | None, str] = None, ''
+        self._seen: Mapping[str, Holder] = {}  # who held a lease in the last snapshot
         self._version = self._promise_changes = -1  # of what a wait saw last
         self._sleep = SHORTEST_SLEEP  # between two polls of a wait
         with calls(self.path):
@@ -423,26 +425,43 @@ class SqliteLog:
 
     # Snapshots and waits.
 
-    def snapshot(self, epoch: int, offset: int) -> Snapshot:
+    def snapshot(self, epoch: int, offset: int, promise_of: str | None = None) -> Snapshot:
+        """Reads leases only if something is new: of sessions; of promises, if it must have all of them."""
         with self._transaction('deferred') as standing:
             end = standing.end
             see_end(self.path, end, Promise(epoch, offset))
             rows = self._rows(epoch, offset, end.offset) if epoch == end.epoch else Rows('')
             requested = requested_of(self.path, end.epoch, standing.requested)
             maintenance = maintenance_of(self.path, standing.maintenance)
-            found = Snapshot(end.epoch, rows, self._look_around(standing), requested, maintenance, self._failing())
-        self._seen_wanted, self._seen = standing.wanted, dict(found.holders)
+            alone = None if maintenance.is_paused else promise_of
+            holders, failing = self._look_around(standing, alone), self._failing()
+            found = Snapshot(end.epoch, rows, holders, requested, maintenance, failing, 0, alone is None)
+        self._seen_wanted, self._seen = standing.wanted, found.holders
         return found
 
-    def _look_around(self, standing: Standing) -> dict[str, Holder]:
-        """Who holds a lease, which it keeps for waits."""
+    def _look_around(self, standing: Standing, promise_of: str | None) -> Mapping[str, Holder]:
+        """Who holds a lease, with the promise of this name alone, or with all. A holder is the same object as before if
+        nothing about it is new."""
         self._see_others(standing)
+        if self._are_old(standing) or promise_of is None and standing.promise_changes != self._promises_read:
+            self._read_leases(standing)
+        if promise_of is None:
+            return self._read
+        own = {name: lease.holder for name, lease in self._leases(standing, promise_of).items()}
+        return {**self._bare, **own}
+
+    def _are_old(self, standing: Standing) -> bool:
+        """Whether another session may hold a lease than when leases were read last, or one may have ended since."""
+        return standing.session_changes != self._session_changes or standing.now >= self._earliest
+
+    def _read_leases(self, standing: Standing) -> None:
+        """Reads all leases, and keeps them for waits and for later snapshots."""
         leases = self._leases(standing)
-        holders = {name: lease.holder for name, lease in leases.items()}
-        self._live = {name: holder.session for name, holder in holders.items()}
-        self._session_changes = standing.session_changes
+        there = {name: lease.holder for name, lease in leases.items()}
+        self._read, self._bare = kept_same(self._read, there), kept_same(self._bare, shown_in(there, NOBODY))
+        self._live = {name: holder.session for name, holder in there.items()}
+        self._session_changes, self._promises_read = standing.session_changes, standing.promise_changes
         self._earliest = min((lease.until for lease in leases.values()), default=NEVER)
-        return holders
 
     def _failing(self) -> dict[str, bool]:
         """The notes of nodes whose work fails, and whether they have given up."""
@@ -476,8 +495,9 @@ class SqliteLog:
             if version == self._version and not is_end:
                 return False
             self._version, standing = version, self._standing()
-            if standing.session_changes != self._session_changes or is_end:
-                self._look_around(standing)
+            if self._are_old(standing):
+                self._see_others(standing)
+                self._read_leases(standing)
             end = standing.end
             if end != here or standing.wanted != self._seen_wanted or self._live != sessions:
                 return True

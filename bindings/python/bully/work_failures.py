@@ -8,13 +8,13 @@ from __future__ import annotations
 
 import enum
 import threading
-from collections.abc import Callable, Collection
+from collections.abc import Callable, Collection, Mapping
 from dataclasses import dataclass
 from functools import partial
 
 from .clocks import seconds_of_boot
 from .core import Session
-from .shared_log import Log, Snapshot
+from .shared_log import Holder, Log, Snapshot
 
 GIVE_UP = 5  # failures in a row, by default
 LONG = 5  # ttls of work after which the failures before don't count any more
@@ -160,13 +160,16 @@ class GivingUp:
         if failures is None:
             self._failures.began(float('-inf'))
         self._since: dict[str, tuple[Session, float]] = {}  # who holds a lease, by which session, and since when
+        self._holders: Mapping[str, Holder] = {}  # the same holders, as the last snapshot showed them
         self._next = 0.0  # when something may be noted again
         self._until = self._well = 0.0  # until when the node stays away; when another node last worked well
         self._is_noted = False  # whether there is a note of this node
 
     def see(self, found: Snapshot) -> None:
         """Takes in a snapshot."""
-        now = seconds_of_boot()
+        if found.holders is self._holders:
+            return
+        now, self._holders = seconds_of_boot(), found.holders
 
         def since(name: str, session: Session) -> tuple[Session, float]:
             known = self._since.get(name)

@@ -614,7 +614,7 @@ class Driver:
         """Does what is asked, and says what became of it."""
         name, here = self.opening.names[core.node - 1], self.opening
         told = Requester(
-            self.log, name, here, core.offset, lambda: 1, core.rebalance, lambda: here, core.works, lambda: None
+            self.log, name, here, core.offset, lambda: 1, True, core.rebalance, lambda: here, core.works, lambda: None
         ).call(ask)()
         if isinstance(told, Snapshot):
             core.learn(told.rows)

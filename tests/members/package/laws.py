@@ -99,6 +99,45 @@ class Laws(Tests):
         log.release('a', A)
         self.assertEqual(live(log), {'a': Holder(B, EMPTY)})
 
+    def test_the_promise_of_one(self) -> None:
+        """A snapshot may have the promise of one holder alone, and all sessions. The next one with all promises has
+        what was left out, whatever came meanwhile."""
+        log, other = self.pair()
+        for name, session in (('a', A), ('b', B), ('c', C)):
+            self.assertTrue(other.acquire(name, session, EMPTY, self.LONG))
+        none, here, there = (Promise(), ()), (Promise(1, 3), (2,)), (Promise(1, 4), (0, 5))
+        changes: list[tuple[Callable[[], object], dict[str, Holder]]] = [
+            (lambda: None, {'a': Holder(A, EMPTY), 'b': Holder(B, EMPTY), 'c': Holder(C, EMPTY)}),
+            (lambda: other.promise('b', B, *here), {'a': Holder(A, EMPTY), 'b': Holder(B, *here), 'c': Holder(C, EMPTY)}),
+            (lambda: other.promise('a', A, *there), {'a': Holder(A, *there), 'b': Holder(B, *here), 'c': Holder(C, EMPTY)}),
+            (lambda: other.release('c', C), {'a': Holder(A, *there), 'b': Holder(B, *here)}),
+            (lambda: other.acquire('c', B, EMPTY, self.LONG), {'a': Holder(A, *there), 'b': Holder(B, *here), 'c': Holder(B, EMPTY)}),
+            (lambda: other.promise('c', B, *there), {'a': Holder(A, *there), 'b': Holder(B, *here), 'c': Holder(B, *there)}),
+        ]  # fmt: skip
+        for number, (change, holders) in enumerate(changes):
+            change()
+            for name in ('a', 'nobody'):
+                with self.subTest(change=number, promise_of=name):
+                    found = log.snapshot(1, 0, name)
+                    shown = {each: holder if each == name else Holder(holder.session, *none) for each, holder in holders.items()}
+                    self.assertEqual((found.holders, found.has_promises), (shown, False))
+            if number % 3:
+                whole = log.snapshot(1, 0)
+                self.assertEqual((whole.holders, whole.has_promises), (holders, True))
+
+    def test_promises_in_a_pause(self) -> None:
+        """All are read, because they say whether a change is completed first."""
+        log, other = self.pair()
+        for name, session in (('a', A), ('b', B)):
+            self.assertTrue(other.acquire(name, session, EMPTY, self.LONG))
+        holders = {'a': Holder(A, EMPTY), 'b': Holder(B, Promise(1, 3), (2,))}
+        self.assertTrue(other.promise('b', B, Promise(1, 3), (2,)))
+        bare = {'a': Holder(A, EMPTY), 'b': Holder(B, Promise())}
+        for is_paused in (False, True, False, True):
+            self.assertTrue(other.set_maintenance(Maintenance(sessions={'a': A} if is_paused else None), None))
+            found = log.snapshot(1, 0, 'a')
+            self.assertEqual((found.holders, found.has_promises), (holders if is_paused else bare, is_paused))
+
     def test_closing(self) -> None:
         """Leases stay."""
         log, other = self.pair()

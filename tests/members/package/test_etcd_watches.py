@@ -64,7 +64,7 @@ class Watching(InEtcd):
         self.log.snapshot(1, 0)
         for key, pair in found.items():
             self.log._news.see({'kv': {**pair, 'key': coded(key)}})
-        self.assertEqual((set(self.log._news.holders()), self.log._news.is_fresh), ({'a'}, True))
+        self.assertEqual((set(self.log._news.holders(None)), self.log._news.is_fresh), ({'a'}, True))
 
     def test_begin_of_a_watch(self) -> None:
         """What comes between the snapshot and the watch is seen."""

@@ -156,11 +156,32 @@ class Values(unittest.TestCase):
             own = self.seen(there, Maintenance(sessions=sessions)).leases[0]
             self.assertEqual((own.session, own.is_leaving), (A, is_late), sessions)
 
+    def test_who_needs_promises(self) -> None:
+        """A member whose rules do; in a pause each one."""
+        for needs in (False, True):
+            core = mock.Mock(needs_promises=mock.Mock(return_value=needs))
+            for is_paused in (False, True):
+                found = Snapshot(1, (), {}, None, Maintenance(sessions={} if is_paused else None))
+                self.assertEqual(adapter.needs_promises(core, found, 7), needs or is_paused)
+            core.needs_promises.assert_called_with(7)
+
+    def test_leases_of_others(self) -> None:
+        """A lease has the number that its node has now, and says who is known to leave now, also if its holder is the
+        same object as before."""
+        leases, holders = adapter.Leases(), {'a': Holder(A, WORKS)}
+        for number in (1, 2):
+            for is_leaving in (False, True, True, False):
+                leaving, expected = frozenset('a' * is_leaving), Lease(number, A, WORKS, (), is_leaving)
+                self.assertEqual(leases.of(holders, {'a': number}, leaving), (expected,))
+
     def test_waits(self) -> None:
-        """An unknown process must go before all can be idle, so nobody waits until all are."""
+        """An unknown process must go before all can be idle, so nobody waits until all are; and a member that needs no
+        promises waits for none."""
         for until in Until:
-            self.assertEqual(adapter.awaited(until, Seen(1)), until)
-            self.assertEqual(adapter.awaited(until, Seen(1, (), True)), Until.NEWS if until is Until.ALL_IDLE else until)
+            self.assertEqual(adapter.awaited(until, Seen(1), True), until)
+            self.assertEqual(adapter.awaited(until, Seen(1), False), Until.NEWS)
+            expected = Until.NEWS if until is Until.ALL_IDLE else until
+            self.assertEqual(adapter.awaited(until, Seen(1, (), True), True), expected)
 
     def test_times(self) -> None:
         """Each row is shown with the time of its append, as far as that is kept."""
@@ -329,9 +350,9 @@ class Maintained(Threads):
         """How many snapshots all read after a change, while the first member renews four times, which is one ttl."""
         count, snapshot = [0], self.log.snapshot
 
-        def counted(epoch: int, offset: int) -> Snapshot:
+        def counted(epoch: int, offset: int, promise_of: str | None = None) -> Snapshot:
             count[0] += 1
-            return snapshot(epoch, offset)
+            return snapshot(epoch, offset, promise_of)
 
         change()
         setattr(self.log, 'snapshot', counted)

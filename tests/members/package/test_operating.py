@@ -28,9 +28,9 @@ class Cut(MemoryLog):
         self.renewals: dict[str, int] = {}
         self.snapshots: collections.Counter[str] = collections.Counter()  # by the names of threads
 
-    def snapshot(self, epoch: int, offset: int) -> Snapshot:
+    def snapshot(self, epoch: int, offset: int, promise_of: str | None = None) -> Snapshot:
         self.snapshots[threading.current_thread().name] += 1
-        return super().snapshot(epoch, offset)
+        return super().snapshot(epoch, offset, promise_of)
 
     def renew(self, name: str, session: Session, ttl: int) -> bool:
         if name in self.cut:

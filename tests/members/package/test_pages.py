@@ -86,9 +86,9 @@ class Pages(Paged):
         """The offsets of the snapshots that are read from now on."""
         offsets: list[int] = []
 
-        def snapshot(epoch: int, offset: int) -> Snapshot:
+        def snapshot(epoch: int, offset: int, promise_of: str | None = None) -> Snapshot:
             offsets.append(offset)
-            return Troubled.snapshot(self.log, epoch, offset)
+            return Troubled.snapshot(self.log, epoch, offset, promise_of)
 
         setattr(self.log, 'snapshot', snapshot)
         return offsets
@@ -224,10 +224,10 @@ class Pages(Paged):
         """A client that asks while a snapshot hangs waits for a bounded time."""
         hangs, goes_on = threading.Event(), threading.Event()
 
-        def snapshot(epoch: int, offset: int) -> Snapshot:
+        def snapshot(epoch: int, offset: int, promise_of: str | None = None) -> Snapshot:
             hangs.set()
             goes_on.wait()
-            return Troubled.snapshot(self.log, epoch, offset)
+            return Troubled.snapshot(self.log, epoch, offset, promise_of)
 
         self.addCleanup(goes_on.set)
         with mock.patch.object(page, 'SNAPSHOT_MAX', 0.1):

@@ -69,9 +69,9 @@ class Seldom(MemoryLog):
         self.answer()
         return super().ask(requested, epoch)
 
-    def snapshot(self, epoch: int, offset: int) -> Snapshot:
+    def snapshot(self, epoch: int, offset: int, promise_of: str | None = None) -> Snapshot:
         self.answer()
-        return super().snapshot(epoch, offset)
+        return super().snapshot(epoch, offset, promise_of)
 
     def acquire(self, name: str, session: Session, promise: Promise, ttl: int) -> bool:
         self.answer()

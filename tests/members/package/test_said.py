@@ -85,9 +85,9 @@ class Blocked(MemoryLog):
 
     goes_on = threading.Event()
 
-    def snapshot(self, epoch: int, offset: int) -> Snapshot:
+    def snapshot(self, epoch: int, offset: int, promise_of: str | None = None) -> Snapshot:
         self.goes_on.wait()
-        return super().snapshot(epoch, offset)
+        return super().snapshot(epoch, offset, promise_of)
 
 
 class Services(InFolder):

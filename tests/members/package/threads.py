@@ -40,9 +40,9 @@ class Troubled(MemoryLog):
         self.check()
         return super().renew(name, session, ttl)
 
-    def snapshot(self, epoch: int, offset: int) -> Snapshot:
+    def snapshot(self, epoch: int, offset: int, promise_of: str | None = None) -> Snapshot:
         self.check()
-        return super().snapshot(epoch, offset)
+        return super().snapshot(epoch, offset, promise_of)
 
 
 class Slow(MemoryLog):

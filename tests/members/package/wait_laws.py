@@ -10,7 +10,7 @@ from collections.abc import Callable
 from bully.clocks import SECOND
 from bully.core import Promise, Until
 from bully.maintenance import Maintenance
-from bully.shared_log import Log, NoEpoch
+from bully.shared_log import Holder, Log, NoEpoch
 from ..steps import EMPTY, OPENING, A, B
 from ..waiting import PATIENCE, wait_until
 from .laws import Tests
@@ -62,6 +62,21 @@ class Waits(Tests):
                 if number == 1:
                     wait_until(lambda: '2' in log.snapshot(1, 0).holders)
         self.assertEqual(log.snapshot(1, 0).epoch, 2)
+
+    def test_what_ended_a_wait(self) -> None:
+        """The next snapshot has it."""
+        log, other = self.pair()
+        self.assertTrue(other.acquire('1', A, EMPTY, self.LONG))
+        held, news = {'1': Holder(A, EMPTY)}, {'1': Holder(A, EMPTY), '2': Holder(B, EMPTY)}
+        acts: list[tuple[Callable[[], object], Until, dict[str, Holder]]] = [
+            (lambda: other.acquire('2', B, EMPTY, self.LONG), Until.NEWS, news),
+            (lambda: other.promise('2', B, Promise(1, 4)), Until.PROMISES, {**held, '2': Holder(B, Promise(1, 4))}),
+            (lambda: other.release('2', B), Until.NEWS, held),
+        ]  # fmt: skip
+        for act, until, holders in acts:
+            sessions = log.snapshot(1, 0).sessions
+            self.ends_by(act, lambda seconds: log.wait(1, 0, sessions, until, seconds))
+            self.assertEqual(log.snapshot(1, 0).holders, holders)
 
     def test_idle(self) -> None:
         """One live node, or all, have promised the end of the log."""
@@ -137,6 +152,32 @@ class Waits(Tests):
                 begun = time.monotonic()
                 log.wait(1, 0, sessions, Until.PROMISES, PATIENCE)
                 self.assertLess(time.monotonic(), begun + PATIENCE, 'it is so already')
+
+    def test_promises_that_were_left_out(self) -> None:
+        """A wait for promises ends at once after a snapshot that left some out; a wait for one that is idle if one is.
+        Otherwise it ends with the next such promise."""
+        log, other = self.pair()
+        for name, session in (('1', A), ('2', B)):
+            self.assertTrue(other.acquire(name, session, EMPTY, self.LONG))
+        self.assertTrue(other.append(1, 0, ['recover,1']))
+        sessions = log.snapshot(1, 0, '1').sessions
+        begun = time.monotonic()
+        log.wait(1, 1, sessions, Until.PROMISES, PATIENCE)
+        self.assertLess(time.monotonic(), begun + PATIENCE)
+        self.ends_by(
+            lambda: other.promise('2', B, Promise(1, 1)), lambda seconds: log.wait(1, 1, sessions, Until.ANY_IDLE, seconds)
+        )
+        sessions = log.snapshot(1, 1, '1').sessions
+        begun = time.monotonic()
+        log.wait(1, 1, sessions, Until.ANY_IDLE, PATIENCE)
+        self.assertLess(time.monotonic(), begun + PATIENCE)
+        later = threading.Timer(0.05, lambda: other.promise('2', B, Promise(1, 2)))
+        later.start()
+        begun = time.monotonic()
+        log.wait(1, 1, sessions, Until.NEWS, 0.3)
+        self.assertGreaterEqual(time.monotonic(), begun + 0.3)
+        later.join()
+        self.assertEqual(log.snapshot(1, 1).holders, {'1': Holder(A, EMPTY), '2': Holder(B, Promise(1, 2))})
 
     def test_promises_are_no_news(self) -> None:
         """A wait for less goes on. (It need not, but then each would wake all.)"""

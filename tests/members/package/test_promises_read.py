@@ -1,0 +1,100 @@
+"""Tests of which members read what others have promised."""
+from __future__ import annotations
+
+import threading
+from collections.abc import Callable
+
+from bully.core import Promise, Session
+from bully.epochs import Opening
+from bully.maintenance import Maintenance
+from bully.shared_log import Snapshot
+from ..steps import LONG
+from ..waiting import PATIENCE, wait_until
+from .grouped import COOPERATIVE, EAGER, Grouped
+from .threads import Troubled
+
+SESSION = Session(9, 1)  # of processes that take no steps
+TTL = 5.0 * PATIENCE  # of a member that renews its lease only after the test
+
+
+class Noting(Troubled):
+    """A log that notes of each snapshot whether it has all promises, by the thread that reads it."""
+
+    def __init__(self, opening: Opening) -> None:
+        super().__init__(opening)
+        self.snapshots: list[tuple[threading.Thread, bool]] = []
+
+    def snapshot(self, epoch: int, offset: int, promise_of: str | None = None) -> Snapshot:
+        found = super().snapshot(epoch, offset, promise_of)
+        self.snapshots.append((threading.current_thread(), found.has_promises))
+        return found
+
+
+class PromisesRead(Grouped):
+    """Only a member that may be about to change the log reads what others have promised."""
+
+    def begin_log(self, opening: Opening) -> Noting:
+        log = self.log = Noting(opening)
+        return log
+
+    def reads(self, log: Noting, change: Callable[[], object] = lambda: None) -> dict[str, set[bool]]:
+        """Whether the snapshots of each member have all promises, after a change and once the group is stable."""
+        change()
+        wait_until(lambda: self.is_shared(sorted(self.members)))
+        begun = len(log.snapshots)
+        threads = {thread: name for name, (_, _, thread) in self.members.items()}
+        wait_until(lambda: threads.keys() <= {thread for thread, _ in log.snapshots[begun + 10 :]})
+        found: dict[str, set[bool]] = {name: set() for name in self.members}
+        for thread, has_promises in log.snapshots[begun + 10 :]:
+            found[threads[thread]].add(has_promises)
+        return found
+
+    def test_who_reads_them(self) -> None:
+        """In a cooperative group the highest live one does: also one that becomes that."""
+        log = self.begin_log(COOPERATIVE)
+        for name in 'abcd':
+            self.come(name, 0.5)
+        low, high = {False}, {True}
+        self.assertEqual(self.reads(log), {'a': low, 'b': low, 'c': low, 'd': high})
+
+        def leave() -> None:
+            member, _, thread = self.members.pop('d')
+            member.leave()
+            thread.join()
+
+        self.assertEqual(self.reads(log, leave), {'a': low, 'b': low, 'c': high})
+
+    def test_who_becomes_the_highest(self) -> None:
+        """It reads promises at once, and not only when its lease has to be renewed: one of another node, which keeps
+        work, says that a change is due."""
+        log = self.begin_log(COOPERATIVE)
+        self.come('b', TTL)
+        wait_until(lambda: self.is_shared('b'))
+        assert log.acquire('a', SESSION, Promise(1, len(log.rows)), LONG)
+        wait_until(lambda: len(self.works().get('b', ())) == 6 and self.works() == self.owners())
+        log.set_maintenance(Maintenance(frozenset('c')), None)
+        assert log.acquire('c', SESSION, Promise(1, len(log.rows)), LONG)
+        wait_until(lambda: not log.snapshots[-1][1])
+        self.keep('a', SESSION, 0)
+        end = len(log.rows)
+        log.release('c', SESSION)
+        wait_until(lambda: len(log.rows) > end)
+
+    def test_in_a_pause(self) -> None:
+        """All do, because promises say whether a change is completed first."""
+        log = self.begin_log(COOPERATIVE)
+        for name in 'abc':
+            self.come(name, 0.5)
+        wait_until(lambda: self.is_shared('abc'))
+        sessions = {name: holder.session for name, holder in log.holders.items()}
+        paused = self.reads(log, lambda: log.set_maintenance(Maintenance(sessions=sessions), None))
+        self.assertEqual(paused, dict.fromkeys('abc', {True}))
+        resumed = self.reads(log, lambda: log.set_maintenance(Maintenance(), None))
+        self.assertEqual(resumed, {'a': {False}, 'b': {False}, 'c': {True}})
+
+    def test_in_an_eager_group(self) -> None:
+        """All do: a member stops once one of the others has promised."""
+        log = self.begin_log(EAGER)
+        for name in 'abc':
+            self.come(name, 0.5)
+        self.assertEqual(self.reads(log), dict.fromkeys('abc', {True}))
