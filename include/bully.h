@@ -546,8 +546,8 @@ typedef struct bully_lease {
  * node of it, in rising order of the nodes; the partitions that their promises keep: first those of the first lease,
  * and so on, those of each lease in rising order; whether an unknown process holds a lease, whose name no node of it
  * has (not 0: yes); and whether other settings are requested (not 0: yes). If the epoch isn't the member's, nothing
- * else counts. Nothing changes if no snapshot is awaited. In a cooperative group the promises of others may be left out
- * (epoch 0, offset 0, nothing kept), unless no higher node is live, or the member's last wait had BULLY_REASON_OTHERS.
+ * else counts. Nothing changes if no snapshot is awaited. The promises of others may be left out (epoch 0, offset 0,
+ * nothing kept) unless `bully_member_needs_promises` gives 1.
  * BULLY_NULL, BULLY_CLOSED; BULLY_BAD_NODE: a lease's node isn't in the group; or, in another epoch, it is 0 or above
  * BULLY_NODES_MAX; BULLY_BAD_KEPT; BULLY_OUT_OF_MEMORY: nothing changes; or, once the leases were read, the member
  * reads another snapshot after a pause. */
@@ -627,6 +627,12 @@ bully_status bully_member_is_affected(bully_member *member, uint16_t node, uint3
  * else 0. A member that acquires no lease may observe a group by this call.
  * BULLY_NULL, BULLY_CLOSED. */
 bully_status bully_member_is_stable(bully_member *member, uint32_t *is_stable);
+/* Whether the next snapshot must show what others have promised. In an eager group it must. In a cooperative group it
+ * must if no higher node is live, or if the group isn't stable for the member and its turn to change the log has come.
+ * Otherwise these promises may be left out: the member does the same. A snapshot may change what this call gives; if
+ * that is 1 after one that left promises out, the member needs another one. `needs_promises` gets 1, or else 0.
+ * BULLY_NULL, BULLY_CLOSED. */
+bully_status bully_member_needs_promises(bully_member *member, uint64_t now, uint32_t *needs_promises);
 
 /* Whether the process has the lease of its node. */
 enum {

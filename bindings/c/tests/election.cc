@@ -398,7 +398,7 @@ private:
 // isn't there.
 void act() {
     const std::vector<bully_lease> own = {{9, 1, 1, 0, 1, 0, 0}};
-    std::uint32_t token = 77, is_stable = 77, is_affected = 77;
+    std::uint32_t token = 77, is_stable = 77, is_affected = 77, needs_promises = 77;
     bully_group shown = {};
     bully_state state = {};
     Member member;
@@ -413,6 +413,7 @@ void act() {
     EXPECT(bully_member_node(*member, 1, &state) == BULLY_OK && state.status == BULLY_NORMAL);
     EXPECT(member.works() == Owners{0} && member.activities() == Owners{BULLY_ACTIVITY_WORKING});
     EXPECT(bully_member_is_affected(*member, 1, &is_affected) == BULLY_OK && is_affected == 1);
+    EXPECT(bully_member_needs_promises(*member, 50, &needs_promises) == BULLY_OK && needs_promises == 1);
     EXPECT(bully_member_stopped_on(*member, 0) == BULLY_OK && member.works() == Owners{});
     EXPECT(member.next(50).kind == BULLY_STEP_BEGIN && member.works() == Owners{0});
     EXPECT(bully_member_woke(*member) == BULLY_OK && bully_member_lost(*member, 5) == BULLY_OK);

@@ -154,7 +154,15 @@ static void show_owned_of(bully_member *member) {
     EXPECT(is_stable == 1);
 }
 
-/* It works on its partition, and a change affects it, since it is live and its group is eager. */
+/* Whether its next snapshot must show promises of others. */
+static uint32_t needs_promises(bully_member *member, uint64_t now) {
+    uint32_t needs = 77;
+    ANSWERS(OK, bully_member_needs_promises(member, now, &needs));
+    return needs;
+}
+
+/* It works on its partition, and a change affects it, since it is live and its group is eager. So it goes by promises of
+ * others, too. */
 static void show_works(bully_member *member) {
     uint16_t numbers[2] = {77, 77};
     uint32_t is_affected = 77;
@@ -173,6 +181,7 @@ static void show_works(bully_member *member) {
     EXPECT(is_affected == 77);
     ANSWERS(OK, bully_member_is_affected(member, 1, &is_affected));
     EXPECT(is_affected == 1);
+    EXPECT(needs_promises(member, 0) == 1 && needs_promises(member, 100) == 1 && needs_promises(member, UINT64_MAX) == 1);
 }
 
 static void show_worker(bully_member *member) {
@@ -269,13 +278,12 @@ static void lose_one(void) {
     ANSWERS(OK, bully_member_close(&member));
 }
 
-/* The rows by which node 1 works alone on both partitions of a group of two. Their count. */
-static uint32_t write_alone(const char *header, char *rows) {
-    static const uint16_t live[] = {1};
+/* The rows by which this node works alone on both partitions of a group of two. Their count. */
+static uint32_t write_alone(const char *header, uint16_t node, char *rows) {
     bully_replica replica = BULLY_REPLICA_CLOSED;
     size_t length = 0, count = 0;
     ANSWERS(OK, bully_replica_open(&replica, header, strlen(header)));
-    ANSWERS(OK, bully_replica_rebalance(&replica, live, 1, NULL, 0, rows, ROOM - 1, &length));
+    ANSWERS(OK, bully_replica_rebalance(&replica, &node, 1, NULL, 0, rows, ROOM - 1, &length));
     rows[length] = '\0';
     ANSWERS(OK, bully_replica_learn(&replica, rows, length, &count));
     ANSWERS(OK, bully_replica_close(&replica));
@@ -290,7 +298,7 @@ static void wait_for_kept(void) {
     bully_lease leases[] = {{6, 1, 7, 0, 1, 2, 0}, {5, 1, 7, 0, 2, 0, 0}};
     bully_member member = BULLY_MEMBER_CLOSED;
     char rows[ROOM];
-    uint32_t end = write_alone(header, rows), is_affected = 77;
+    uint32_t end = write_alone(header, 1, rows), is_affected = 77;
     leases[0].offset = end;
     leases[1].offset = end;
     ANSWERS(OK, bully_member_open(&member, header, strlen(header), 7, 2, 66, NULL, 0, 1, 5, TTL));
@@ -322,6 +330,42 @@ static void wait_for_kept(void) {
     EXPECT(asks(&member, 10100, BULLY_ASK_SNAPSHOT));
     ANSWERS(OK, bully_member_snapshot_read(&member, 10110, 7, leases, 2, kept, 1, 0, 0));
     EXPECT(asks_of(&member, 10120, BULLY_ASK_APPEND, 0, end));
+    ANSWERS(OK, bully_member_close(&member));
+}
+
+/* A snapshot at this time finds these rows, and the lease of the other node. */
+static void find_other(bully_member *member, uint64_t now, const char *rows, size_t count, uint32_t is_leaving) {
+    bully_lease lease = {6, 1, 7, 0, 2, 0, 0};
+    lease.is_leaving = is_leaving;
+    ANSWERS(OK, bully_member_woke(member));
+    EXPECT(asks(member, now, BULLY_ASK_SNAPSHOT));
+    learn(member, rows, count);
+    ANSWERS(OK, bully_member_snapshot_read(member, now, 7, &lease, 1, NULL, 0, 0, 0));
+}
+
+/* The lower one of a cooperative group of two needs promises of the other if it has seen no live one, or once it is its
+ * turn, a fifth of the ttl after the other comes or is told to leave; not while the group is stable. */
+static void need_promises(void) {
+    static const char header[] = "bully,1,2,2\n";
+    bully_member member = BULLY_MEMBER_CLOSED;
+    char rows[ROOM];
+    uint32_t end = write_alone(header, 2, rows);
+    ANSWERS(OK, bully_member_open(&member, header, strlen(header), 7, 1, 66, NULL, 0, 1, 5, TTL));
+    EXPECT(needs_promises(&member, 0) == 1 && needs_promises(&member, UINT64_MAX) == 1);
+    find_other(&member, 5, "", 0, 0);
+    EXPECT(needs_promises(&member, 200004) == 0 && needs_promises(&member, 200005) == 1);
+    find_other(&member, 60000, rows, end, 0);
+    EXPECT(needs_promises(&member, 60000) == 0 && needs_promises(&member, UINT64_MAX) == 0);
+    find_other(&member, 70000, "", 0, 1);
+    EXPECT(needs_promises(&member, 70000) == 0 && needs_promises(&member, 269999) == 0 && needs_promises(&member, 270000) == 1);
+    find_other(&member, 80000, "", 0, 1);
+    EXPECT(needs_promises(&member, 269999) == 0 && needs_promises(&member, 270000) == 1);
+    find_other(&member, 90000, "", 0, 0);
+    EXPECT(needs_promises(&member, UINT64_MAX) == 0);
+    ANSWERS(OK, bully_member_woke(&member));
+    EXPECT(asks(&member, 100000, BULLY_ASK_SNAPSHOT));
+    find_nobody(&member, 100000);
+    EXPECT(needs_promises(&member, 100000) == 1);
     ANSWERS(OK, bully_member_close(&member));
 }
 
@@ -497,5 +541,6 @@ void try_members(void) {
     tell_in_vain();
     wait_for_turn();
     wait_for_kept();
+    need_promises();
     try_broken();
 }

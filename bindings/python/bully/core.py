@@ -75,9 +75,8 @@ class CoreOpening:
 class Seen:
     """What a snapshot shows besides the rows, at the same moment: the current epoch; who holds the leases of its nodes,
     in rising order of the nodes; whether an unknown process holds a lease, under a name that none of its nodes has; and
-    whether other settings are requested. If the epoch isn't the member's, only its number matters. In a cooperative
-    group the promises of others may be left out, as `Promise()` that keeps nothing, unless no higher node is live, or
-    the member's last wait had `Reason.OTHERS`."""
+    whether other settings are requested. If the epoch isn't the member's, only its number matters. The promises of
+    others may be left out, as `Promise()` that keeps nothing, unless `Core.needs_promises`."""
 
     epoch: int
     leases: tuple[Lease, ...] = ()
@@ -357,6 +356,13 @@ class Core(Learned):
         """Whether the group is stable by the last snapshot, so that there is nothing to do but work: among the live
         nodes that were admitted then."""
         return bool(self._filled(ctypes.c_uint32(), 'is_stable').value)
+
+    def needs_promises(self, now: int) -> bool:
+        """Whether the next snapshot must show what others have promised. In an eager group it must. In a cooperative
+        group it must if no higher node is live, or if the group isn't stable and the member's turn to change the log
+        has come. Otherwise these promises may be left out: the member does the same. A snapshot may change what this
+        returns; if that is True after one that left promises out, the member needs another one."""
+        return bool(self._filled(ctypes.c_uint32(), 'needs_promises', _moment(now)).value)
 
     # What the driver reports.
 

@@ -275,6 +275,41 @@ class Stories(unittest.TestCase):
             self.assertEqual([snapshot(now, works, first) for now in (50, 10_049, 10_050)], [True, True, False])
             self.assertEqual([snapshot(now, works, again) for now in (20_000, 59_999, 60_000)], [True, True, False])
 
+    def test_needs_promises(self) -> None:
+        """In a cooperative group all but the highest live node need none, until it is their turn: after a change each
+        waits 200,000 for each higher one."""
+        with Replica('bully,1,3,3') as replica:
+            rows = replica.rebalance([1, 2, 3])
+        three = tuple(Lease(node, Session(node, 1), Promise(7, 0)) for node in (1, 2, 3))
+        eager, late = replace(ONE, header='bully,1,3,3', rows_max=99), 10**15
+        for node, is_cooperative, turn in (
+            (1, True, 400_000), (2, True, 200_000), (3, True, 0), (1, False, 0), (2, False, 0), (3, False, 0),
+        ):  # fmt: skip
+            opening, always = replace(eager, node=node, is_cooperative=is_cooperative), turn == 0
+            with self.subTest(node, is_cooperative=is_cooperative), Core(opening, 5, TTL_MIN) as core:
+
+                def needs(*times: int) -> list[bool]:
+                    return [core.needs_promises(now) for now in times]
+
+                def snapshot(now: int, *leases: Lease, has_request: bool = False) -> bool:
+                    core.woke()
+                    self.assertEqual(core.next(now), Ask(Request.SNAPSHOT))
+                    core.learn(rows[core.offset :])
+                    core.snapshot_read(now, Seen(7, leases, False, has_request))
+                    return core.is_stable()
+
+                self.assertEqual(needs(0, late), [True, True], 'it has seen no higher node')
+                self.assertTrue(snapshot(10, *three))
+                self.assertEqual(needs(0, 10, late), [always] * 3, 'the group is stable')
+                self.assertFalse(snapshot(1_000, *three, has_request=True))
+                self.assertEqual(needs(0, 1_000, 999 + turn, 1_000 + turn, late), [always] * 3 + [True] * 2)
+                self.assertFalse(snapshot(2_000, *three, has_request=True))
+                self.assertEqual(needs(999 + turn, 1_000 + turn), [always, True], 'nothing has changed')
+                self.assertTrue(snapshot(3_000, *three))
+                self.assertEqual(needs(3_000, late), [always] * 2, 'the group is stable again')
+                self.assertFalse(snapshot(4_000, *three[: node - 1]))
+                self.assertEqual(needs(4_000, late), [True, True], 'no higher node is live')
+
     def test_its_work_ends_outside(self) -> None:
         self.begin()
         self.core.lost(4)

@@ -443,6 +443,7 @@ impl MemberHandle {
     structs! {
         is_affected(node: u16): bully_member_is_affected, u32;
         is_stable(): bully_member_is_stable, u32;
+        needs_promises(now: u64): bully_member_needs_promises, u32;
         show(now: u64): bully_member_show, bully_member_state;
         node(node: u16): bully_member_node, bully_state;
         group(): bully_member_group, bully_group;

@@ -215,6 +215,53 @@ fn a_member_observes_its_group() {
     assert_eq!(member.owned_of(&third).err(), Some(no_node));
     assert!(member.is_stable());
     assert!(!Member::open(&opening(), 5, TTL_MIN).unwrap().is_stable());
+    assert_eq!(
+        [0, 100, u64::MAX].map(|now| member.needs_promises(now)),
+        [true; 3]
+    );
+}
+
+// In a cooperative group of three all but the highest live node need no promises of others until it is their turn: after
+// a change each waits 200,000 for each higher one.
+#[test]
+fn lower_members_need_no_promises() {
+    let replica = Replica::open("bully,1,3,3").unwrap();
+    let rows = replica.rebalance(&[1, 2, 3], None).unwrap();
+    let three = [1, 2, 3].map(|node| Lease { node, ..own(0) });
+    for (node, turn) in [(1, 400_000), (2, 200_000), (3, 0)] {
+        let cooperative = Opening {
+            header: "bully,1,3,3".to_string(),
+            node,
+            rows_max: 99,
+            is_cooperative: true,
+            ..opening()
+        };
+        let always = turn == 0;
+        let mut member = Member::open(&cooperative, 5, TTL_MIN).unwrap();
+        assert!(member.needs_promises(0));
+        assert_eq!(member.next(0), Step::Ask(Request::Snapshot));
+        member.learn(&rows).unwrap();
+        member.snapshot_read(10, &seen(&three)).unwrap();
+        assert!(member.is_stable());
+        assert_eq!(
+            [10, u64::MAX].map(|now| member.needs_promises(now)),
+            [always; 2]
+        );
+        member.woke();
+        assert_eq!(member.next(20), Step::Ask(Request::Snapshot));
+        let changed = Seen {
+            has_request: true,
+            ..seen(&three)
+        };
+        member.snapshot_read(1_000, &changed).unwrap();
+        let needs = [1_000, 999 + turn, 1_000 + turn].map(|now| member.needs_promises(now));
+        assert_eq!(needs, [always, always, true]);
+        member.woke();
+        assert_eq!(member.next(2_000), Step::Ask(Request::Snapshot));
+        let lower = &three[..usize::from(node) - 1];
+        member.snapshot_read(3_000, &seen(lower)).unwrap();
+        assert!(member.needs_promises(3_000));
+    }
 }
 
 #[test]

@@ -8,6 +8,7 @@ use Rattle.bully_member.specs.Learned.{RefusesTerms, after_learning, followed}
 use Rattle.bully_member.specs.Member.{Foresees, MemberState, SeesStable, is_affected, new_member, owned_of, offset_of, replica_of}
 use Rattle.bully_member.specs.Opening.{RefusesMember, member_fault, terms_fault}
 use Rattle.bully_member.specs.Rebalance.{rebalance}
+use Rattle.bully_member.specs.Roles.{needs_promises}
 use Rattle.bully_member.specs.Told.{TakesIn, answered, end_for, snapshot_lost, snapshot_read}
 use Rattle.bully_member.specs.declared.opening.MemberFault.{MemberFault}
 use Rattle.bully_member.specs.declared.opening.Terms.{Terms}
@@ -193,6 +194,11 @@ pub record IsMemberStable (m : MemberState) (told : ℕ) : Type 0 where
   pub is_stable : Bool
   pub decides : IsTrue is_stable ↔ SeesStable m
   pub told_is : told ≡ (if is_stable then 1 else 0)
+
+-- whether its next snapshot must show it what others have promised
+pub record NeedsPromises (m : MemberState) (now told : ℕ) : Type 0 where
+  pub told_is : (is_stable : Bool) → (IsTrue is_stable ↔ SeesStable m)
+      → told ≡ (if needs_promises m now is_stable then 1 else 0)
 
 -- whether a change affects the node, if it is one of the group's
 abbrev pub IsAffectedShown : MemberState → (node before status told : ℕ) → Type 0

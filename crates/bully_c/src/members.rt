@@ -6,7 +6,7 @@ ghost use Rattle.bully_c.specs.MemberNumbers.{activity_number};
 ghost use Rattle.bully_c.specs.MemberShown.{member_shown};
 ghost use Rattle.bully_c.specs.Members.{AtMember, Becomes, IsAnswer, IsFollow, IsSnapshotRead, IsMemberLearning};
 ghost use Rattle.bully_c.specs.Members.{IsMemberOpening, IsMemberRebalance, IsNextStep, IsOwnedOfShown, IsMemberStable};
-ghost use Rattle.bully_c.specs.Members.{IsAffectedShown, RefusesMemberRebalance, ShowsMember};
+ghost use Rattle.bully_c.specs.Members.{IsAffectedShown, NeedsPromises, RefusesMemberRebalance, ShowsMember};
 ghost use Rattle.bully_c.specs.Replicas.{IsStateShown, IsWritten, group_shown, table_shown};
 ghost use Rattle.bully_c.specs.RebalanceRows.{IsOwnedMade};
 ghost use Rattle.bully_c.specs.declared.status.TheConstants.{OK as OkNumber};
@@ -540,6 +540,33 @@ fn stable_told(member: &Member) -> u32
     ensures { IsMemberStable member.now result }
 {
     u32::from(member.is_stable())
+}
+
+/// Whether its next snapshot must show what others have promised: [`Member::needs_promises`].
+#[unsafe(no_mangle)]
+pub extern "C" fn bully_c_member_needs_promises(
+    alloc: Global,
+    member: &mut MemberHandle,
+    now: u64,
+    needs_promises: &mut u32,
+) -> u32
+    ensures open { AtMember (ShowsMember (λ held status. (status ≡ OkNumber)
+        × NeedsPromises held.member now needs_promises.new)) member.old.value result member.new.value }
+    ensures closed { member.old.value ≡ None → needs_promises.new ≡ needs_promises.old }
+{
+    let Some(held) = member.take(alloc) else {
+        return CLOSED;
+    };
+    *needs_promises = promises_needed(&held.member, now);
+    member.put(alloc, held);
+    OK
+}
+
+// Whether the member's next snapshot must show what others have promised, as a number for C.
+fn promises_needed(member: &Member, now: u64) -> u32
+    ensures { NeedsPromises member.now now result }
+{
+    u32::from(member.needs_promises(now))
 }
 
 /// The state of the member now.

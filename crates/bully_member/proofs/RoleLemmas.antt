@@ -1,14 +1,14 @@
 -- A member that isn't about to change the log needs no promise of others.
-use Rattle.std.proofs.Common.{rules, ◌≡◌, ◌↔◌, ◌<◌, ◌+◌, ◌-◌, ◌^◌, ◌&&◌, ◌||◌, ◌==◌, ◌⊎◌, inl, inr, not, ℕ, Bool, true, false, List, [], ◌∷◌, Option, Some, None, cond, if◌then◌else◌, nat_lt, min, map, fold, filter, find, arith, refl, sym, subst, ap, ◌∙◌}
+use Rattle.std.proofs.Common.{◌≡◌, ◌<◌, ◌+◌, ◌-◌, ◌^◌, ◌&&◌, ◌||◌, ◌==◌, not, ℕ, Bool, true, false, List, [], ◌∷◌, Option, Some, None, cond, if◌then◌else◌, nat_lt, min, map, fold, filter, find, arith, refl, sym, subst, ap, ◌∙◌}
 use Rattle.std.proofs.lemmas.Bool.Decides.{nat_tests}
 use Rattle.std.proofs.lemmas.List.Folds.{fold-map, list_all-map}
-use Rattle.std.specs.List.{list_all, list_any}
+use Rattle.std.specs.List.{list_any}
 use Rattle.std.specs.Option.{option_map}
 use Rattle.bully_base.specs.declared.TheConstants.{NODES_MAX}
 use Rattle.bully_member.specs.Activities.{any_stopping}
-use Rattle.bully_member.specs.Due.{Sees, absent_step, acquiring_step, admission_wait, change_step, due, ending_step, going_step, is_admitted_since, is_due, is_leaving, is_newcomer, is_outdated, is_to_come, leaving_step, live_step, rebalance_left, session_step, stable_step, step_by_work, step_of_session, step_unless_awaiting, step_without_session, stopping_step, token_now, turn_step, unstable_step}
-use Rattle.bully_member.specs.Member.{MemberState, SeesStable, above, are_none, are_of, has_promised, has_room, heeded, heeds_promises, is_alone, is_down, is_ready_itself, lease_of, most_promised, offset_in, offset_of, stay_left}
-use Rattle.bully_member.specs.Roles.{IsNoWriter, unpromised, without_promises}
+use Rattle.bully_member.specs.Due.{Sees, absent_step, acquiring_step, admission_wait, change_step, due, ending_step, going_step, is_admitted_since, is_due, is_leaving, is_newcomer, is_outdated, is_to_come, leaving_step, live_step, rebalance_left, session_step, stable_step, step_of_session, step_unless_awaiting, step_without_session, stopping_step, token_now, turn_step, unstable_step}
+use Rattle.bully_member.specs.Member.{MemberState, SeesStable, above, are_none, has_room, heeded, heeds_promises, is_alone, is_down, is_ready_itself, lease_of, most_promised, offset_in, offset_of, stay_left}
+use Rattle.bully_member.specs.Roles.{needs_promises, unpromised, without_promises}
 use Rattle.bully_member.specs.Times.{left, pause_left, renewal_left, sure, turn_left}
 use Rattle.bully_member.specs.declared.values.Asked.{Asked}
 use Rattle.bully_member.specs.declared.values.Ending.{Ending}
@@ -62,6 +62,17 @@ if_not false x y is = refl
 some_turn : (n : ℕ) → 0 < n → nat_lt 0 n ≡ true
 some_turn n some = grind (arith, nat_tests, some)
 
+-- What it knows if it needs no promises.
+
+no_first : (a b : Bool) → (a || b) ≡ false → a ≡ false
+no_first true b is = absurd (cc is)
+no_first false b is = refl
+
+no_turn : (a is_stable : Bool) (n : ℕ) → (a || (not is_stable && (n == 0))) ≡ false → is_stable ≡ false → 0 < n
+no_turn true is_stable n is unstable = absurd (cc is)
+no_turn false true n is unstable = absurd (cc unstable)
+no_turn false false n is unstable = grind (arith, nat_tests, is)
+
 module _ (m : MemberState) where
   abbrev bare : MemberState
   bare = without_promises m
@@ -103,6 +114,13 @@ module _ (m : MemberState) where
   pub sees_bare : (now : ℕ) (s : Sight) → heeds_promises m ≡ false → Sees m now s → Sees bare now s
   sees_bare now s lower sees = record { stable = (λ is. bare_stable lower (sees.stable.0 is), λ stable. sees.stable.1 (stable_bare lower stable)); down = sees.down; stays = sees.stays; all = sees.all }
 
+  needs_same : (now : ℕ) (is_stable : Bool) → needs_promises bare now is_stable ≡ needs_promises m now is_stable
+  needs_same now is_stable =
+      ap (λ n. not m.terms.is_cooperative || (n == 0) || (not is_stable && (turn_left n m.ttl now m.last_change.at == 0))) above_same
+
+  lower_of : (now : ℕ) (is_stable : Bool) → needs_promises m now is_stable ≡ false → heeds_promises m ≡ false
+  lower_of now is_stable = no_first (heeds_promises m) (not is_stable && (turn_left (above m) m.ttl now m.last_change.at == 0))
+
   -- What is due, from the last rule to the first.
 
   turn_same : (now : ℕ) → 0 < turn_left (above m) m.ttl now m.last_change.at → turn_step bare now ≡ turn_step m now
@@ -141,14 +159,10 @@ module _ (m : MemberState) where
   absent_same now = if_same m.is_past m.is_past _ _ _ _ refl refl (if_same m.needs_snapshot m.needs_snapshot _ _ _ _ refl refl
       (ap (acquiring_step bare now) lease_same ∙ acquiring_same now (lease_of m.terms.node m.leases)))
 
-  module _ (now : ℕ) (s : Sight) (writer : IsNoWriter m now s) where
+  module _ (now : ℕ) (s : Sight) (needs : needs_promises m now s.is_stable ≡ false) where
     by_stable : (b : Bool) (session : SessionId) → s.is_stable ≡ b → (if b then stable_step bare now s.has_all (token_now m) else unstable_step bare now session) ≡ (if b then stable_step m now s.has_all (token_now m) else unstable_step m now session)
     by_stable true session is = stable_same now s.has_all (token_now m)
-    by_stable false session is = unstable_same now session (early writer.early)
-      where
-        early : (s.is_stable ≡ true) ⊎ (0 < turn_left (above m) m.ttl now m.last_change.at) → 0 < turn_left (above m) m.ttl now m.last_change.at
-        early (inl stable) = absurd (cc (stable, is))
-        early (inr turn) = turn
+    by_stable false session is = unstable_same now session (no_turn (heeds_promises m) s.is_stable (turn_left (above m) m.ttl now m.last_change.at) needs is)
 
     live_same : (session : SessionId) → live_step bare now s session ≡ live_step m now s session
     live_same session = if_same m.is_past m.is_past _ _ _ _ refl refl (if_same (is_outdated bare now) (is_outdated m now) _ _ _ _ (outdated_same now) refl (by_stable s.is_stable session refl))
@@ -180,3 +194,6 @@ module _ (m : MemberState) where
 
     pub due_bare : due bare now s ≡ due m now s
     due_bare = if_same (not s.may_go_on) (not s.may_go_on) _ _ _ _ refl refl (unless_same m.asked)
+
+    pub answers_bare : Sees m now s → Sees bare now s × (due bare now s ≡ due m now s) × (needs_promises bare now s.is_stable ≡ false)
+    answers_bare sees = (sees_bare now s (lower_of now s.is_stable needs) sees, due_bare, needs_same now s.is_stable ∙ needs)

@@ -1,10 +1,9 @@
 -- What a snapshot need not show to a member that isn't about to change the log.
-use Rattle.std.specs.Prelude.{◌==◌, ◌≡◌, ◌⊎◌, ◌<◌, ℕ, Bool, true, false, List, [], map, if◌then◌else◌}
+use Rattle.std.specs.Prelude.{◌==◌, ◌&&◌, ◌||◌, not, ℕ, Bool, [], map, if◌then◌else◌}
 use Rattle.bully_member.specs.Member.{MemberState, above, heeds_promises}
 use Rattle.bully_member.specs.Times.{turn_left}
 use Rattle.bully_member.specs.declared.values.Lease.{Lease}
 use Rattle.bully_member.specs.declared.values.Promise.{Promise}
-use Rattle.bully_member.specs.declared.values.Sight.{Sight}
 
 -- the promise of a session that has promised nothing, as far as is known
 abbrev pub no_promise : Promise
@@ -21,8 +20,8 @@ unpromised own p = record p {
 abbrev pub without_promises : MemberState → MemberState
 without_promises m = record m { leases = map (unpromised m.terms.node) m.leases }
 
--- it isn't about to change the log: a higher node is live, the group is cooperative, and stable for the member, or its
--- turn hasn't come
-pub record IsNoWriter (m : MemberState) (now : ℕ) (s : Sight) : Type 0 where
-  pub lower : heeds_promises m ≡ false
-  pub early : (s.is_stable ≡ true) ⊎ (0 < turn_left (above m) m.ttl now m.last_change.at)
+-- whether a snapshot must show it what others have promised, if the group is stable for it or not: the group is eager, or
+-- no higher node is live; or the group isn't stable for it, and its turn to change the log has come
+abbrev pub needs_promises : MemberState → (now : ℕ) → (is_stable : Bool) → Bool
+needs_promises m now is_stable =
+    heeds_promises m || (not is_stable && (turn_left (above m) m.ttl now m.last_change.at == 0))

@@ -14,7 +14,7 @@ ghost use Rattle.bully_member.specs.Due.{Sees, due, noted};
 ghost use Rattle.bully_member.specs.Keeping.{AcquiresAt, AppendsAt, BeginsBy, PromisesAt, RollsOverAt};
 ghost use Rattle.bully_member.specs.Member.{MemberState, heeds_promises, replica_of};
 ghost use Rattle.bully_member.specs.Rebalance.{rebalanced_nodes};
-ghost use Rattle.bully_member.specs.Roles.{IsNoWriter, without_promises};
+ghost use Rattle.bully_member.specs.Roles.{needs_promises, without_promises};
 ghost use Rattle.bully_member.specs.Stopping.{GoesOnWorking, IsTaken, StopsFor};
 ghost use Rattle.bully_member.specs.declared.values.Sight.{Sight as SightState};
 ghost use Rattle.bully_replica.specs.Replica.{IsLogOf};
@@ -81,14 +81,19 @@ pub fn asks_by_the_rules()
         → IsOneToOne next → MayRollOver s silent next }
 {}
 
-/// What a snapshot must show, by role. A member of a cooperative group that isn't about to change the log
-/// (`IsNoWriter`: a higher node is live, and the group is stable for the member, or its turn hasn't come) does the same
-/// whether or not it knows what others have promised. So it needs rows, leases, requests and its own promise alone.
+/// What a snapshot must show, by role. A member of a cooperative group that isn't about to change the log sees and does
+/// the same whether or not it knows what others have promised. That is so if [`Member::needs_promises`] returns false
+/// (`answers`): a higher node is live, and the group is stable for the member, or its turn hasn't come. Without those
+/// promises that returns false, too. So the member needs rows, leases, requests and its own promise alone.
 pub fn needs_no_promises()
     ensures sees { (m : MemberState) (now : ℕ) (s : SightState) → heeds_promises m ≡ false → Sees m now s
         → Sees (without_promises m) now s }
-    ensures due { (m : MemberState) (now : ℕ) (s : SightState) → IsNoWriter m now s
+    ensures due { (m : MemberState) (now : ℕ) (s : SightState) → needs_promises m now s.is_stable ≡ false
         → due (without_promises m) now s ≡ due m now s }
+    ensures answers { (m : MemberState) (now : ℕ) (s : SightState) → Sees m now s
+        → needs_promises m now s.is_stable ≡ false
+        → Sees (without_promises m) now s × (due (without_promises m) now s ≡ due m now s)
+        × (needs_promises (without_promises m) now s.is_stable ≡ false) }
 {}
 
 /// What a member stops. A step stops its work on a partition for a reason alone (`StopsFor`): it may go on with

@@ -1,4 +1,4 @@
-use Rattle.bully_member.proofs.RoleLemmas.{due_bare, sees_bare}
+use Rattle.bully_member.proofs.RoleLemmas.{answers_bare, due_bare, sees_bare}
 use Rattle.bully_member.proofs.needs_no_promises.Goals as goal
 
 pub returns-clause-sees : goal.returns-clause-sees
@@ -6,3 +6,6 @@ returns-clause-sees c = sees_bare
 
 pub returns-clause-due : goal.returns-clause-due
 returns-clause-due c = due_bare
+
+pub returns-clause-answers : goal.returns-clause-answers
+returns-clause-answers c m now s sees needs = answers_bare m now s needs sees

@@ -17,7 +17,9 @@ ghost use Rattle.bully_member.specs.Member.{AllAreDown, SeesStable, above, all_r
 ghost use Rattle.bully_member.specs.Member.{has_room};
 ghost use Rattle.bully_member.specs.Member.{heeded, heeds_promises, here, is_alone, is_closing, is_down, is_ready, is_ready_itself, lease_of};
 ghost use Rattle.bully_member.specs.Member.{most_promised, offset_in, replica_of, stay_left};
+ghost use Rattle.bully_member.specs.Roles.{needs_promises};
 ghost use Rattle.bully_member.specs.Told.{SeesIfFound};
+ghost use Rattle.bully_member.specs.Times.{turn_left};
 ghost use Rattle.bully_member.specs.Waiting.{WaitsFor};
 ghost use Rattle.bully_member.specs.declared.values.Sight.{Sight as SightState};
 ghost use Rattle.bully_member.specs.declared.values.Step.{Step as StepState};
@@ -501,12 +503,19 @@ impl Member {
     fn turn_step(&self, now: u64) -> Step
         ensures { result ≡ turn_step self.now now }
     {
-        let turn = turn_left(self.above(), self.ttl, now, self.last_change.at);
+        let turn = self.turn_left(now);
         if 0 < turn {
             let renewal = renewal_left(self.session, self.ttl, now);
             return Step::Wait(renewal.min(turn), Until::News, Reason::Turn);
         }
         self.change_step(now)
+    }
+
+    // How long until it is its turn to change the log.
+    fn turn_left(&self, now: u64) -> u64
+        ensures { result ≡ turn_left (above self.now) self.now.ttl now self.now.last_change.at }
+    {
+        turn_left(self.above(), self.ttl, now, self.last_change.at)
     }
 
     // Rules 22 to 24: it is its turn to roll the epoch over or to rebalance the group, once all are ready.
@@ -552,6 +561,18 @@ impl Member {
         is_stable(self.learned.replica(), &self.group, self.heeded())
             && self.promised < self.learned.replica().token()
             && !self.is_closing()
+    }
+
+    /// Whether the next snapshot must show what others have promised. In an eager group it must. In a cooperative one it
+    /// must if no higher node is live, or if the group isn't stable for the member and its turn to change the log has
+    /// come. Otherwise a snapshot may leave promises of others out, as if nobody had promised anything: the member does
+    /// the same ([`needs_no_promises`](crate::needs_no_promises)). A snapshot may change what this returns. If it returns
+    /// true after one that left promises out, the member needs another one.
+    pub fn needs_promises(&self, now: u64) -> bool
+        ensures { (is_stable : Bool) → (IsTrue is_stable ↔ SeesStable self.now)
+            → result ≡ needs_promises self.now now is_stable }
+    {
+        self.heeds_promises() || (!self.is_stable() && self.turn_left(now) == 0)
     }
 
     // Whether all nodes of the group are Down.
