@@ -64,6 +64,14 @@ class Version(NamedTuple):
     lease: int = 0
 
 
+NOTHING = Version()
+
+
+def within(names: list[bytes], begin: bytes, end: bytes) -> list[bytes]:
+    """Those of the names, which are in rising order, from one on that are before another one."""
+    return names[bisect_left(names, begin) : bisect_left(names, end)]
+
+
 class Keys:
     """All keys, in all revisions."""
 
@@ -71,6 +79,10 @@ class Keys:
         self.times: list[float] = [0.0]  # of the revisions, from the first on
         self._names: list[bytes] = []
         self._versions: dict[bytes, list[Version]] = {}
+        self._there: list[bytes] = []  # the keys that are there now
+        self._last: dict[bytes, Version] = {}  # what they are now
+        self._changes: list[tuple[int, bytes]] = []  # the revisions in which keys were put
+        self._told: dict[tuple[bytes, int], Json] = {}  # what was told of a key, by the revision since which it is so
 
     @property
     def revision(self) -> int:
@@ -80,15 +92,22 @@ class Keys:
         return max(1, bisect_right(self.times, moment))
 
     def get(self, key: bytes, revision: int | None = None) -> Version:
+        if revision is None:
+            return self._last.get(key) or (self._versions[key][-1] if key in self._versions else NOTHING)
         versions = self._versions.get(key, ())
         for version in reversed(versions):
             if revision is None or version.modified <= revision:
                 return version
-        return Version()
+        return NOTHING
 
     def found(self, key: bytes, end: bytes | None, revision: int | None = None) -> list[tuple[bytes, Version]]:
         """The keys from one on that are before another one, or that one alone."""
-        names = [key] if end is None else self._names[bisect_left(self._names, key) : bisect_left(self._names, end)]
+        if revision is None or revision >= self.revision:
+            last = self._last
+            if end is None:
+                return [(key, last[key])] if key in last else []
+            return [(name, last[name]) for name in within(self._there, key, end)]
+        names = [key] if end is None else within(self._names, key, end)
         pairs = ((name, self.get(name, revision)) for name in names)
         return [(name, version) for name, version in pairs if version.value is not None]
 
@@ -101,9 +120,39 @@ class Keys:
             value, revision if is_new else before.created, revision, 1 if is_new else before.version + 1, lease
         )
         self._versions.setdefault(key, []).append(version)
+        if key not in self._last:
+            insort(self._there, key)
+        self._last[key] = version
+        self._changes.append((revision, key))
 
     def remove(self, key: bytes, revision: int) -> None:
         self._versions[key].append(Version(modified=revision))
+        if self._last.pop(key, None) is not None:
+            del self._there[bisect_left(self._there, key)]
+
+    def put_since(self, revision: int, begin: bytes, end: bytes) -> tuple[int, list[tuple[bytes, Version]]]:
+        """How many of these keys are there now, and those of them that were put in this revision or later."""
+        changes = self._changes[bisect_left(self._changes, (revision, b'')) :]
+        names = sorted({key for _, key in changes if begin <= key < end and key in self._last})
+        return bisect_left(self._there, end) - bisect_left(self._there, begin), [(name, self._last[name]) for name in names]
+
+    def since(self, revision: int, begin: bytes, end: bytes) -> list[tuple[int, bytes, Version]]:
+        """What has happened to these keys after a revision, in order."""
+        found = []
+        for name in within(self._names, begin, end):
+            for version in reversed(self._versions[name]):
+                if version.modified <= revision:
+                    break
+                found.append((version.modified, name, version))
+        return sorted(found)
+
+    def told(self, key: bytes, version: Version) -> Json:
+        """A key, as etcd writes it in JSON. It is told to many, of whom nobody changes it."""
+        place = key, version.modified
+        found = self._told.get(place)
+        if found is None:
+            found = self._told[place] = pair_told(key, version, {})
+        return found
 
 
 @dataclass
@@ -310,13 +359,19 @@ class Cluster:
 
     def found(self, asked: Json, revision: int | None) -> Json:
         """What a range finds."""
-        pairs = self.keys.found(*interval(asked), revision)
+        (begin, end), least = interval(asked), int(asked.get('min_mod_revision', 0))
+        if end is not None and least > 1 and (revision is None or revision >= self.keys.revision):
+            count, newer = self.keys.put_since(least, begin, end)
+        else:
+            pairs = self.keys.found(begin, end, revision)
+            count, newer = len(pairs), [pair for pair in pairs if pair[1].modified >= least] if least > 1 else pairs
         if asked.get('sort_order') == 'DESCEND':
-            pairs.reverse()
-        limit, least = int(asked.get('limit', 0)) or len(pairs), int(asked.get('min_mod_revision', 0))
-        newer = [(key, version) for key, version in pairs if version.modified >= least]
-        told = {} if asked.get('count_only') else {'kvs': [pair_told(*pair, asked) for pair in newer[:limit]]}
-        return {'count': str(len(pairs)), **told}
+            newer.reverse()
+        if asked.get('count_only'):
+            return {'count': str(count)}
+        newer = newer[: int(asked.get('limit', 0)) or count]
+        told = [pair_told(*pair, asked) for pair in newer] if asked.get('keys_only') else [self.keys.told(*pair) for pair in newer]
+        return {'count': str(count), 'kvs': told}
 
     # Leases.
 

@@ -28,11 +28,13 @@ class Wrong(Exception):
 class Member:
     """A process for the node of a name: it drives the rules, and its worker."""
 
+    expects: type[Expected] = Expected
+
     def __init__(self, simulation: Simulation, name: str, number: int, opening: Opening) -> None:
         self.simulation, self.name, self.number = simulation, name, number
         self.opening, self.offset = opening, 0
         self.rules = Core(core_opening_of(opening, self.node), number, simulation.ttl)
-        self.expected = Expected(core_opening_of(opening, self.node), simulation.ttl)
+        self.expected = self.expects(core_opening_of(opening, self.node), simulation.ttl)
         self.session: Session | None = None
         self.found: Snapshot | None = None  # what the last snapshot found
         self.own: Holder | None = None  # its lease, with its last promise that was done, since that snapshot
@@ -126,7 +128,8 @@ class Member:
         rows = self.simulation.store.epochs[self.epoch - 1].rows
         if not 0 < token <= self.offset or not rows[token - 1].startswith('plan,'):
             raise Wrong(f'{self} begins by the token {token}, which no plan has that it knows of')
-        partitions = frozenset(partition for partition, owner in enumerate(table_of(rows[token - 1])) if owner == self.node)
+        node = self.node
+        partitions = frozenset(partition for partition, owner in enumerate(table_of(rows[token - 1])) if owner == node)
         owned, added = Owned(token, tuple(sorted(partitions))), partitions - self.works
         if not partitions or self.session is None or not self.works <= partitions or owned != self.rules.owned():
             raise Wrong(f'{self} begins as {self.session}, works on {self.works}, and owns {partitions}')
@@ -242,4 +245,4 @@ class Member:
         if self.rules.epoch != self.epoch:
             self.opening, self.offset, self.own = opening, 0, None
             self.expected.close()
-            self.expected = Expected(core_opening, self.simulation.ttl)
+            self.expected = self.expects(core_opening, self.simulation.ttl)

@@ -7,8 +7,10 @@ judged is read from etcd's keys as they are.
 from __future__ import annotations
 
 import random
+from collections import deque
 from collections.abc import Callable
 from functools import partial
+from typing import Deque
 
 from bully import shared_log
 from bully.clocks import SECOND
@@ -21,7 +23,7 @@ from bully.maintenance import Maintenance
 from bully.settings import Settings
 from bully.shared_log import LogError, Unanswered
 from .asking import KeptLog, Pending, Request, made, opened
-from .cluster import SERVERS, Cluster, Outcome, Version, Weather, interval, pair_told, weather_of
+from .cluster import SERVERS, Cluster, Keys, Outcome, Version, Weather, interval, weather_of
 from .driven import Member, Wrong
 from .judged import Epoch, Lease, LogStore
 from .over_memory import LogMember, OverMemory
@@ -72,14 +74,20 @@ class EtcdStore(LogStore):
                     end = f'offset {len(self.epoch.rows)} of epoch {self.epoch.number}'
                     raise Wrong(f'rows are at {here}, and the log ends at {end}')
                 self.epoch.rows.extend(unpacked(value).decode().splitlines())
-        if any(key.startswith(keys.holders) for key in changed):
-            sessions, promises = self.below(keys.sessions), self.below(keys.promises)
-            none = b'%010d/%010d' % (0, 0)
-            self.leases = {
-                name: Lease(session_of(session.decode()), *promise_of(promises.get(name, none).decode()), 0)
-                for name, session in sessions.items()
-            }
+        prefixes = keys.sessions, keys.promises
+        for name in {key[len(prefix) :].decode() for key in changed for prefix in prefixes if key.startswith(prefix)}:
+            self.see_lease(name)
         return what
+
+    def see_lease(self, name: str) -> None:
+        """The lease of a node has changed."""
+        there, keys = self.cluster.keys, self.log._keys
+        session, promise = there.get(keys.session(name)).value, there.get(keys.promise(name)).value
+        if session is None:
+            self.leases.pop(name, None)
+        else:
+            none = b'%010d/%010d' % (0, 0)
+            self.leases[name] = Lease(session_of(session.decode()), *promise_of((promise or none).decode()), 0)
 
     def held(self) -> dict[str, Lease]:
         return self.leases
@@ -247,8 +255,9 @@ class OverEtcd(OverMemory):
         if not key.startswith(keys.sessions):
             return
         self.happened['a lease of etcd ends'] += 1
+        ended = session_of(session.decode())
         for member in self.members:
-            if not member.is_dead and member.session == session_of(session.decode()) and self.now < member.worker.until:
+            if not member.is_dead and member.session == ended and self.now < member.worker.until:
                 raise Wrong(f'the lease of {member} ended, and it is sure for {member.worker.until - self.now} ns')
 
     def see_change(self, changed: list[bytes]) -> None:
@@ -279,11 +288,15 @@ class Subscription:
 
     def __init__(self, is_wide: bool, begin: bytes, end: bytes) -> None:
         self.is_wide, self.begin, self.end = is_wide, begin, end
-        self.events: list[tuple[int, Json]] = []
+        self.events: Deque[tuple[int, Json]] = deque()
 
     def add(self, due: int, event: Json) -> None:
         """It reports all in order."""
-        self.events.append((max([due, *(due for due, _ in self.events[-1:])]), event))
+        self.events.append((max(due, self.events[-1][0]) if self.events else due, event))
+
+    def has_due(self, now: int) -> bool:
+        """Whether something is to be reported by now."""
+        return bool(self.events) and self.events[0][0] <= now
 
 
 class Watched(EtcdMember):
@@ -292,6 +305,7 @@ class Watched(EtcdMember):
     simulation: Watching
     watch: Subscription | None = None
     broken = 0  # when its watch broke
+    heard: Wait | None = None  # the wait for which there was no news in what was due up to now
 
     def is_news(self, wait: Wait) -> bool:
         """Whether there is what it waits for, as far as its log knows."""
@@ -309,9 +323,16 @@ class Watched(EtcdMember):
                 return False
             self.begin_watch(log, is_wide)
         assert self.watch is not None
-        while not self.is_news(wait) and self.watch.events and self.watch.events[0][0] <= now:
-            log._news.see(self.watch.events.pop(0)[1])
-        return self.is_news(wait)
+        while not self.is_news(wait):
+            if not self.watch.has_due(now):
+                self.heard = wait
+                return False
+            log._news.see(self.watch.events.popleft()[1])
+        return True
+
+    def has_heard(self, wait: Wait) -> bool:
+        """Whether it knows all that is due now, and that this isn't what it waits for."""
+        return self.heard is wait and self.watch is not None and not self.watch.has_due(self.simulation.now)
 
     def begin_watch(self, log: KeptLog, is_wide: bool) -> None:
         """After what is known, which is read anew if it isn't fresh."""
@@ -338,16 +359,11 @@ class Watching(OverEtcd):
     def events_since(self, revision: int, begin: bytes, end: bytes) -> list[Json]:
         """What has happened to these keys after a revision, in order."""
         there = self.cluster.keys
-        names = [name for name in there._names if begin <= name < end]
-        found = [
-            (version.modified, name, version)
-            for name in names
-            for version in there._versions[name]
-            if version.modified > revision
-        ]
-        return [event_of(name, version) for _, name, version in sorted(found)]
+        return [event_of(there, name, version) for _, name, version in there.since(revision, begin, end)]
 
     def see_change(self, changed: list[bytes]) -> None:
+        there = self.cluster.keys
+        events = [(key, event_of(there, key, there.get(key))) for key in sorted(set(changed))]
         for member in self.members:
             if not isinstance(member, Watched) or member.is_dead or member.watch is None:
                 continue
@@ -355,9 +371,9 @@ class Watching(OverEtcd):
                 member.break_watch()
                 continue
             due = self.now + int(self.of_etcd.uniform(0, self.weather.watch_late) * SECOND)
-            for key in sorted(set(changed)):
+            for key, event in events:
                 if member.watch.begin <= key < member.watch.end:
-                    member.watch.add(due, event_of(key, self.cluster.keys.get(key)))
+                    member.watch.add(due, event)
             self.after(due - self.now, partial(self.tell, member))
         super().see_change(changed)
 
@@ -365,7 +381,7 @@ class Watching(OverEtcd):
         """It waits, or what was late is reported now."""
         assert isinstance(member, Watched)
         wait = member.awaited
-        if wait is None or member.is_dead:
+        if wait is None or member.is_dead or member.has_heard(wait):
             return
         if member.hear(wait):
             member.soon(0, partial(self.wake, member, member.turn))
@@ -375,7 +391,7 @@ class Watching(OverEtcd):
             self.after(member.watch.events[0][0] - self.now, partial(self.tell, member))
 
 
-def event_of(key: bytes, version: Version) -> Json:
+def event_of(keys: Keys, key: bytes, version: Version) -> Json:
     """What a watch reports of a key."""
-    told: Json = {'kv': pair_told(key, version, {})}
+    told: Json = {'kv': keys.told(key, version)}
     return told if version.value is not None else {**told, 'type': 'DELETE'}

@@ -54,6 +54,14 @@ def each_mode(seed: int) -> Mode:
     return Mode(seed % 2 == 0, sorted(KINDS)[seed // 2 % len(KINDS)])
 
 
+def owned_by(table: Sequence[int], names: Sequence[str]) -> dict[str, frozenset[int]]:
+    """What a table gives the nodes of these names."""
+    found: dict[str, list[int]] = {}
+    for partition, owner in enumerate(table):
+        found.setdefault(names[owner - 1], []).append(partition)
+    return {name: frozenset(partitions) for name, partitions in found.items()}
+
+
 class Simulation:
     """One group, over the store that `store` makes."""
 
@@ -74,6 +82,7 @@ class Simulation:
         self.number, self.rows = self.store.epoch.number, 0  # of the current epoch, and its rows, at the last change
         self.changes: list[int] = []  # when they were, within the last ttl
         self.table: tuple[int, ...] = ()  # of the log's last plan, unless all nodes are down by then
+        self.plan: dict[str, frozenset[int]] = {}  # what that gives the nodes, by name
         self.units: set[Unit] = set()  # that there are
         self.highest: dict[int, tuple[Token, Session]] = {}  # of each partition: the token used last, and whose
         self.fence = Token(0)  # the highest token that was used
@@ -137,6 +146,7 @@ class Simulation:
         epoch = self.store.epoch
         appended = epoch.rows[self.rows :] if epoch.number == self.number else []
         self.number, self.rows, self.table = epoch.number, len(epoch.rows), last_table(appended) or ()
+        self.plan = owned_by(self.table, epoch.opening.names)
         for process in self.processes():
             may_work = self.owned(process) if self.is_cooperative else frozenset()
             if process.works and self.holds(process):
@@ -162,8 +172,7 @@ class Simulation:
 
     def owned(self, process: Process) -> frozenset[int]:
         """What the last plan gives its node."""
-        names = ('', *self.store.epoch.opening.names)
-        return frozenset(each for each, owner in enumerate(self.table) if names[owner] == process.worker.member.name)
+        return self.plan.get(process.worker.member.name, frozenset())
 
     def tell(self, member: Member) -> None:
         """It wakes, if what it waits for is there."""
