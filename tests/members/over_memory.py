@@ -8,7 +8,7 @@ from __future__ import annotations
 from collections.abc import Callable, Sequence
 from contextlib import suppress
 from dataclasses import replace
-from functools import partial
+from functools import lru_cache, partial
 
 from bully import Status, operations, shared_log
 from bully.adapter import Leases, Requester, awaited, known_of, needs_promises, note_leaving, seen_of
@@ -131,7 +131,7 @@ class LogMember(Member):
 
     def see(self, told: shared_log.Snapshot) -> None:
         end = Promise(self.epoch, self.offset)
-        numbers = {name: number for number, name in enumerate(self.opening.names, 1)}
+        numbers = numbers_of(self.opening.names)
         self.simulation.happened['a snapshot leaves out promises'] += not told.has_promises
         self.seen = seen_of(told, end, self.name, numbers, self.is_up, self.leases)
         self.is_frozen = told.epoch == self.epoch and told.is_frozen(end)
@@ -177,6 +177,12 @@ class LogMember(Member):
         super().end(ending)
         if self.is_drained:
             self.simulation.after(self.simulation.ttl // 4, partial(self.simulation.come_back, self.name))
+
+
+@lru_cache(maxsize=16)
+def numbers_of(names: tuple[str, ...]) -> dict[str, int]:
+    """The numbers of nodes, by their names: one object for all members of an epoch."""
+    return {name: number for number, name in enumerate(names, 1)}
 
 
 class OverMemory(Simulation):
