@@ -1,0 +1,50 @@
+//! Members that run: what holds over lists of calls on a member's value.
+//!
+//! It builds on bully_member. Its laws tie the values that a member's calls give to the model of bully_work.
+#![tactic(auto)]
+
+ghost use Rattle.std.specs.Prelude.{◌≡◌, ◌≤◌, ℕ, Contains, List};
+ghost use Rattle.bully_member.specs.Keeping.{HasSession};
+ghost use Rattle.bully_member.specs.Member.{MemberState};
+ghost use Rattle.bully_member.specs.declared.values.Request.{Request as RequestState};
+ghost use Rattle.bully_member.specs.declared.values.SessionId.{SessionId as SessionIdState};
+ghost use Rattle.bully_member.specs.declared.values.Step.{Step as StepState};
+ghost use Rattle.bully_rebalance.specs.Acting.{IsReachedBy};
+ghost use Rattle.bully_run.specs.Calls.{Call, GoesNext, HasLived, IsBehind, IsSameTime, Made, NumbersLast, Takes};
+ghost use Rattle.bully_run.specs.Calls.{session_now};
+
+/// The law of a member's promises. Whatever calls are made on a member's value, in whatever order and with whatever
+/// arguments:
+///
+/// - `kept`: no promise that it has asked for, for its session, whether or not the store answered, reaches further than
+///   the member knows.
+/// - `begins`: it begins to work only by a plan after each of these promises.
+/// - `session`: it begins only while it has its lease by the session that it asked for last.
+/// - `rises`: within a session and an epoch what it knows of its promises doesn't fall.
+/// - `asks`: it asks for a promise only for that session, and for no lower offset than it has promised; and then it has
+///   promised that.
+/// - `starts`: a new session has promised nothing before, and then the offset at which its lease is asked for.
+///
+/// The one premise is that no number of a session is used twice (`NumbersLast`): a process has 2^64 of them.
+pub fn forgets_no_promise()
+    ensures kept { (calls : List Call) (m : MemberState) (made : List Made) (p : Made)
+        → HasLived calls m made → NumbersLast m → Contains made p → p.session ≡ session_now m
+        → IsReachedBy p.promised m.terms.epoch m.promised }
+    ensures begins { (calls : List Call) (m after : MemberState) (made : List Made) (p : Made) (now token : ℕ)
+        → HasLived calls m made → NumbersLast m → GoesNext m now (StepState.Begin token) after
+        → Contains made p → p.session ≡ session_now m → IsBehind p.promised m.terms.epoch token }
+    ensures session { (calls : List Call) (m after : MemberState) (made : List Made) (now token : ℕ)
+        → HasLived calls m made → GoesNext m now (StepState.Begin token) after → HasSession m (session_now m) }
+    ensures rises { (calls : List Call) (call : Call) (m after : MemberState) (made : List Made)
+        → HasLived calls m made → Takes m call after → IsSameTime m after → m.promised ≤ after.promised }
+    ensures asks { (calls : List Call) (m after : MemberState) (made : List Made) (session : SessionIdState)
+        (now offset : ℕ)
+        → HasLived calls m made → GoesNext m now (StepState.Ask (RequestState.Promise session offset)) after
+        → (session ≡ session_now m) × (m.promised ≤ offset) × (after.promised ≡ offset) }
+    ensures starts { (calls : List Call) (m after : MemberState) (made : List Made) (session : SessionIdState)
+        (now offset : ℕ)
+        → HasLived calls m made → GoesNext m now (StepState.Ask (RequestState.Acquire session offset)) after
+        → NumbersLast after
+        → (session ≡ session_now after) × (after.promised ≡ offset)
+        × ((p : Made) → Contains made p → p.session ≡ session → ⊥) }
+{}
