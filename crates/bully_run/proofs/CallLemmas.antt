@@ -145,6 +145,16 @@ from_now since least m made sound = record {
   later = omega arith;
 }
 
+-- What was learned stays, and the log doesn't get shorter.
+pub never_shorter : (records left : List Record) (before after : RowReplicaState) (rows : List Row) → FollowsUpTo records before after left → HasLearned before.replica rows → before.replica.world.events ≤ after.replica.world.events
+never_shorter records left before after rows follows learned =
+    let old = learned.log.counted in
+    let now = (follows.learned rows learned).log.counted in
+    omega (arith, size, old, now)
+  where
+    size : length (events_of (rows ++ follows.rows)) ≡ length (events_of rows) + length (events_of follows.rows)
+    size = ap length (events-append rows follows.rows) ∙ length-append (events_of rows) (events_of follows.rows)
+
 -- Each call.
 
 module _ (since least : ℕ) (made : List Made) where
@@ -288,14 +298,8 @@ module _ (since least : ℕ) (made : List Made) where
       learned : HasLearned after.learned.replica rows
       learned = goes.follows.learned sound.rows sound.learned
 
-      size : length (events_of rows) ≡ length (events_of sound.rows) + length (events_of goes.follows.rows)
-      size = ap length (events-append sound.rows goes.follows.rows) ∙ length-append (events_of sound.rows) (events_of goes.follows.rows)
-
       grown : (replica_of m).world.events ≤ after.learned.replica.world.events
-      grown =
-          let before = sound.learned.log.counted in
-          let now = learned.log.counted in
-          omega (arith, size, before, now)
+      grown = never_shorter records goes.left m.learned after.learned sound.rows goes.follows sound.learned
 
       more : Is (after_learning m after.learned taken)
       more = record {
@@ -313,7 +317,7 @@ module _ (since least : ℕ) (made : List Made) where
 
 -- What it does next.
 
-own_session : (own session : SessionId) (state : SessionState) (since : ℕ) → IsOwnSession own state → state ≡ SessionState.Live session since → session ≡ own
+pub own_session : (own session : SessionId) (state : SessionState) (since : ℕ) → IsOwnSession own state → state ≡ SessionState.Live session since → session ≡ own
 own_session own session SessionState.Absent since is same = absurd (cc same)
 own_session own session (SessionState.Unknown other) since is same = absurd (cc same)
 own_session own session (SessionState.Live other at) since is same = let equal : session ≡ other = cc same in equal ∙ is

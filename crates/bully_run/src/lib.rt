@@ -3,7 +3,9 @@
 //! It builds on bully_member. Its laws tie the values that a member's calls give to the model of bully_work.
 #![tactic(auto)]
 
-ghost use Rattle.std.specs.Prelude.{◌≡◌, ◌≤◌, ℕ, Contains, List};
+ghost use Rattle.std.specs.Prelude.{◌≡◌, ◌≤◌, ℕ, Contains, List, Some, false};
+ghost use Rattle.bully_member.specs.Activities.{busy};
+ghost use Rattle.bully_member.specs.Asking.{ActsBy};
 ghost use Rattle.bully_member.specs.Keeping.{HasSession};
 ghost use Rattle.bully_member.specs.Member.{MemberState};
 ghost use Rattle.bully_member.specs.declared.values.Request.{Request as RequestState};
@@ -12,6 +14,8 @@ ghost use Rattle.bully_member.specs.declared.values.Step.{Step as StepState};
 ghost use Rattle.bully_rebalance.specs.Acting.{IsReachedBy};
 ghost use Rattle.bully_run.specs.Calls.{Call, GoesNext, HasLived, IsBehind, IsSameTime, Made, NumbersLast, Takes};
 ghost use Rattle.bully_run.specs.Calls.{session_now};
+ghost use Rattle.bully_run.specs.Run.{Happening, HasRun, Process, Run, WorksNow, id_of};
+ghost use Rattle.bully_work.specs.Store.{Act, HasWork, IsReached, Piece};
 
 /// The law of a member's promises. Whatever calls are made on a member's value, in whatever order and with whatever
 /// arguments:
@@ -47,4 +51,27 @@ pub fn forgets_no_promise()
         → NumbersLast after
         → (session ≡ session_now after) × (after.promised ≡ offset)
         × ((p : Made) → Contains made p → p.session ≡ session → ⊥) }
+{}
+
+/// The law of members that run. A *run* is a list of what happens to processes with members and to the store that they
+/// share (`Happens`): calls on members' values, which change them as the contracts of `Member` say; what the driver
+/// does then, on its premises, which `specs/Run` names; and what the store does by its own tests of requests that were
+/// sent: late, again, or never. Nothing is assumed about which answers, leases and times are reported to a member, but
+/// that a member whose lease is sure has it when it begins (`BeginsWhileSure`).
+///
+/// - `reached`: each run is a list of acts of bully_work. So all laws there hold of its store.
+/// - `knows`: a member that needs no snapshot knows its session (`ActsBy`).
+/// - `works`: what a process works on by its present session, its member has among what it works on.
+/// - `now`: no two processes that have their leases work on one partition.
+pub fn members_apart()
+    ensures reached { (happenings : List Happening) (R : Run) → HasRun happenings R
+        → (acts : List Act) × IsReached acts R.store }
+    ensures knows { (happenings : List Happening) (R : Run) (p : ℕ) (q : Process) → HasRun happenings R
+        → R.processes p ≡ Some q → q.member.needs_snapshot ≡ false
+        → ActsBy q.member R.store q.name (id_of (session_now q.member)) }
+    ensures works { (happenings : List Happening) (R : Run) (p : ℕ) (q : Process) (x : Piece) → HasRun happenings R
+        → R.processes p ≡ Some q → HasWork R.store q.name (id_of (session_now q.member)) x
+        → Contains (busy q.member.works) x.partition }
+    ensures now { (happenings : List Happening) (R : Run) (p q : ℕ) (x y : Piece) → HasRun happenings R
+        → WorksNow R p x → WorksNow R q y → x.partition ≡ y.partition → p ≡ q }
 {}

@@ -1,0 +1,14 @@
+use Rattle.bully_run.proofs.RunLemmas.{knows_lem, now_lem, reached_lem, works_lem}
+use Rattle.bully_run.proofs.members_apart.Goals as goal
+
+pub returns-clause-reached : goal.returns-clause-reached
+returns-clause-reached c = reached_lem
+
+pub returns-clause-knows : goal.returns-clause-knows
+returns-clause-knows c = knows_lem
+
+pub returns-clause-works : goal.returns-clause-works
+returns-clause-works c = works_lem
+
+pub returns-clause-now : goal.returns-clause-now
+returns-clause-now c = now_lem
