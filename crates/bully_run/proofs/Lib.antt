@@ -5,3 +5,4 @@ pub mod FrameLemmas
 pub mod LinkLemmas
 pub mod ActLemmas
 pub mod RunLemmas
+pub mod SightLemmas

@@ -17,6 +17,10 @@ ghost use Rattle.bully_run.specs.Calls.{session_now};
 ghost use Rattle.bully_run.specs.Run.{Happening, HasRun, Process, Run, WorksNow, id_of};
 ghost use Rattle.bully_work.specs.Store.{Act, HasWork, IsReached, Piece};
 
+use bully_base::NodeSet;
+use bully_member::{Member, Step};
+use bully_rebalance::is_stable;
+
 /// The law of a member's promises. Whatever calls are made on a member's value, in whatever order and with whatever
 /// arguments:
 ///
@@ -75,3 +79,14 @@ pub fn members_apart()
     ensures now { (happenings : List Happening) (R : Run) (p q : ℕ) (x y : Piece) → HasRun happenings R
         → WorksNow R p x → WorksNow R q y → x.partition ≡ y.partition → p ≡ q }
 {}
+
+/// What a member does next, as [`Member::next`] gives it: a call of a run. So such calls are possible wherever there is a
+/// member (`GoesNext` has a witness of what the member sees).
+pub fn next(member: &mut Member, now: u64) -> Step
+    ensures { GoesNext member.old now result member.new }
+{
+    let is_stable_now = member.is_stable();
+    let are_down_now = is_stable(member.replica(), &NodeSet::new(), 0);
+    let _tests = (is_stable_now, are_down_now);
+    member.next(now)
+}
