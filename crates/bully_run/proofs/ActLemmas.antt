@@ -102,7 +102,7 @@ start_ran s i p header terms ttl none is fresh = record {
     first = fresh 0 (omega arith)
 
     leads : Leads s (learns s i (id_by p 0) terms.epoch 0) (id_by p 0) (Learn i (id_by p 0) terms.epoch 0 ∷ [])
-    leads = leads_one s s i (id_by p 0) (record (s.sessions i (id_by p 0)) { epoch = terms.epoch; learned = 0 }) (Learn i (id_by p 0) terms.epoch 0) refl refl refl
+    leads = leads_one s s i (id_by p 0) (record (s.sessions i (id_by p 0)) { epoch = terms.epoch; learned = 0 }) (Learn i (id_by p 0) terms.epoch 0) tt refl refl refl
         ((is.started, none terms.epoch is.started), first_learns s i (id_by p 0) terms.epoch 0 first, refl) (λ q has. has)
 
     session : (learns s i (id_by p 0) terms.epoch 0).sessions i (id_by p 0) ≡ new
@@ -140,7 +140,7 @@ module _ (s : Store) (i : ℕ) (m : MemberState) (linked : Linked s i m) where
       is_whole = whole awaits (grind (arith, nat_tests, same))
 
       leads : Leads s (learns s i (id_by m.process m.tries) m.terms.epoch (offset_of m)) (id_by m.process m.tries) (Learn i (id_by m.process m.tries) m.terms.epoch (offset_of m) ∷ [])
-      leads = leads_one s s i (id_by m.process m.tries) (record here { epoch = m.terms.epoch; learned = offset_of m }) (Learn i (id_by m.process m.tries) m.terms.epoch (offset_of m)) refl refl refl
+      leads = leads_one s s i (id_by m.process m.tries) (record here { epoch = m.terms.epoch; learned = offset_of m }) (Learn i (id_by m.process m.tries) m.terms.epoch (offset_of m)) tt refl refl refl
           ((linked.place.started, is_whole), inr (linked.knows.epoch, linked.knows.past), refl) (λ q has. has)
 
   pub snapshot_ran : (now epoch : ℕ) (leases : List Lease) (has_unknown has_request : Bool) (coming : Option (List ℕ)) (affected : List ℕ) → (awaits_snapshot m.asked ≡ true → epoch ≡ m.terms.epoch → IsWhole s m)
@@ -187,7 +187,7 @@ module _ (s : Store) (i : ℕ) (m : MemberState) (linked : Linked s i m) where
       older q (inr (same, low)) = omega (arith, same, later)
 
       leads : Leads s (learns s i (id_by m.process m.tries) t.epoch 0) (id_by m.process m.tries) (Learn i (id_by m.process m.tries) t.epoch 0 ∷ [])
-      leads = leads_one s s i (id_by m.process m.tries) (record here { epoch = t.epoch; learned = 0 }) (Learn i (id_by m.process m.tries) t.epoch 0) refl refl refl
+      leads = leads_one s s i (id_by m.process m.tries) (record here { epoch = t.epoch; learned = 0 }) (Learn i (id_by m.process m.tries) t.epoch 0) tt refl refl refl
           ((is.started, none t.epoch is.started), inl (let at = linked.knows.epoch in omega (arith, at, later)), refl) (λ q has. has)
 
   pub followed_ran : (now : ℕ) (header : Header) (t : Terms) → HadNone s → IsEpochOf s i header t
@@ -223,7 +223,7 @@ module _ (s : Store) (i : ℕ) (m : MemberState) (linked : Linked s i m) where
       new = record here { promises = here.promises ++ promise_of m offset ∷ [] }
 
       leads : Leads s (promises s i (id_by m.process m.tries) (promise_of m offset)) (id_by m.process m.tries) (Promises i (id_by m.process m.tries) (promise_of m offset) ∷ [])
-      leads = leads_one s s i (id_by m.process m.tries) new (Promises i (id_by m.process m.tries) (promise_of m offset)) refl refl refl
+      leads = leads_one s s i (id_by m.process m.tries) new (Promises i (id_by m.process m.tries) (promise_of m offset)) tt refl refl refl
           ((λ y has. busy_contains m.works y.partition (linked.knows.known y has)), refl) (λ q has. Contains-append_left here.promises (promise_of m offset ∷ []) q has)
 
       reached : (q : Promised) → Contains here.promises q ⊎ (promise_of m offset ≡ q) → IsReachedBy q m.terms.epoch offset
@@ -280,13 +280,13 @@ module _ (s : Store) (i : ℕ) (m : MemberState) (linked : Linked s i m) where
       had = subst (Contains (s.epochs m.terms.epoch).lengths) (sym end) (linked.knows.seen seen).1
 
       one : Leads s (learns s i (id_by m.process k) m.terms.epoch offset) (id_by m.process k) (Learn i (id_by m.process k) m.terms.epoch offset ∷ [])
-      one = leads_one s s i (id_by m.process k) (record (s.sessions i (id_by m.process k)) { epoch = m.terms.epoch; learned = offset }) (Learn i (id_by m.process k) m.terms.epoch offset) refl refl refl
+      one = leads_one s s i (id_by m.process k) (record (s.sessions i (id_by m.process k)) { epoch = m.terms.epoch; learned = offset }) (Learn i (id_by m.process k) m.terms.epoch offset) tt refl refl refl
           ((linked.place.started, had), first_learns s i (id_by m.process k) m.terms.epoch offset first, refl) (λ q has. has)
 
       other : Leads (learns s i (id_by m.process k) m.terms.epoch offset) (promises (learns s i (id_by m.process k) m.terms.epoch offset) i (id_by m.process k) (nothing_in m.terms.epoch offset)) (id_by m.process k) (Promises i (id_by m.process k) (nothing_in m.terms.epoch offset) ∷ [])
       other = leads_one (learns s i (id_by m.process k) m.terms.epoch offset) (learns s i (id_by m.process k) m.terms.epoch offset) i (id_by m.process k)
           (record ((learns s i (id_by m.process k) m.terms.epoch offset).sessions i (id_by m.process k)) { promises = ((learns s i (id_by m.process k) m.terms.epoch offset).sessions i (id_by m.process k)).promises ++ nothing_in m.terms.epoch offset ∷ [] })
-          (Promises i (id_by m.process k) (nothing_in m.terms.epoch offset)) refl refl refl
+          (Promises i (id_by m.process k) (nothing_in m.terms.epoch offset)) tt refl refl refl
           ((λ y has. absurd (none_in y (subst (λ (x : Session). Contains x.work y) learned has))), refl)
           (λ q has. Contains-append_left ((learns s i (id_by m.process k) m.terms.epoch offset).sessions i (id_by m.process k)).promises (nothing_in m.terms.epoch offset ∷ []) q has)
 
@@ -351,7 +351,7 @@ module _ (i : ℕ) (m after : MemberState) (plan : Planned) (o : Owned) (owned :
   begin_one : (s : Store) (k : ℕ) → IsPlaced s i (replica_of m) m.terms.epoch m.terms.node → Knows s → IsLive s i (id_by m.process m.tries) → MayStart m after plan k
       → HasBegun s (begins s i (id_by m.process m.tries) (piece_of m plan k)) (Begin i (id_by m.process m.tries) (piece_of m plan k) ∷ [])
   begin_one s k place knows live start = record {
-    leads = leads_one s t i (id_by m.process m.tries) new (Begin i (id_by m.process m.tries) (piece_of m plan k)) refl refl refl (may_begin s k place knows live start, refl) (λ q has. has);
+    leads = leads_one s t i (id_by m.process m.tries) new (Begin i (id_by m.process m.tries) (piece_of m plan k)) tt refl refl refl (may_begin s k place knows live start, refl) (λ q has. has);
     knows = subst (OfSession (s.epochs m.terms.epoch).lengths (replica_of m) m.terms.epoch m.promised m.needs_snapshot after.works) (sym (written t i (id_by m.process m.tries) new)) more;
   }
     where

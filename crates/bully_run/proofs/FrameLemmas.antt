@@ -6,7 +6,7 @@ use Rattle.std.proofs.lemmas.List.Elements.{Contains-append_left, Contains-push,
 use Rattle.bully_base.specs.Setup.{Setup}
 use Rattle.bully_calls.specs.declared.event.Event.{Event}
 use Rattle.bully_replica.specs.Replica.{IsLogOf, ReplicaState}
-use Rattle.bully_work.specs.Store.{Act, Become, Does, Epoch, HasPromised, Piece, Promised, Session, Store, current, longer, new_epoch, rolled, with_epoch, with_session}
+use Rattle.bully_work.specs.Store.{Act, AllAsked, AsksAll, Become, Does, Epoch, HasPromised, Piece, Promised, Session, Store, current, longer, new_epoch, rolled, with_epoch, with_session}
 
 -- a session that has learned and promised nothing
 abbrev pub no_session : Session
@@ -53,18 +53,20 @@ promises_kept s i n new kept j m q has = by_test (j == i && m == n) refl
 
 pub record Leads (s s' : Store) (n : ℕ) (acts : List Act) : Type 0 where
   pub become : Become s acts s'
+  pub asks : AllAsked acts
   pub others : (j m : ℕ) → (m ≡ n → ⊥) → s'.sessions j m ≡ s.sessions j m
   pub promises : (j m : ℕ) (q : Promised) → HasPromised s j m q → HasPromised s' j m q
   pub epoch : s'.epoch ≡ s.epoch
   pub epochs : s'.epochs ≡ s.epochs
 
 pub leads_none : (s : Store) (n : ℕ) → Leads s s n []
-leads_none s n = record { become = refl; others = λ j m apart. refl; promises = λ j m q has. has; epoch = refl; epochs = refl }
+leads_none s n = record { become = refl; asks = tt; others = λ j m apart. refl; promises = λ j m q has. has; epoch = refl; epochs = refl }
 
 -- t is s, but for which sessions began
-pub leads_one : (s t : Store) (i n : ℕ) (new : Session) (act : Act) → t.sessions ≡ s.sessions → t.epoch ≡ s.epoch → t.epochs ≡ s.epochs → Does s act (with_session t i n new)
+pub leads_one : (s t : Store) (i n : ℕ) (new : Session) (act : Act) → AsksAll act → t.sessions ≡ s.sessions → t.epoch ≡ s.epoch → t.epochs ≡ s.epochs → Does s act (with_session t i n new)
     → ((q : Promised) → HasPromised s i n q → Contains new.promises q) → Leads s (with_session t i n new) n (act ∷ [])
-leads_one s t i n new act same epoch epochs does kept = record {
+leads_one s t i n new act asks same epoch epochs does kept = record {
+  asks = (asks, tt);
   become = (with_session t i n new, does, refl);
   others = λ j m apart. unwritten t i n j m new apart ∙ ap (λ (f : ℕ → ℕ → Session). f j m) same;
   promises = λ j m q has. promises_kept t i n new
@@ -78,9 +80,14 @@ pub become_more : (acts more : List Act) (s mid s' : Store) → Become s acts mi
 become_more [] more s mid s' is goes = subst (λ x. Become x more s') is goes
 become_more (act ∷ acts) more s mid s' (next, does, become) goes = (next, does, become_more acts more next mid s' become goes)
 
+pub asked_more : (acts more : List Act) → AllAsked acts → AllAsked more → AllAsked (acts ++ more)
+asked_more [] more none rest = rest
+asked_more (act ∷ acts) more (first, others) rest = (first, asked_more acts more others rest)
+
 pub leads_more : (s mid s' : Store) (n : ℕ) (acts more : List Act) → Leads s mid n acts → Leads mid s' n more → Leads s s' n (acts ++ more)
 leads_more s mid s' n acts more one other = record {
   become = become_more acts more s mid s' one.become other.become;
+  asks = asked_more acts more one.asks other.asks;
   others = λ j m apart. other.others j m apart ∙ one.others j m apart;
   promises = λ j m q has. other.promises j m q (one.promises j m q has);
   epoch = other.epoch ∙ one.epoch;

@@ -6,3 +6,4 @@ pub mod LinkLemmas
 pub mod ActLemmas
 pub mod RunLemmas
 pub mod SightLemmas
+pub mod SomeRun

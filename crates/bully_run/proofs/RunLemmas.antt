@@ -1,19 +1,24 @@
 -- A run is a list of acts of the model, and members know their sessions in it.
-use Rattle.std.proofs.Common.{◌≡◌, ◌≤◌, ◌<◌, ◌+◌, ◌-◌, ◌*◌, ◌^◌, ◌==◌, ◌++◌, ◌∷◌, [], ℕ, Bool, true, false, List, Option, Some, None, if◌then◌else◌, Contains, cond, take, length, arith, refl, sym, ap, subst, ◌∙◌, ◌⊎◌, inl, inr}
+use Rattle.std.proofs.Common.{◌&&◌, ◌||◌, not, nat_le, ◌≡◌, ◌≤◌, ◌<◌, ◌+◌, ◌-◌, ◌*◌, ◌^◌, ◌==◌, ◌++◌, ◌∷◌, [], ℕ, Bool, true, false, List, Option, Some, None, if◌then◌else◌, Contains, cond, take, length, arith, refl, sym, ap, subst, ◌∙◌, ◌⊎◌, inl, inr}
 use Rattle.std.proofs.lemmas.Bool.Decides.{nat_tests}
 use Rattle.std.proofs.lemmas.List.Elements.{Contains-append_cases, Contains-push_cases}
+use Rattle.bully_agree.specs.Fencing.{Planned}
 use Rattle.bully_base.specs.Setup.{Setup}
 use Rattle.bully_calls.specs.declared.event.Event.{Event}
-use Rattle.bully_member.proofs.AskLemmas.{append_lem, rolls_lem}
-use Rattle.bully_member.specs.Activities.{busy}
+use Rattle.bully_member.proofs.AskLemmas.{append_lem, asks_lem, eager_lem, rolls_lem}
+use Rattle.bully_member.specs.Activities.{all_idle, any_working, busy}
 use Rattle.bully_member.specs.Asking.{ActsBy, IsAsked, Knows, MayBeSilent, Names, promise_of}
-use Rattle.bully_member.specs.Keeping.{AppendsAt, RollsOverAt}
-use Rattle.bully_member.specs.Learned.{is_following, not_there}
-use Rattle.bully_member.specs.Member.{MemberState, new_member, replica_of}
+use Rattle.bully_member.specs.Due.{noted}
+use Rattle.bully_member.specs.Keeping.{AppendsAt, Keeps, RollsOverAt}
+use Rattle.bully_member.specs.Learned.{in_epoch, is_following, not_there}
+use Rattle.bully_member.specs.Member.{MemberState, admitted_among, lease_of, new_member, offset_of, replica_of}
 use Rattle.bully_member.specs.Rebalance.{rebalanced_nodes}
-use Rattle.bully_member.specs.Told.{acquired_by, answered, answered_by, end_for, lost, renewed_by, snapshot_lost, stopped, stopped_on, to_snapshot, when_acquired, when_answered, when_renewed}
+use Rattle.bully_member.specs.Told.{acquired_by, answered, answered_by, awaits_snapshot, end_for, found, found_here, lost, own_by, own_by_promise, own_promise, renewed_by, snapshot_lost, stopped, stopped_on, to_pause, to_snapshot, when_acquired, when_answered, when_renewed, with_arrivals}
+use Rattle.bully_member.specs.declared.opening.Terms.{Terms}
 use Rattle.bully_member.specs.declared.values.Asked.{Asked}
 use Rattle.bully_member.specs.declared.values.Ending.{Ending}
+use Rattle.bully_member.specs.declared.values.Lease.{Lease}
+use Rattle.bully_member.specs.declared.values.Promise.{Promise}
 use Rattle.bully_member.specs.declared.values.Request.{Request}
 use Rattle.bully_member.specs.declared.values.SessionId.{SessionId}
 use Rattle.bully_member.specs.declared.values.SessionState.{SessionState}
@@ -21,43 +26,47 @@ use Rattle.bully_member.specs.declared.values.Step.{Step}
 use Rattle.bully_member.specs.declared.values.StoreAnswer.{StoreAnswer}
 use Rattle.bully_rebalance.proofs.ActLemmas.{promised_here}
 use Rattle.bully_rebalance.specs.Rebalancing.{Rebalances, table_before}
-use Rattle.bully_replica.specs.Replica.{IsLogOf}
+use Rattle.bully_replica.specs.Replica.{IsLogOf, first_replica}
+use Rattle.bully_rows.specs.declared.header.Header.{Header}
 use Rattle.bully_run.proofs.ActLemmas.{IsRan, followed_ran, next_ran, ran_none, snapshot_ran, start_ran}
 use Rattle.bully_run.proofs.BusyLemmas.{busy_contains}
-use Rattle.bully_run.proofs.FrameLemmas.{Extends, Grows, HadNone, IsPlaced, Leads, become_more, grows_none, had_none, id_by, ids_apart, leads_grows, leads_one, longer_grows, no_session, placed, rolled_grows, rolled_none, unwritten, written}
+use Rattle.bully_run.proofs.FrameLemmas.{Extends, Grows, HadNone, IsPlaced, Leads, asked_more, become_more, grows_none, had_none, id_by, ids_apart, leads_grows, leads_one, longer_grows, no_session, placed, rolled_grows, rolled_none, unwritten, written}
 use Rattle.bully_run.proofs.LinkLemmas.{Linked, answered_linked, due_again, end_linked, learned_linked, links_stay, links_written, lost_linked, not_there_linked, passed_linked, snapshot_lost_linked, stopped_linked, stopped_on_linked}
 use Rattle.bully_run.specs.Calls.{Answered, Broken, Call, Followed, GoesNext, Learn, Leave, Lost, Next, NotThere, Passed, SnapshotLost, SnapshotRead, Stopped, StoppedOn, Takes, Woke, session_now}
-use Rattle.bully_run.specs.Run.{Deed, Done, Ends, Expires, Goes, Happening, Happens, HasRun, IsDone, MayDo, MayTell, Process, Run, RunsBy, Sent, SentAcquire, SentAppend, SentPromise, SentRelease, SentRollOver, Starts, Told, WorksNow, first_run, id_of, sent_by, session_by, store_by, store_told, with_member}
+use Rattle.bully_run.specs.Run.{AllEager, Deed, Done, Ends, Expires, Goes, Happening, Happens, HasRun, IsDone, IsEager, IsEagerCall, MayDo, MayTell, Process, Run, RunsBy, Sent, SentAcquire, SentAppend, SentPromise, SentRelease, SentRollOver, Starts, Told, WorksNow, begins_all, first_run, id_of, moves, piece_of, sent_by, session_by, store_by, store_told, takes_in, with_member}
 use Rattle.bully_work.proofs.StoreLemmas.{none_in, now_lem as apart_now}
-use Rattle.bully_work.specs.Store.{AcceptsAppend, AcceptsRollOver, Acquire, Act, Append, Become, Does, End, HasPromised, HasWork, IsOneToOne, IsReached, Lease as Held, MayAppend, MayRollOver, MayStop, Piece, Promised, RollOver, Session, Stop, Store, Yield, current, first_store, learns, longer, nothing_in, rolled, stops, with_lease, with_session}
+use Rattle.bully_work.specs.Store.{AcceptsAppend, AcceptsRollOver, Acquire, Act, AllAsked, Append, AsksAll, Become, Does, End, HasPromised, HasWork, IsOneToOne, KeepsNothing, IsReached, Lease as Held, MayAppend, MayRollOver, MayStop, Piece, Promised, RollOver, Session, Stop, Store, Yield, begins, current, first_store, learns, longer, nothing_in, promises, rolled, stops, with_lease, with_session}
 
--- The process of a member stays the same.
+-- The process and the terms of a member stay the same.
 
-if_same : (p : ℕ) (b : Bool) (x y : MemberState) → x.process ≡ p → y.process ≡ p → (if b then x else y).process ≡ p
+abbrev pub who : MemberState → ℕ × Terms
+who m = (m.process, m.terms)
+
+if_same : (p : ℕ × Terms) (b : Bool) (x y : MemberState) → who x ≡ p → who y ≡ p → who (if b then x else y) ≡ p
 if_same p true x y x_is y_is = x_is
 if_same p false x y x_is y_is = y_is
 
-acquired_same : (m : MemberState) (now : ℕ) (answer : StoreAnswer) (session : SessionId) (offset at : ℕ) → (when_acquired m now answer session offset at).process ≡ m.process
+acquired_same : (m : MemberState) (now : ℕ) (answer : StoreAnswer) (session : SessionId) (offset at : ℕ) → who (when_acquired m now answer session offset at) ≡ who m
 acquired_same m now StoreAnswer.Done session offset at = refl
 acquired_same m now StoreAnswer.Refused session offset at = refl
 acquired_same m now StoreAnswer.Unanswered session offset at = refl
 
-renewed_same : (m : MemberState) (now : ℕ) (answer : StoreAnswer) (session : SessionId) (at : ℕ) → (when_renewed m now answer session at).process ≡ m.process
+renewed_same : (m : MemberState) (now : ℕ) (answer : StoreAnswer) (session : SessionId) (at : ℕ) → who (when_renewed m now answer session at) ≡ who m
 renewed_same m now StoreAnswer.Done session at = refl
 renewed_same m now StoreAnswer.Refused session at = refl
 renewed_same m now StoreAnswer.Unanswered session at = refl
 
-acquired_if : (state : SessionState) (m after : MemberState) → after.process ≡ m.process → (acquired_by state m after).process ≡ m.process
+acquired_if : (state : SessionState) (m after : MemberState) → who after ≡ who m → who (acquired_by state m after) ≡ who m
 acquired_if SessionState.Absent m after is = is
 acquired_if (SessionState.Unknown session) m after is = refl
 acquired_if (SessionState.Live session at) m after is = refl
 
-renewed_if : (state : SessionState) (m after : MemberState) → after.process ≡ m.process → (renewed_by state m after).process ≡ m.process
+renewed_if : (state : SessionState) (m after : MemberState) → who after ≡ who m → who (renewed_by state m after) ≡ who m
 renewed_if SessionState.Absent m after is = refl
 renewed_if (SessionState.Unknown session) m after is = refl
 renewed_if (SessionState.Live session at) m after is = is
 
-when_same : (m : MemberState) (now : ℕ) (answer : StoreAnswer) (request : Request) (at : ℕ) → (when_answered m now answer request at).process ≡ m.process
+when_same : (m : MemberState) (now : ℕ) (answer : StoreAnswer) (request : Request) (at : ℕ) → who (when_answered m now answer request at) ≡ who m
 when_same m now answer (Request.Acquire session offset) at = acquired_if m.session m _ (acquired_same m now answer session offset at)
 when_same m now answer (Request.Renew session) at = renewed_if m.session m _ (renewed_same m now answer session at)
 when_same m now StoreAnswer.Done (Request.Release session) at = refl
@@ -75,11 +84,11 @@ when_same m now StoreAnswer.Refused (Request.RollOver offset) at = refl
 when_same m now StoreAnswer.Unanswered (Request.RollOver offset) at = refl
 when_same m now answer Request.Follow at = refl
 
-answered_same : (m : MemberState) (now : ℕ) (answer : StoreAnswer) (asked : Option Asked) → (answered_by m now answer asked).process ≡ m.process
+answered_same : (m : MemberState) (now : ℕ) (answer : StoreAnswer) (asked : Option Asked) → who (answered_by m now answer asked) ≡ who m
 answered_same m now answer None = refl
 answered_same m now answer (Some asked) = when_same (record m { asked = None }) now answer asked.request asked.at
 
-end_same : (m : MemberState) (why : Ending) (ending : Option Ending) → (end_for m why ending).process ≡ m.process
+end_same : (m : MemberState) (why : Ending) (ending : Option Ending) → who (end_for m why ending) ≡ who m
 end_same m why None = refl
 end_same m why (Some ending) = refl
 
@@ -87,7 +96,7 @@ end_same m why (Some ending) = refl
 
 pub told_ran : (s : Store) (i : ℕ) (m : MemberState) (call : Call) (after : MemberState) → HadNone s → Linked s i m → Takes m call after → MayTell s i m call after → IsRan s (store_told s i m call) i m.process after
 told_ran s i m (Next now next) after none linked takes may = absurd may
-told_ran s i m (Answered now answer) after none linked takes may = subst (IsRan s s i m.process) (sym takes) (ran_none s i m.process (answered m now answer) (answered_same m now answer m.asked) (answered_linked s i m now answer linked))
+told_ran s i m (Answered now answer) after none linked takes may = subst (IsRan s s i m.process) (sym takes) (ran_none s i m.process (answered m now answer) (ap (λ (w : ℕ × Terms). w.0) (answered_same m now answer m.asked)) (answered_linked s i m now answer linked))
 told_ran s i m (Learn records taken) after none linked takes may = ran_none s i m.process after (ap (λ (x : MemberState). x.process) takes.rest) (learned_linked s i m records taken after linked takes may)
 told_ran s i m (SnapshotRead now epoch leases has_unknown has_request) after none linked takes may =
     subst (IsRan s (store_told s i m (SnapshotRead now epoch leases has_unknown has_request)) i m.process) (sym takes) (snapshot_ran s i m linked now epoch leases has_unknown has_request after.coming after.affected may)
@@ -95,12 +104,12 @@ told_ran s i m (SnapshotLost now leases) after none linked takes may = subst (Is
 told_ran s i m (Followed now header terms) after none linked takes may =
     subst (IsRan s (store_told s i m (Followed now header terms)) i m.process) (sym takes.1) (followed_ran s i m linked now header terms none may)
 told_ran s i m NotThere after none linked takes may = subst (IsRan s s i m.process) (sym takes)
-    (ran_none s i m.process (not_there m) (if_same m.process (is_following m.asked) _ _ (end_same (record m { asked = None }) Ending.NotThere m.ending) refl) (not_there_linked s i m linked))
+    (ran_none s i m.process (not_there m) (ap (λ (w : ℕ × Terms). w.0) (if_same (who m) (is_following m.asked) _ _ (end_same (record m { asked = None }) Ending.NotThere m.ending) refl)) (not_there_linked s i m linked))
 told_ran s i m Passed after none linked takes may = subst (IsRan s s i m.process) (sym takes) (ran_none s i m.process (record m { is_past = true; asked = None }) refl (passed_linked s i m linked))
 told_ran s i m Woke after none linked takes may = subst (IsRan s s i m.process) (sym takes) (ran_none s i m.process (to_snapshot m) refl (due_again s i m linked))
-told_ran s i m Leave after none linked takes may = subst (IsRan s s i m.process) (sym takes) (ran_none s i m.process (end_for m Ending.Left m.ending) (end_same m Ending.Left m.ending) (end_linked s i m Ending.Left m.ending linked))
-told_ran s i m Broken after none linked takes may = subst (IsRan s s i m.process) (sym takes) (ran_none s i m.process (end_for m Ending.Broken m.ending) (end_same m Ending.Broken m.ending) (end_linked s i m Ending.Broken m.ending linked))
-told_ran s i m (Lost token) after none linked takes may = subst (IsRan s s i m.process) (sym takes) (ran_none s i m.process (lost m token) (if_same m.process _ _ _ refl refl) (lost_linked s i m token linked))
+told_ran s i m Leave after none linked takes may = subst (IsRan s s i m.process) (sym takes) (ran_none s i m.process (end_for m Ending.Left m.ending) (ap (λ (w : ℕ × Terms). w.0) (end_same m Ending.Left m.ending)) (end_linked s i m Ending.Left m.ending linked))
+told_ran s i m Broken after none linked takes may = subst (IsRan s s i m.process) (sym takes) (ran_none s i m.process (end_for m Ending.Broken m.ending) (ap (λ (w : ℕ × Terms). w.0) (end_same m Ending.Broken m.ending)) (end_linked s i m Ending.Broken m.ending linked))
+told_ran s i m (Lost token) after none linked takes may = subst (IsRan s s i m.process) (sym takes) (ran_none s i m.process (lost m token) (ap (λ (w : ℕ × Terms). w.0) (if_same (who m) _ _ _ refl refl)) (lost_linked s i m token linked))
 told_ran s i m Stopped after none linked takes may = subst (IsRan s s i m.process) (sym takes) (ran_none s i m.process (stopped m) refl (stopped_linked s i m linked may))
 told_ran s i m (StoppedOn k) after none linked takes may = subst (IsRan s s i m.process) (sym takes) (ran_none s i m.process (stopped_on m k) refl (stopped_on_linked s i m k linked may))
 
@@ -212,30 +221,38 @@ may_roll s m offset silent number closes accepts = rolls_lem m (seen_by s closes
     (λ j is. subst (λ e. MayBeSilent m m.terms.is_cooperative m.ending ((s.epochs e).number j)) accepts.0 (closes.spared j is)) closes.one
 
 -- an act of the store itself
-record IsSettled (s s' : Store) : Type 0 where
+record IsSettled (s s' : Store) (plain : Type 0) : Type 0 where
   act : Act
   does : Does s act s'
+  asks : plain → AsksAll act
   grows : Grows s s'
   sessions : s'.sessions ≡ s.sessions
   none : HadNone s → HadNone s'
 
-leased : (s : Store) (i : ℕ) (here : Option Held) (act : Act) → Does s act (with_lease s i here) → IsSettled s (with_lease s i here)
-leased s i here act does = record { act = act; does = does; grows = grows_none s (with_lease s i here) refl refl; sessions = refl; none = λ none. none }
+leased : (s : Store) (i : ℕ) (here : Option Held) (act : Act) (plain : Type 0) → Does s act (with_lease s i here) → AsksAll act → IsSettled s (with_lease s i here) plain
+leased s i here act plain does asks = record { act = act; does = does; asks = λ _. asks; grows = grows_none s (with_lease s i here) refl refl; sessions = refl; none = λ none. none }
 
-does_it : (s : Store) (x : Sent) (s' : Store) → IsRight s x → IsDone s x s' → IsSettled s s'
-does_it s (SentAcquire i n e offset) s' right (accepts, is) = subst (IsSettled s) (sym is) (leased s i _ (Acquire i n e offset) (accepts, right, refl))
-does_it s (SentRelease i n) s' right (live, is) = subst (IsSettled s) (sym is) (leased s i None (End i) refl)
-does_it s (SentPromise i n promised) s' right (accepts, is) = subst (IsSettled s) (sym is) (leased s i _ (Yield i n promised) (accepts, right, refl))
-does_it s (SentAppend m offset silent seen events) s' right (accepts, is) = subst (IsSettled s) (sym is) (record {
+-- a writer of an eager group
+abbrev IsPlainSent : Sent → Type 0
+IsPlainSent (SentAppend m offset silent seen events) = m.terms.is_cooperative ≡ false
+IsPlainSent other = Unit {0}
+
+does_it : (s : Store) (x : Sent) (s' : Store) → IsRight s x → IsDone s x s' → IsSettled s s' (IsPlainSent x)
+does_it s (SentAcquire i n e offset) s' right (accepts, is) = subst (λ t. IsSettled s t (Unit {0})) (sym is) (leased s i _ (Acquire i n e offset) (Unit {0}) (accepts, right, refl) tt)
+does_it s (SentRelease i n) s' right (live, is) = subst (λ t. IsSettled s t (Unit {0})) (sym is) (leased s i None (End i) (Unit {0}) refl tt)
+does_it s (SentPromise i n promised) s' right (accepts, is) = subst (λ t. IsSettled s t (Unit {0})) (sym is) (leased s i _ (Yield i n promised) (Unit {0}) (accepts, right, refl) tt)
+does_it s (SentAppend m offset silent seen events) s' right (accepts, is) = subst (λ t. IsSettled s t (m.terms.is_cooperative ≡ false)) (sym is) (record {
   act = Append m.terms.epoch offset silent seen events;
   does = (accepts, may_append s m offset silent seen events right accepts, refl);
+  asks = λ eager. asks_lem m (record s { epoch = m.terms.epoch }) silent seen eager right.names;
   grows = longer_grows s events;
   sessions = refl;
   none = had_none s (longer s events) (longer_grows s events) refl;
 })
-does_it s (SentRollOver m offset silent setup number) s' right (accepts, is) = subst (IsSettled s) (sym is) (record {
+does_it s (SentRollOver m offset silent setup number) s' right (accepts, is) = subst (λ t. IsSettled s t (Unit {0})) (sym is) (record {
   act = RollOver m.terms.epoch offset silent setup number;
   does = (accepts, may_roll s m offset silent number right accepts, refl);
+  asks = λ _. tt;
   grows = rolled_grows s setup number;
   sessions = refl;
   none = rolled_none s setup number;
@@ -293,8 +310,8 @@ moved R p i s' after more linked ran right = record {
     by_cases x (inl old) = right_stays R.store s' x grows ran.leads.promises (linked.sent x old)
     by_cases x (inr new) = right x new
 
-settled : (R : Run) (s' : Store) → IsLinked R → IsSettled R.store s' → IsLinked (record R { store = s' })
-settled R s' linked is = record {
+settled : (R : Run) (s' : Store) (plain : Type 0) → IsLinked R → IsSettled R.store s' plain → IsLinked (record R { store = s' })
+settled R s' plain linked is = record {
   none = is.none linked.none;
   members = λ r q there. stays_process R.store s' r q is.grows (λ i k high. same i (id_by r k)) (linked.members r q there);
   unborn = λ r there i k high. same i (id_by r k) ∙ linked.unborn r there i k high;
@@ -305,9 +322,14 @@ settled R s' linked is = record {
     same i n = ap (λ (f : ℕ → ℕ → Session). f i n) is.sessions
 
 -- some acts lead to the run's next store
+-- ... and all of them ask everybody, if what was sent is of eager groups
+abbrev AllPlain : Run → Type 0
+AllPlain R = (x : Sent) → Contains R.sent x → IsPlainSent x
+
 record IsBecome (R R' : Run) : Type 0 where
   acts : List Act
   become : Become R.store acts R'.store
+  asks : AllPlain R → AllAsked acts
   linked : IsLinked R'
 
 ended_ran : (s : Store) (i number : ℕ) (m : MemberState) (left : List Piece) → Linked s i m → number ≤ m.tries → MayStop s i (id_by m.process number) left → IsRan s (stops s i (id_by m.process number) left) i m.process m
@@ -324,7 +346,7 @@ ended_ran s i number m left linked low may = record {
     s' = stops s i (id_by m.process number) left
 
     leads : Leads s (stops s i (id_by m.process number) left) (id_by m.process number) (Stop i (id_by m.process number) left ∷ [])
-    leads = leads_one s s i (id_by m.process number) (record (s.sessions i (id_by m.process number)) { work = left }) (Stop i (id_by m.process number) left) refl refl refl (may, refl) (λ q has. has)
+    leads = leads_one s s i (id_by m.process number) (record (s.sessions i (id_by m.process number)) { work = left }) (Stop i (id_by m.process number) left) tt refl refl refl (may, refl) (λ q has. has)
 
     by_test : (b : Bool) → (number == m.tries) ≡ b → Linked (stops s i (id_by m.process number) left) i m
     by_test true is =
@@ -353,11 +375,11 @@ by_process s s' p q after is ran = subst (λ x. IsRan s s' q.name x after) is.sa
 ended_by : (s : Store) (p number : ℕ) (q : Process) (left : List Piece) → IsProcess s p q → number ≤ q.member.tries → MayStop s q.name (id_by p number) left → IsRan s (stops s q.name (id_by p number) left) q.name p q.member
 ended_by s p number q left is low may = subst (λ x. MayStop s q.name (id_by x number) left → IsRan s (stops s q.name (id_by x number) left) q.name x q.member) is.same (ended_ran s q.name number q.member left is.linked low) may
 
-become_one : (R : Run) (s' : Store) → IsLinked R → IsSettled R.store s' → IsBecome R (record R { store = s' })
-become_one R s' linked is = record { acts = is.act ∷ []; become = (s', is.does, refl); linked = settled R s' linked is }
+become_one : (R : Run) (s' : Store) (plain : Type 0) → (AllPlain R → plain) → IsLinked R → IsSettled R.store s' plain → IsBecome R (record R { store = s' })
+become_one R s' plain is_plain linked is = record { acts = is.act ∷ []; become = (s', is.does, refl); asks = λ all. (is.asks (is_plain all), tt); linked = settled R s' plain linked is }
 
 become_ran : (R : Run) (p i : ℕ) (s' : Store) (after : MemberState) (more : List Sent) → IsLinked R → IsRan R.store s' i p after → ((x : Sent) → Contains more x → IsRight s' x) → IsBecome R (with_member R p i after s' more)
-become_ran R p i s' after more linked ran right = record { acts = ran.acts; become = ran.leads.become; linked = moved R p i s' after more linked ran right }
+become_ran R p i s' after more linked ran right = record { acts = ran.acts; become = ran.leads.become; asks = λ _. ran.leads.asks; linked = moved R p i s' after more linked ran right }
 
 next_run : (R : Run) (h : Happening) (R' : Run) → IsLinked R → Happens R h R' → IsBecome R R'
 next_run R (Starts p i header terms ttl) R' linked (unborn, is, same) = subst (IsBecome R) (sym same)
@@ -372,15 +394,222 @@ next_run R (Told p call) R' linked (q, after, there, takes, may, same) = subst (
     (λ x has. absurd (none_in x has)))
 next_run R (Ends p number left) R' linked (q, there, low, may, same) = subst (IsBecome R) (sym same)
     (become_ran R p q.name (stops R.store q.name (id_by p number) left) q.member [] linked (ended_by R.store p number q left (linked.members p q there) low may) (λ x has. absurd (none_in x has)))
-next_run R (Done x) R' linked (has, s', is, same) = subst (IsBecome R) (sym same) (become_one R s' linked (does_it R.store x s' (linked.sent x has) is))
-next_run R (Expires i) R' linked same = subst (IsBecome R) (sym same) (become_one R (with_lease R.store i None) linked (leased R.store i None (End i) refl))
+next_run R (Done x) R' linked (has, s', is, same) = subst (IsBecome R) (sym same) (become_one R s' (IsPlainSent x) (λ all. all x has) linked (does_it R.store x s' (linked.sent x has) is))
+next_run R (Expires i) R' linked same = subst (IsBecome R) (sym same) (become_one R (with_lease R.store i None) (Unit {0}) (λ _. tt) linked (leased R.store i None (End i) (Unit {0}) refl tt))
 
-runs_on : (happenings : List Happening) (R R' : Run) → IsLinked R → RunsBy R happenings R' → IsBecome R R'
-runs_on [] R R' linked is = subst (IsBecome R) (sym is) (record { acts = []; become = refl; linked = linked })
+-- What holds of a run of eager groups.
+
+record IsPlain (R : Run) : Type 0 where
+  members : (p : ℕ) (q : Process) → R.processes p ≡ Some q → q.member.terms.is_cooperative ≡ false
+  sent : AllPlain R
+  nothing : KeepsNothing R.store
+
+kept_with : (s : Store) (i n : ℕ) (new : Session) → KeepsNothing s → ((q : Promised) → Contains new.promises q → q.kept ≡ []) → KeepsNothing (with_session s i n new)
+kept_with s i n new nothing plain j m q has = by_test (j == i && m == n) has
+  where
+    by_test : (b : Bool) → Contains (cond b new (s.sessions j m)).promises q → q.kept ≡ []
+    by_test true made = plain q made
+    by_test false made = nothing j m q made
+
+kept_more : (s : Store) (i n : ℕ) (p : Promised) → KeepsNothing s → p.kept ≡ [] → KeepsNothing (promises s i n p)
+kept_more s i n p nothing none = kept_with s i n (record (s.sessions i n) { promises = (s.sessions i n).promises ++ p ∷ [] }) nothing (λ q has. by_cases q (Contains-push_cases (s.sessions i n).promises p q has))
+  where
+    by_cases : (q : Promised) → Contains (s.sessions i n).promises q ⊎ (p ≡ q) → q.kept ≡ []
+    by_cases q (inl old) = nothing i n q old
+    by_cases q (inr is) = subst (λ (x : Promised). x.kept ≡ []) is none
+
+kept_begun : (ks : List ℕ) (s : Store) (i n : ℕ) (m : MemberState) (plan : Planned) → KeepsNothing s → KeepsNothing (begins_all s i n m plan ks)
+kept_begun [] s i n m plan nothing = nothing
+kept_begun (k ∷ ks) s i n m plan nothing = kept_begun ks (begins s i n (piece_of m plan k)) i n m plan
+    (kept_with (record s { begun = record { name = i; session = n; piece = piece_of m plan k } ∷ s.begun }) i n (record (s.sessions i n) { work = (s.sessions i n).work ++ piece_of m plan k ∷ [] }) nothing (λ q has. nothing i n q has))
+
+kept_learned : (s : Store) (i n e offset : ℕ) → KeepsNothing s → KeepsNothing (learns s i n e offset)
+kept_learned s i n e offset nothing = kept_with s i n (record (s.sessions i n) { epoch = e; learned = offset }) nothing (λ q has. nothing i n q has)
+
+kept_by : (s : Store) (i : ℕ) (m : MemberState) (now : ℕ) (step : Step) (deed : Deed) → m.terms.is_cooperative ≡ false → Keeps m now step → KeepsNothing s → KeepsNothing (store_by s i m step deed)
+kept_by s i m now (Step.Ask (Request.Acquire session offset)) deed eager keeps nothing =
+    kept_more (learns s i (id_of session) m.terms.epoch offset) i (id_of session) (nothing_in m.terms.epoch offset) (kept_learned s i (id_of session) m.terms.epoch offset nothing) refl
+kept_by s i m now (Step.Ask (Request.Renew session)) deed eager keeps nothing = nothing
+kept_by s i m now (Step.Ask (Request.Release session)) deed eager keeps nothing = nothing
+kept_by s i m now (Step.Ask Request.Snapshot) deed eager keeps nothing = nothing
+kept_by s i m now (Step.Ask (Request.Promise session offset)) deed eager keeps nothing =
+    kept_more s i (id_of session) (promise_of m offset) nothing (ap (λ (p : Promised). p.kept) (eager_lem m offset eager keeps.0))
+kept_by s i m now (Step.Ask (Request.Append offset)) deed eager keeps nothing = nothing
+kept_by s i m now (Step.Ask (Request.RollOver offset)) deed eager keeps nothing = nothing
+kept_by s i m now (Step.Ask Request.Follow) deed eager keeps nothing = nothing
+kept_by s i m now (Step.Begin token) deed eager keeps nothing = kept_begun deed.begun s i (id_of (session_now m)) m deed.plan nothing
+kept_by s i m now Step.Stop deed eager keeps nothing = nothing
+kept_by s i m now (Step.Wait at_most until reason) deed eager keeps nothing = nothing
+kept_by s i m now (Step.BackOff at_most reason) deed eager keeps nothing = nothing
+kept_by s i m now (Step.End ending) deed eager keeps nothing = nothing
+
+kept_if : (b : Bool) (s t : Store) → KeepsNothing s → KeepsNothing t → KeepsNothing (if b then s else t)
+kept_if true s t one other = one
+kept_if false s t one other = other
+
+kept_told : (s : Store) (i : ℕ) (m : MemberState) (call : Call) → KeepsNothing s → KeepsNothing (store_told s i m call)
+kept_told s i m (Next now next) nothing = nothing
+kept_told s i m (Answered now answer) nothing = nothing
+kept_told s i m (Learn records taken) nothing = nothing
+kept_told s i m (SnapshotRead now epoch leases has_unknown has_request) nothing =
+    kept_if (takes_in m epoch) (learns s i (id_of (session_now m)) m.terms.epoch (offset_of m)) s (kept_learned s i (id_of (session_now m)) m.terms.epoch (offset_of m) nothing) nothing
+kept_told s i m (SnapshotLost now leases) nothing = nothing
+kept_told s i m (Followed now header terms) nothing = kept_if (moves m terms) (learns s i (id_of (session_now m)) terms.epoch 0) s (kept_learned s i (id_of (session_now m)) terms.epoch 0 nothing) nothing
+kept_told s i m NotThere nothing = nothing
+kept_told s i m Passed nothing = nothing
+kept_told s i m Woke nothing = nothing
+kept_told s i m Leave nothing = nothing
+kept_told s i m Broken nothing = nothing
+kept_told s i m (Lost token) nothing = nothing
+kept_told s i m Stopped nothing = nothing
+kept_told s i m (StoppedOn k) nothing = nothing
+
+-- Its group stays eager.
+
+noted_who : (m : MemberState) (now : ℕ) (is_stable : Bool) (step : Step) → who (noted m now is_stable step) ≡ who m
+noted_who m now is_stable (Step.Ask request) = by_request request
+  where
+    by_request : (r : Request) → who (noted m now is_stable (Step.Ask r)) ≡ who m
+    by_request (Request.Acquire session offset) = refl
+    by_request (Request.Renew session) = refl
+    by_request (Request.Release session) = refl
+    by_request Request.Snapshot = refl
+    by_request (Request.Promise session offset) = refl
+    by_request (Request.Append offset) = refl
+    by_request (Request.RollOver offset) = refl
+    by_request Request.Follow = refl
+noted_who m now is_stable (Step.Begin token) = refl
+noted_who m now is_stable Step.Stop = refl
+noted_who m now is_stable (Step.Wait at_most until reason) = refl
+noted_who m now is_stable (Step.BackOff at_most reason) = refl
+noted_who m now is_stable (Step.End ending) = refl
+
+abbrev IsEagerMember : MemberState → Type 0
+IsEagerMember m = m.terms.is_cooperative ≡ false
+
+by_who : (m after : MemberState) → who after ≡ who m → IsEagerMember m → IsEagerMember after
+by_who m after same eager = ap (λ (w : ℕ × Terms). w.1.is_cooperative) same ∙ eager
+
+own_eager : (m : MemberState) (state : SessionState) (here : Option Lease) → IsEagerMember m → IsEagerMember (own_by m state here)
+own_eager m SessionState.Absent here eager = eager
+own_eager m (SessionState.Unknown session) here eager = eager
+own_eager m (SessionState.Live session at) here eager = by_own (own_promise m session here)
+  where
+    by_own : (own : Option (Promise × Bool)) → IsEagerMember (own_by_promise m own)
+    by_own None = eager
+    by_own (Some own) = eager
+
+snapshot_eager : (m : MemberState) (now : ℕ) (leases : List Lease) (has_unknown has_request : Bool) (coming : Option (List ℕ)) (affected : List ℕ) (a b : Bool) → IsEagerMember m
+    → IsEagerMember (if not a then m else if not b then record m { is_past = true; asked = None } else found_here (with_arrivals m now leases) now leases has_unknown has_request coming affected)
+snapshot_eager m now leases has_unknown has_request coming affected false b eager = eager
+snapshot_eager m now leases has_unknown has_request coming affected true false eager = eager
+snapshot_eager m now leases has_unknown has_request coming affected true true eager =
+    own_eager (found (with_arrivals m now leases) now leases has_unknown has_request (admitted_among (with_arrivals m now leases) now leases) coming affected) m.session (lease_of m.terms.node leases) eager
+
+followed_eager : (m : MemberState) (now : ℕ) (header : Header) (t : Terms) (a b : Bool) → IsEagerMember m → t.is_cooperative ≡ false
+    → IsEagerMember (if not a then m else if b then to_pause (record m { asked = None; is_past = false; needs_snapshot = true }) now else in_epoch m now (record { replica = first_replica header; rows = 0 }) t)
+followed_eager m now header t false b eager next = eager
+followed_eager m now header t true true eager next = eager
+followed_eager m now header t true false eager next = next
+
+not_there_eager : (m : MemberState) (a : Bool) → IsEagerMember m → IsEagerMember (if a then end_for (record m { asked = None }) Ending.NotThere m.ending else m)
+not_there_eager m true eager = by_who m (end_for (record m { asked = None }) Ending.NotThere m.ending) (end_same (record m { asked = None }) Ending.NotThere m.ending) eager
+not_there_eager m false eager = eager
+
+lost_eager : (m : MemberState) (a : Bool) → IsEagerMember m → IsEagerMember (if a then record m { is_lost = true } else m)
+lost_eager m true eager = eager
+lost_eager m false eager = eager
+
+told_eager : (m : MemberState) (call : Call) (after : MemberState) → IsEagerCall call → IsEagerMember m → Takes m call after → IsEagerMember after
+told_eager m (Next now next) after call eager takes = by_who m after (ap who takes.noted ∙ noted_who m now takes.sight.is_stable next) eager
+told_eager m (Answered now answer) after call eager takes = by_who m after (ap who takes ∙ answered_same m now answer m.asked) eager
+told_eager m (Learn records taken) after call eager takes = subst IsEagerMember (sym takes.rest) eager
+told_eager m (SnapshotRead now epoch leases has_unknown has_request) after call eager takes = subst IsEagerMember (sym takes)
+    (snapshot_eager m now leases has_unknown has_request after.coming after.affected (awaits_snapshot m.asked) (epoch == m.terms.epoch) eager)
+told_eager m (SnapshotLost now leases) after call eager takes = subst IsEagerMember (sym takes) eager
+told_eager m (Followed now header terms) after call eager takes = subst IsEagerMember (sym takes.1) (followed_eager m now header terms (is_following m.asked) (nat_le terms.epoch m.terms.epoch || not (all_idle m.works)) eager call)
+told_eager m NotThere after call eager takes = subst IsEagerMember (sym takes) (not_there_eager m (is_following m.asked) eager)
+told_eager m Passed after call eager takes = subst IsEagerMember (sym takes) eager
+told_eager m Woke after call eager takes = subst IsEagerMember (sym takes) eager
+told_eager m Leave after call eager takes = by_who m after (ap who takes ∙ end_same m Ending.Left m.ending) eager
+told_eager m Broken after call eager takes = by_who m after (ap who takes ∙ end_same m Ending.Broken m.ending) eager
+told_eager m (Lost token) after call eager takes = subst IsEagerMember (sym takes) (lost_eager m ((token == m.token) && any_working m.works) eager)
+told_eager m Stopped after call eager takes = subst IsEagerMember (sym takes) eager
+told_eager m (StoppedOn k) after call eager takes = subst IsEagerMember (sym takes) eager
+
+plain_moved : (R : Run) (p i : ℕ) (s' : Store) (after : MemberState) (more : List Sent) → IsPlain R → IsEagerMember after → KeepsNothing s' → ((x : Sent) → Contains more x → IsPlainSent x) → IsPlain (with_member R p i after s' more)
+plain_moved R p i s' after more plain eager nothing right = record {
+  members = λ r q is. member r q (r == p) is;
+  sent = λ x has. by_cases x (Contains-append_cases R.sent more x has);
+  nothing = nothing;
+}
+  where
+    member : (r : ℕ) (q : Process) (b : Bool) → cond b (Some (record { name = i; member = after })) (R.processes r) ≡ Some q → IsEagerMember q.member
+    member r q true is = let this : record { name = i; member = after } ≡ q = cc is in subst (λ (x : Process). IsEagerMember x.member) this eager
+    member r q false is = plain.members r q is
+
+    by_cases : (x : Sent) → Contains R.sent x ⊎ Contains more x → IsPlainSent x
+    by_cases x (inl old) = plain.sent x old
+    by_cases x (inr new) = right x new
+
+sent_plain : (i : ℕ) (m : MemberState) (step : Step) (deed : Deed) → IsEagerMember m → (x : Sent) → Contains (sent_by i m step deed) x → IsPlainSent x
+sent_plain i m (Step.Ask (Request.Acquire session offset)) deed eager x has = subst IsPlainSent (one_has (SentAcquire i (id_of session) m.terms.epoch offset) x has) tt
+sent_plain i m (Step.Ask (Request.Renew session)) deed eager x has = absurd (none_in x has)
+sent_plain i m (Step.Ask (Request.Release session)) deed eager x has = subst IsPlainSent (one_has (SentRelease i (id_of session)) x has) tt
+sent_plain i m (Step.Ask Request.Snapshot) deed eager x has = absurd (none_in x has)
+sent_plain i m (Step.Ask (Request.Promise session offset)) deed eager x has = subst IsPlainSent (one_has (SentPromise i (id_of session) (promise_of m offset)) x has) tt
+sent_plain i m (Step.Ask (Request.Append offset)) deed eager x has = subst IsPlainSent (one_has (SentAppend m offset deed.silent deed.seen deed.events) x has) eager
+sent_plain i m (Step.Ask (Request.RollOver offset)) deed eager x has = subst IsPlainSent (one_has (SentRollOver m offset deed.silent deed.setup deed.number) x has) tt
+sent_plain i m (Step.Ask Request.Follow) deed eager x has = absurd (none_in x has)
+sent_plain i m (Step.Begin token) deed eager x has = absurd (none_in x has)
+sent_plain i m Step.Stop deed eager x has = absurd (none_in x has)
+sent_plain i m (Step.Wait at_most until reason) deed eager x has = absurd (none_in x has)
+sent_plain i m (Step.BackOff at_most reason) deed eager x has = absurd (none_in x has)
+sent_plain i m (Step.End ending) deed eager x has = absurd (none_in x has)
+
+plain_done : (s : Store) (x : Sent) (s' : Store) → IsDone s x s' → KeepsNothing s → KeepsNothing s'
+plain_done s (SentAcquire i n e offset) s' (accepts, is) nothing = subst KeepsNothing (sym is) nothing
+plain_done s (SentRelease i n) s' (live, is) nothing = subst KeepsNothing (sym is) nothing
+plain_done s (SentPromise i n promised) s' (accepts, is) nothing = subst KeepsNothing (sym is) nothing
+plain_done s (SentAppend m offset silent seen events) s' (accepts, is) nothing = subst KeepsNothing (sym is) nothing
+plain_done s (SentRollOver m offset silent setup number) s' (accepts, is) nothing = subst KeepsNothing (sym is) nothing
+
+plain_next : (R : Run) (h : Happening) (R' : Run) → IsPlain R → IsEager h → Happens R h R' → IsPlain R'
+plain_next R (Starts p i header terms ttl) R' plain eager (unborn, is, same) = subst IsPlain (sym same)
+    (plain_moved R p i (learns R.store i (id_by p 0) terms.epoch 0) (new_member header terms p ttl) [] plain eager (kept_learned R.store i (id_by p 0) terms.epoch 0 plain.nothing) (λ x has. absurd (none_in x has)))
+plain_next R (Goes p now next deed) R' plain eager (q, after, there, goes, may, same) = subst IsPlain (sym same)
+    (plain_moved R p q.name (store_by R.store q.name q.member next deed) after (sent_by q.name q.member next deed) plain
+    (told_eager q.member (Next now next) after tt (plain.members p q there) goes)
+    (kept_by R.store q.name q.member now next deed (plain.members p q there) goes.keeps plain.nothing) (sent_plain q.name q.member next deed (plain.members p q there)))
+plain_next R (Told p call) R' plain eager (q, after, there, takes, may, same) = subst IsPlain (sym same)
+    (plain_moved R p q.name (store_told R.store q.name q.member call) after [] plain (told_eager q.member call after eager (plain.members p q there) takes) (kept_told R.store q.name q.member call plain.nothing) (λ x has. absurd (none_in x has)))
+plain_next R (Ends p number left) R' plain eager (q, there, low, may, same) = subst IsPlain (sym same)
+    (plain_moved R p q.name (stops R.store q.name (id_by p number) left) q.member [] plain (plain.members p q there)
+    (kept_with R.store q.name (id_by p number) (record (R.store.sessions q.name (id_by p number)) { work = left }) plain.nothing (λ x has. plain.nothing q.name (id_by p number) x has)) (λ x has. absurd (none_in x has)))
+plain_next R (Done x) R' plain eager (has, s', is, same) = subst IsPlain (sym same) (record { members = plain.members; sent = plain.sent; nothing = plain_done R.store x s' is plain.nothing })
+plain_next R (Expires i) R' plain eager same = subst IsPlain (sym same) (record { members = plain.members; sent = plain.sent; nothing = plain.nothing })
+
+-- Whole runs.
+
+record IsRunOf (happenings : List Happening) (R R' : Run) : Type 0 where
+  acts : List Act
+  become : Become R.store acts R'.store
+  linked : IsLinked R'
+  eager : AllEager happenings → IsPlain R → AllAsked acts × IsPlain R'
+
+runs_on : (happenings : List Happening) (R R' : Run) → IsLinked R → RunsBy R happenings R' → IsRunOf happenings R R'
+runs_on [] R R' linked is = subst (IsRunOf [] R) (sym is) (record { acts = []; become = refl; linked = linked; eager = λ all plain. (tt, plain) })
 runs_on (h ∷ happenings) R R' linked (mid, happens, runs) =
     let one : IsBecome R mid = next_run R h mid linked happens in
-    let rest : IsBecome mid R' = runs_on happenings mid R' one.linked runs in
-    record { acts = one.acts ++ rest.acts; become = become_more one.acts rest.acts R.store mid.store R'.store one.become rest.become; linked = rest.linked }
+    let rest : IsRunOf happenings mid R' = runs_on happenings mid R' one.linked runs in
+    record {
+      acts = one.acts ++ rest.acts;
+      become = become_more one.acts rest.acts R.store mid.store R'.store one.become rest.become;
+      linked = rest.linked;
+      eager = λ all plain.
+          let (asked, then_plain) = rest.eager all.1 (plain_next R h mid plain all.0 happens) in
+          (asked_more one.acts rest.acts (one.asks plain.sent) asked, then_plain);
+    }
 
 first_linked : (setup : Setup) (number : ℕ → ℕ) → IsLinked (first_run setup number)
 first_linked setup number = record {
@@ -390,7 +619,7 @@ first_linked setup number = record {
   sent = λ x has. absurd (none_in x has);
 }
 
-has_run : (happenings : List Happening) (R : Run) (run : HasRun happenings R) → IsBecome (first_run run.setup run.number) R
+has_run : (happenings : List Happening) (R : Run) (run : HasRun happenings R) → IsRunOf happenings (first_run run.setup run.number) R
 has_run happenings R run = runs_on happenings (first_run run.setup run.number) R (first_linked run.setup run.number) run.runs
 
 pub reached_lem : (happenings : List Happening) (R : Run) → HasRun happenings R → (acts : List Act) × IsReached acts R.store
@@ -423,3 +652,12 @@ now_lem happenings R p q x y run one other same = (ids_apart p q one.number othe
 
     apart : (one.process.name ≡ other.process.name) × (id_by p one.number ≡ id_by q other.number)
     apart = apart_now reached.0 R.store one.process.name other.process.name (id_by p one.number) (id_by q other.number) x y reached.1 one.works other.works same
+
+first_plain : (setup : Setup) (number : ℕ → ℕ) → IsPlain (first_run setup number)
+first_plain setup number = record { members = λ p q is. absurd (cc is); sent = λ x has. absurd (none_in x has); nothing = λ i n q has. absurd (none_in q has) }
+
+pub eager_run_lem : (happenings : List Happening) (R : Run) → HasRun happenings R → AllEager happenings → (acts : List Act) × IsReached acts R.store × AllAsked acts × KeepsNothing R.store
+eager_run_lem happenings R run eager =
+    let is : IsRunOf happenings (first_run run.setup run.number) R = has_run happenings R run in
+    let (asked, plain) = is.eager eager (first_plain run.setup run.number) in
+    (is.acts, record { setup = run.setup; number = run.number; one = run.one; become = is.become }, asked, plain.nothing)

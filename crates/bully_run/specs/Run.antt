@@ -247,6 +247,21 @@ pub record HasRun (happenings : List Happening) (R : Run) : Type 0 where
   pub one : IsOneToOne number
   pub runs : RunsBy (first_run setup number) happenings R
 
+-- all groups are eager: each member starts, and goes on, in an epoch that is
+
+abbrev pub IsEagerCall : Call → Type 0
+IsEagerCall (Followed now header terms) = terms.is_cooperative ≡ false
+IsEagerCall other = Unit {0}
+
+abbrev pub IsEager : Happening → Type 0
+IsEager (Starts p i header terms ttl) = terms.is_cooperative ≡ false
+IsEager (Told p call) = IsEagerCall call
+IsEager other = Unit {0}
+
+abbrev pub AllEager : List Happening → Type 0
+AllEager [] = Unit {0}
+AllEager (h ∷ happenings) = IsEager h × AllEager happenings
+
 -- process p works on that, by a session that has its lease
 pub record WorksNow (R : Run) (p : ℕ) (x : Piece) : Type 0 where
   pub process : Process

@@ -14,8 +14,8 @@ ghost use Rattle.bully_member.specs.declared.values.Step.{Step as StepState};
 ghost use Rattle.bully_rebalance.specs.Acting.{IsReachedBy};
 ghost use Rattle.bully_run.specs.Calls.{Call, GoesNext, HasLived, IsBehind, IsSameTime, Made, NumbersLast, Takes};
 ghost use Rattle.bully_run.specs.Calls.{session_now};
-ghost use Rattle.bully_run.specs.Run.{Happening, HasRun, Process, Run, WorksNow, id_of};
-ghost use Rattle.bully_work.specs.Store.{Act, HasWork, IsReached, Piece};
+ghost use Rattle.bully_run.specs.Run.{AllEager, Happening, HasRun, Process, Run, WorksNow, id_of};
+ghost use Rattle.bully_work.specs.Store.{Act, AllAsked, HasWork, IsLive, IsReached, KeepsNothing, Piece};
 
 use bully_base::NodeSet;
 use bully_member::{Member, Step};
@@ -67,6 +67,9 @@ pub fn forgets_no_promise()
 /// - `knows`: a member that needs no snapshot knows its session (`ActsBy`).
 /// - `works`: what a process works on by its present session, its member has among what it works on.
 /// - `now`: no two processes that have their leases work on one partition.
+/// - `eager`: if all groups are eager, no act passes over anybody, and no promise keeps anything. So `asked_apart` and
+///   `eager_apart` of bully_work hold, too.
+/// - `some`: there are runs. In one a process gets its lease, and is told so.
 pub fn members_apart()
     ensures reached { (happenings : List Happening) (R : Run) → HasRun happenings R
         → (acts : List Act) × IsReached acts R.store }
@@ -78,6 +81,11 @@ pub fn members_apart()
         → Contains (busy q.member.works) x.partition }
     ensures now { (happenings : List Happening) (R : Run) (p q : ℕ) (x y : Piece) → HasRun happenings R
         → WorksNow R p x → WorksNow R q y → x.partition ≡ y.partition → p ≡ q }
+    ensures eager { (happenings : List Happening) (R : Run) → HasRun happenings R → AllEager happenings
+        → (acts : List Act) × IsReached acts R.store × AllAsked acts × KeepsNothing R.store }
+    ensures some { (happenings : List Happening) × (R : Run) × (q : Process) × HasRun happenings R
+        × (R.processes 0 ≡ Some q) × IsLive R.store q.name (id_of (session_now q.member))
+        × HasSession q.member (session_now q.member) }
 {}
 
 /// What a member does next, as [`Member::next`] gives it: a call of a run. So such calls are possible wherever there is a

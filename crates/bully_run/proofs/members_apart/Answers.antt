@@ -1,4 +1,5 @@
-use Rattle.bully_run.proofs.RunLemmas.{knows_lem, now_lem, reached_lem, works_lem}
+use Rattle.bully_run.proofs.RunLemmas.{eager_run_lem, knows_lem, now_lem, reached_lem, works_lem}
+use Rattle.bully_run.proofs.SomeRun.{some_lem}
 use Rattle.bully_run.proofs.members_apart.Goals as goal
 
 pub returns-clause-reached : goal.returns-clause-reached
@@ -12,3 +13,9 @@ returns-clause-works c = works_lem
 
 pub returns-clause-now : goal.returns-clause-now
 returns-clause-now c = now_lem
+
+pub returns-clause-eager : goal.returns-clause-eager
+returns-clause-eager c = eager_run_lem
+
+pub returns-clause-some : goal.returns-clause-some
+returns-clause-some c = some_lem
