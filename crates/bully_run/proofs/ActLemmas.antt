@@ -1,47 +1,39 @@
 -- What a member asks for and begins, and what it takes in, are acts of the model.
-use Rattle.std.proofs.Common.{◌||◌, ◌≡◌, ◌≤◌, ◌<◌, ◌+◌, ◌-◌, ◌*◌, ◌^◌, ◌==◌, ◌&&◌, ◌++◌, ◌∷◌, [], ℕ, zero, suc, Bool, true, false, not, List, Option, Some, None, if◌then◌else◌, nat_lt, nat_le, min, Contains, length, take, arith, refl, sym, ap, subst, ◌∙◌, ◌⊎◌, inl, inr, rules, Result, Ok, Err, cond, map}
+use Rattle.std.proofs.Common.{◌||◌, ◌≡◌, ◌≤◌, ◌<◌, ◌+◌, ◌-◌, ◌^◌, ◌==◌, ◌&&◌, ◌++◌, ◌∷◌, [], ℕ, zero, suc, Bool, true, false, not, List, Option, Some, None, if◌then◌else◌, nat_le, min, Contains, take, arith, refl, sym, ap, subst, ◌∙◌, ◌⊎◌, inl, inr}
 use Rattle.std.proofs.lemmas.Bool.Decides.{nat_tests}
-use Rattle.std.proofs.lemmas.List.Elements.{Contains-append_left, Contains-push, Contains-push_cases}
+use Rattle.std.proofs.lemmas.List.Elements.{Contains-append_left, Contains-push_cases}
 use Rattle.std.specs.List.{AllByRecursion}
 use Rattle.std.specs.Option.{option_map}
 use Rattle.bully_agree.specs.Fencing.{Planned}
-use Rattle.bully_base.specs.Setup.{Setup}
-use Rattle.bully_member.specs.Activities.{all_idle, begin_at, busy, changed, stop_at, works_at}
-use Rattle.bully_member.specs.Asking.{ActsBy, promise_of}
-use Rattle.bully_member.specs.Due.{begun, due, last_table, noted, stopping, table_ahead, token_now}
-use Rattle.bully_member.specs.Keeping.{AcquiresAt, BeginsBy, HasSession, IsNextSession, Keeps, PromisesAt}
-use Rattle.bully_member.specs.Learned.{after_learning, followed, in_epoch, is_following, not_there}
-use Rattle.bully_member.specs.Member.{MemberState, admitted_among, lease_of, new_member, offset_of, replica_of}
-use Rattle.bully_member.specs.Told.{acquired_by, answered, answered_by, awaits_snapshot, end_for, found, found_here, lost, to_pause, own_by, own_by_promise, own_promise, renewed_by, snapshot_lost, snapshot_read, stopped, stopped_on, to_snapshot, when_acquired, when_answered, when_renewed, with_arrivals}
+use Rattle.bully_member.specs.Activities.{all_idle}
+use Rattle.bully_member.specs.Asking.{promise_of}
+use Rattle.bully_member.specs.Due.{begun, last_table, noted, stopping, table_ahead, token_now}
+use Rattle.bully_member.specs.Keeping.{AcquiresAt, HasSession, IsNextSession, Keeps, PromisesAt}
+use Rattle.bully_member.specs.Learned.{followed, in_epoch, is_following}
+use Rattle.bully_member.specs.Member.{MemberState, admitted_among, new_member, offset_of, replica_of}
+use Rattle.bully_member.specs.Told.{awaits_snapshot, found, found_here, to_pause, own_by, own_by_promise, own_promise, snapshot_read, with_arrivals}
 use Rattle.bully_member.specs.declared.opening.Terms.{Terms}
-use Rattle.bully_member.specs.declared.values.Activity.{Activity}
-use Rattle.bully_member.specs.declared.values.Asked.{Asked}
-use Rattle.bully_member.specs.declared.values.Ending.{Ending}
 use Rattle.bully_member.specs.declared.values.Lease.{Lease}
 use Rattle.bully_member.specs.declared.values.Promise.{Promise}
 use Rattle.bully_member.specs.declared.values.Request.{Request}
 use Rattle.bully_member.specs.declared.values.SessionId.{SessionId}
 use Rattle.bully_member.specs.declared.values.SessionState.{SessionState}
 use Rattle.bully_member.specs.declared.values.Step.{Step}
-use Rattle.bully_member.specs.declared.values.StoreAnswer.{StoreAnswer}
 use Rattle.bully_rebalance.proofs.OwnLemmas.{owned_owns, same_last}
 use Rattle.bully_rebalance.specs.Acting.{IsReachedBy}
 use Rattle.bully_rebalance.specs.Owning.{OwnsBy, owned_by, token_in}
 use Rattle.bully_rebalance.specs.declared.holding.Owned.{Owned}
-use Rattle.bully_replica.specs.Replica.{HasLearned, IsLogOf, ReplicaState, first_replica}
-use Rattle.bully_replica.specs.declared.row_replica.LearnFault.{LearnFault}
-use Rattle.bully_rows.specs.Headers.{Record}
+use Rattle.bully_replica.specs.Replica.{first_replica}
 use Rattle.bully_rows.specs.declared.header.Header.{Header}
-use Rattle.bully_rows.specs.declared.trace.Row.{Row}
-use Rattle.bully_run.proofs.BusyLemmas.{begun_busy, busy_at, busy_contains, ended_busy, idle_works, stopping_busy, working_busy}
-use Rattle.bully_run.proofs.CallLemmas.{AsksOwn, IsOwnRequest, IsOwnSession, never_shorter, nothing_learned, own_session}
-use Rattle.bully_run.proofs.FrameLemmas.{Grows, HadNone, IsPlaced, Leads, grows_none, id_by, leads_grows, leads_more, leads_none, leads_one, no_session, placed, promises_kept, unwritten, written}
-use Rattle.bully_run.proofs.LinkLemmas.{Holds, Linked, Links, OfSession, due_again, links_written, own_linked, passed_linked, relink, rework}
+use Rattle.bully_run.proofs.BusyLemmas.{begun_busy, busy_at, busy_contains, idle_works, stopping_busy, working_busy}
+use Rattle.bully_run.proofs.CallLemmas.{IsOwnRequest, IsOwnSession, nothing_learned, own_session}
+use Rattle.bully_run.proofs.FrameLemmas.{HadNone, IsPlaced, Leads, id_by, leads_grows, leads_more, leads_none, leads_one, no_session, placed, written}
+use Rattle.bully_run.proofs.LinkLemmas.{Linked, Links, OfSession, links_written, own_linked, passed_linked, relink, rework}
 use Rattle.bully_run.proofs.SeenLemmas.{SeenFor, due_seen}
-use Rattle.bully_run.specs.Calls.{GoesNext, GoesOnLearning, NumbersLast}
-use Rattle.bully_run.specs.Run.{BeginsWhileSure, Deed, HasEnded, HasEndedOn, IsEpochOf, IsPrefixOf, IsWhole, MayDo, MayStart, begins_all, id_of, moves, piece_of, session_by, store_by, takes_in}
+use Rattle.bully_run.specs.Calls.{GoesNext, NumbersLast}
+use Rattle.bully_run.specs.Run.{Deed, IsEpochOf, IsWhole, MayDo, MayStart, begins_all, moves, piece_of, session_by, store_by, takes_in}
 use Rattle.bully_work.proofs.StoreLemmas.{none_in}
-use Rattle.bully_work.specs.Store.{Act, Become, Begin, Epoch, HasPromised, HasWork, IsBefore, IsLive, IsOwner, Learn, MayBegin, MayLearn, MayPromise, MayStop, Piece, Promise as Promises, Promised, Session, Stop, Store, begins, learns, nothing_in, promises, stops, with_session}
+use Rattle.bully_work.specs.Store.{Act, Begin, Epoch, HasWork, IsBefore, IsLive, IsOwner, Learn, MayBegin, MayLearn, Piece, Promise as Promises, Promised, Session, Store, begins, learns, nothing_in, promises}
 
 -- acts of one session of process p lead from s to s', and its member knows its session there
 pub record IsRan (s s' : Store) (i p : ℕ) (after : MemberState) : Type 0 where
@@ -91,7 +83,7 @@ start_ran s i p header terms ttl none is fresh = record {
       new leads session
       (record { started = is.started; setup = is.setup; number = is.number; rows = (nothing_learned header).log; low = omega arith })
       (record { epoch = refl; past = omega arith; seen = λ n. absurd (cc n); reached = λ q has. absurd (none_in q has); known = λ y has. absurd (none_in y has) })
-      (record { learned = ([], nothing_learned header); within = omega arith; own = tt; asks = tt; tops = omega arith })
+      (record { learned = ([], nothing_learned header); within = omega arith; own = tt; asks = tt; tops = omega arith }) refl (λ k less. absurd (omega (arith, less)))
       (λ k more high. fresh k high);
 }
   where
@@ -133,7 +125,7 @@ module _ (s : Store) (i : ℕ) (m : MemberState) (linked : Linked s i m) where
         (record here { epoch = m.terms.epoch; learned = offset_of m }) leads (written s i (id_by m.process m.tries) (record here { epoch = m.terms.epoch; learned = offset_of m })) linked.place
         (record { epoch = refl; past = omega arith; seen = λ none. (refl, is_whole); reached = linked.knows.reached; known = linked.knows.known })
         (record { learned = linked.holds.learned; within = linked.holds.within; own = linked.holds.own; asks = tt; tops = linked.holds.tops })
-        linked.fresh);
+        linked.told linked.older linked.fresh);
   }
     where
       is_whole : IsWhole s m
@@ -173,7 +165,7 @@ module _ (s : Store) (i : ℕ) (m : MemberState) (linked : Linked s i m) where
         (record { started = is.started; setup = is.setup; number = is.number; rows = (nothing_learned header).log; low = omega arith })
         (record { epoch = refl; past = omega arith; seen = λ n. absurd (cc n); reached = λ q has. inl (older q (linked.knows.reached q has)); known = λ y has. absurd (idle_works m.works y.partition idle (linked.knows.known y has)) })
         (record { learned = ([], nothing_learned header); within = omega arith; own = linked.holds.own; asks = tt; tops = linked.holds.tops })
-        linked.fresh;
+        refl linked.older linked.fresh;
   }
     where
       later : m.terms.epoch < t.epoch
@@ -216,7 +208,7 @@ module _ (s : Store) (i : ℕ) (m : MemberState) (linked : Linked s i m) where
         new leads (written s i (id_by m.process m.tries) new) linked.place
         (record { epoch = linked.knows.epoch; past = linked.knows.past; seen = linked.knows.seen; reached = λ q has. reached q (Contains-push_cases here.promises (promise_of m offset) q has); known = linked.knows.known })
         (record { learned = linked.holds.learned; within = omega (arith, end); own = linked.holds.own; asks = refl; tops = linked.holds.tops })
-        linked.fresh;
+        linked.told linked.older linked.fresh;
   }
     where
       new : Session
@@ -234,9 +226,9 @@ module _ (s : Store) (i : ℕ) (m : MemberState) (linked : Linked s i m) where
           further (inr (same, low)) = inr (same, (let within = linked.holds.within in omega (arith, low, within, end)))
       reached q (inr is) = subst (λ (x : Promised). IsReachedBy x m.terms.epoch offset) is (inr (refl, omega arith))
 
-  acquire_ran : (now offset k : ℕ) (is_stable : Bool) → offset ≡ offset_of m → m.session ≡ SessionState.Absent → k ≡ m.tries + 1 → k < 2 ^ 64 → m.needs_snapshot ≡ false
+  acquire_ran : (now offset k : ℕ) (is_stable : Bool) → offset ≡ offset_of m → m.session ≡ SessionState.Absent → k ≡ m.tries + 1 → k < 2 ^ 64 → m.needs_snapshot ≡ false → all_idle m.works ≡ true
       → IsRan s (promises (learns s i (id_by m.process k) m.terms.epoch offset) i (id_by m.process k) (nothing_in m.terms.epoch offset)) i m.process (noted m now is_stable (Step.Ask (Request.Acquire (session_by m.process k) offset)))
-  acquire_ran now offset k is_stable end absent next high seen = record {
+  acquire_ran now offset k is_stable end absent next high seen idle = record {
     same = refl;
     number = k;
     low = high;
@@ -252,7 +244,7 @@ module _ (s : Store) (i : ℕ) (m : MemberState) (linked : Linked s i m) where
           reached = λ q has. reached q (Contains-push_cases [] (nothing_in m.terms.epoch offset) q has);
           known = λ y has. absurd (none_in y has);
         })
-        (record { learned = linked.holds.learned; within = omega (arith, end); own = subst (IsOwnSession (session_by m.process k)) (sym absent) tt; asks = refl; tops = omega (arith, high) })
+        (record { learned = linked.holds.learned; within = omega (arith, end); own = subst (IsOwnSession (session_by m.process k)) (sym absent) tt; asks = refl; tops = omega (arith, high) }) linked.told (λ l less y has. before l less y has)
         (λ l more top. linked.fresh l (omega (arith, more, next)) top);
   }
     where
@@ -275,6 +267,15 @@ module _ (s : Store) (i : ℕ) (m : MemberState) (linked : Linked s i m) where
       session = written (learns s i (id_by m.process k) m.terms.epoch offset) i (id_by m.process k)
           (record ((learns s i (id_by m.process k) m.terms.epoch offset).sessions i (id_by m.process k)) { promises = ((learns s i (id_by m.process k) m.terms.epoch offset).sessions i (id_by m.process k)).promises ++ nothing_in m.terms.epoch offset ∷ [] })
           ∙ ap (λ (x : Session). record x { promises = x.promises ++ nothing_in m.terms.epoch offset ∷ [] }) learned
+
+      before : (l : ℕ) → l < k → (y : Piece) → HasWork s i (id_by m.process l) y → ⊥
+      before l less y has = by_test (l == m.tries) refl
+        where
+          by_test : (b : Bool) → (l == m.tries) ≡ b → ⊥
+          by_test true is =
+              let same : l ≡ m.tries = grind (arith, nat_tests, is) in
+              idle_works m.works y.partition idle (linked.knows.known y (subst (λ (x : ℕ). HasWork s i (id_by m.process x) y) same has))
+          by_test false is = linked.older l (grind (arith, nat_tests, is, less, next)) y has
 
       had : Contains (s.epochs m.terms.epoch).lengths offset
       had = subst (Contains (s.epochs m.terms.epoch).lengths) (sym end) (linked.knows.seen seen).1
@@ -391,7 +392,7 @@ begin_ran s i m token plan ks linked seen owner live starts = record {
   acts = acts_of i m (begun m token) plan (owned.0) owned.1 seen ks;
   leads = did.leads;
   linked = links_written s (begins_all s i (id_by m.process m.tries) m plan ks) i m.process (replica_of m) m.terms.epoch m.terms.node m.promised m.tries m.session m.asked m.needs_snapshot (begun m token).works
-      (acts_of i m (begun m token) plan (owned.0) owned.1 seen ks) ((begins_all s i (id_by m.process m.tries) m plan ks).sessions i (id_by m.process m.tries)) did.leads refl linked.place did.knows linked.holds linked.fresh;
+      (acts_of i m (begun m token) plan (owned.0) owned.1 seen ks) ((begins_all s i (id_by m.process m.tries) m plan ks).sessions i (id_by m.process m.tries)) did.leads refl linked.place did.knows linked.holds linked.told linked.older linked.fresh;
 }
   where
     owned : (o : Owned) × (owned_by (replica_of m) m.terms.node m.promised ≡ Some o)
@@ -417,7 +418,7 @@ module _ (s : Store) (i : ℕ) (m : MemberState) (now : ℕ) (deed : Deed) (link
 
   acquires : (is_stable : Bool) (session : SessionId) (offset : ℕ) → AcquiresAt m offset → IsNextSession m session → NumbersLast m → m.needs_snapshot ≡ false → Ran (Step.Ask (Request.Acquire session offset)) is_stable
   acquires is_stable session offset at (absent, next) last seen = subst (λ (x : SessionId). Ran (Step.Ask (Request.Acquire x offset)) is_stable) (sym next)
-      (acquire_ran s i m linked now offset (min (m.tries + 1) (2 ^ 64 - 1)) is_stable at.end absent (omega (arith, last)) (omega (arith, last)) seen)
+      (acquire_ran s i m linked now offset (min (m.tries + 1) (2 ^ 64 - 1)) is_stable at.end absent (omega (arith, last)) (omega (arith, last)) seen at.idle)
 
   promises_it : (is_stable : Bool) (session : SessionId) (offset : ℕ) → PromisesAt m offset → HasSession m session → Ran (Step.Ask (Request.Promise session offset)) is_stable
   promises_it is_stable session offset at has = subst (λ (x : SessionId). Ran (Step.Ask (Request.Promise x offset)) is_stable) (sym (own_is s i m linked session has)) (promise_ran s i m linked now offset is_stable at.end)

@@ -1,5 +1,5 @@
 -- On which partitions a member works.
-use Rattle.std.proofs.Common.{◌≡◌, ◌+◌, ◌==◌, ◌∷◌, [], ℕ, zero, suc, Bool, true, false, not, List, Option, Some, None, Contains, if◌then◌else◌, length, slice_get, arith, refl, sym, ap, subst}
+use Rattle.std.proofs.Common.{◌≡◌, ◌+◌, ◌==◌, ◌∷◌, [], ℕ, zero, suc, Bool, true, false, not, List, Option, Contains, if◌then◌else◌, arith, refl, subst}
 use Rattle.std.proofs.lemmas.Bool.Decides.{nat_tests}
 use Rattle.bully_member.specs.Activities.{all_idle, begin_at, busy, busy_from, changed, changed_from, ended_at, is_idle, stop_at, works_at}
 use Rattle.bully_member.specs.declared.values.Activity.{Activity}

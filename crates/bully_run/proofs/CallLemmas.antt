@@ -1,17 +1,17 @@
 -- What a member knows of its promises stays so, whatever call comes.
-use Rattle.std.proofs.Common.{◌||◌, ◌≡◌, ◌≤◌, ◌<◌, ◌+◌, ◌-◌, ◌^◌, ◌==◌, ◌&&◌, ◌++◌, ◌∷◌, [], ℕ, Bool, true, false, not, List, Option, Some, None, if◌then◌else◌, nat_lt, nat_le, min, Contains, length, arith, refl, sym, ap, subst, ◌∙◌, ◌⊎◌, inl, inr, rules, length-append, append-nil, Result, Ok, Err, cond}
+use Rattle.std.proofs.Common.{◌||◌, ◌≡◌, ◌≤◌, ◌<◌, ◌+◌, ◌-◌, ◌^◌, ◌==◌, ◌&&◌, ◌++◌, ◌∷◌, [], ℕ, Bool, true, false, not, List, Option, Some, None, if◌then◌else◌, nat_lt, nat_le, min, Contains, length, arith, refl, sym, ap, subst, ◌∙◌, ◌⊎◌, inl, inr, length-append, Result}
 use Rattle.std.proofs.lemmas.Bool.Decides.{nat_tests}
 use Rattle.std.proofs.lemmas.List.Elements.{Contains-push_cases}
 use Rattle.std.specs.Option.{option_map}
 use Rattle.bully_agree.specs.Fencing.{Planned}
 use Rattle.bully_member.specs.Asking.{promise_of}
-use Rattle.bully_member.specs.Due.{noted, token_now}
-use Rattle.bully_member.specs.Keeping.{AcquiresAt, BeginsBy, HasSession, IsNextSession, Keeps, PromisesAt}
+use Rattle.bully_member.specs.Due.{noted}
+use Rattle.bully_member.specs.Keeping.{AcquiresAt, HasSession, IsNextSession, Keeps, PromisesAt}
 use Rattle.bully_member.specs.Learned.{after_learning, followed, in_epoch, is_following, not_there}
 use Rattle.bully_member.specs.Activities.{all_idle}
-use Rattle.bully_member.specs.Member.{MemberState, lease_of, new_member, offset_of, replica_of}
+use Rattle.bully_member.specs.Member.{MemberState, new_member, replica_of}
 use Rattle.bully_member.specs.Times.{sure}
-use Rattle.bully_member.specs.Told.{acquired_by, answered, answered_by, awaits_snapshot, end_for, found, found_here, lost, own_by, own_by_promise, own_promise, renewed_by, snapshot_lost, snapshot_read, stopped, stopped_on, to_snapshot, when_acquired, when_answered, when_renewed, with_arrivals}
+use Rattle.bully_member.specs.Told.{acquired_by, answered, answered_by, awaits_snapshot, end_for, lost, own_by, own_by_promise, own_promise, renewed_by, snapshot_read, when_acquired, when_answered, when_renewed}
 use Rattle.bully_member.specs.declared.opening.Terms.{Terms}
 use Rattle.bully_member.specs.declared.values.Asked.{Asked}
 use Rattle.bully_member.specs.declared.values.Ending.{Ending}
@@ -23,10 +23,9 @@ use Rattle.bully_member.specs.declared.values.SessionState.{SessionState}
 use Rattle.bully_member.specs.declared.values.Step.{Step}
 use Rattle.bully_member.specs.declared.values.StoreAnswer.{StoreAnswer}
 use Rattle.bully_rebalance.specs.Acting.{IsReachedBy}
-use Rattle.bully_rebalance.specs.Owning.{owned_by, owned_in, owned_with, partitions_of, token_in}
-use Rattle.bully_rebalance.specs.declared.holding.Owned.{Owned}
+use Rattle.bully_rebalance.specs.Owning.{owned_in, owned_with, partitions_of, token_in}
 use Rattle.bully_replica.specs.RowReplica.{FollowsUpTo, RowReplicaState}
-use Rattle.bully_replica.specs.Replica.{HasLearned, IsLogOf, ReplicaState, first_replica, judge_of, token_of}
+use Rattle.bully_replica.specs.Replica.{HasLearned, IsLogOf, ReplicaState, first_replica, token_of}
 use Rattle.bully_replica.specs.declared.row_replica.LearnFault.{LearnFault}
 use Rattle.bully_rows.specs.Headers.{Record}
 use Rattle.bully_rows.specs.declared.header.Header.{Header}
@@ -36,8 +35,7 @@ use Rattle.bully_trace.specs.Verdict.{IsJudged, events_of}
 use Rattle.bully_trace.proofs.JudgeLemmas.{events-append}
 use Rattle.bully_work.specs.Store.{Promised, nothing_in}
 use Rattle.bully_world.proofs.WorldLemmas.{first_is}
-use Rattle.bully_world.specs.Lawful.{IsLawful}
-use Rattle.bully_world.specs.World.{World, first_world}
+use Rattle.bully_world.specs.World.{World}
 
 -- What holds of a member at each moment.
 

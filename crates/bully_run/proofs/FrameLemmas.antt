@@ -1,12 +1,12 @@
 -- What acts leave as it is in a store.
-use Rattle.std.proofs.Common.{◌≡◌, ◌≤◌, ◌<◌, ◌+◌, ◌*◌, ◌^◌, ◌==◌, ◌&&◌, ◌++◌, ◌∷◌, [], ℕ, Bool, true, false, List, Option, Some, None, Contains, cond, length, length-append, take, arith, refl, sym, ap, subst, ◌∙◌, ◌⊎◌, inl, inr}
+use Rattle.std.proofs.Common.{◌≡◌, ◌≤◌, ◌<◌, ◌+◌, ◌*◌, ◌^◌, ◌==◌, ◌&&◌, ◌++◌, ◌∷◌, [], ℕ, Bool, true, false, List, Contains, cond, length, length-append, take, arith, refl, sym, ap, subst, ◌∙◌}
 use Rattle.std.proofs.lemmas.Bool.Decides.{nat_tests}
 use Rattle.std.proofs.lemmas.List.{take-append-le}
-use Rattle.std.proofs.lemmas.List.Elements.{Contains-append_left, Contains-push, Contains-push_cases}
+use Rattle.std.proofs.lemmas.List.Elements.{Contains-append_left}
 use Rattle.bully_base.specs.Setup.{Setup}
 use Rattle.bully_calls.specs.declared.event.Event.{Event}
 use Rattle.bully_replica.specs.Replica.{IsLogOf, ReplicaState}
-use Rattle.bully_work.specs.Store.{Act, AllAsked, AsksAll, Become, Does, Epoch, HasPromised, Piece, Promised, Session, Store, current, longer, new_epoch, rolled, with_epoch, with_session}
+use Rattle.bully_work.specs.Store.{Act, AllAsked, AsksAll, Become, Does, Epoch, HasPromised, Promised, Session, Store, current, longer, new_epoch, rolled, with_session}
 
 -- a session that has learned and promised nothing
 abbrev pub no_session : Session

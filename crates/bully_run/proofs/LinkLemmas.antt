@@ -1,19 +1,11 @@
 -- A member knows its session, whatever call comes: each is acts of the model.
-use Rattle.std.proofs.Common.{◌||◌, ◌≡◌, ◌≤◌, ◌<◌, ◌+◌, ◌-◌, ◌*◌, ◌^◌, ◌==◌, ◌&&◌, ◌++◌, ◌∷◌, [], ℕ, zero, suc, Bool, true, false, not, List, Option, Some, None, if◌then◌else◌, nat_lt, nat_le, min, Contains, length, take, arith, refl, sym, ap, subst, ◌∙◌, ◌⊎◌, inl, inr, rules, Result, Ok, Err, cond, map}
-use Rattle.std.proofs.lemmas.Bool.Decides.{nat_tests}
-use Rattle.std.proofs.lemmas.List.Elements.{Contains-push, Contains-push_cases}
-use Rattle.std.specs.List.{AllByRecursion}
-use Rattle.std.specs.Option.{option_map}
-use Rattle.bully_agree.specs.Fencing.{Planned}
-use Rattle.bully_base.specs.Setup.{Setup}
-use Rattle.bully_member.specs.Activities.{all_idle, begin_at, busy, changed, stop_at, works_at}
-use Rattle.bully_member.specs.Asking.{ActsBy, promise_of}
-use Rattle.bully_member.specs.Due.{begun, due, last_table, noted, stopping, table_ahead, token_now}
-use Rattle.bully_member.specs.Keeping.{AcquiresAt, BeginsBy, HasSession, IsNextSession, Keeps, PromisesAt}
-use Rattle.bully_member.specs.Learned.{after_learning, followed, in_epoch, is_following, not_there}
-use Rattle.bully_member.specs.Member.{MemberState, lease_of, new_member, offset_of, replica_of}
-use Rattle.bully_member.specs.Told.{acquired_by, answered, answered_by, awaits_snapshot, end_for, lost, own_by, own_by_promise, own_promise, renewed_by, snapshot_lost, snapshot_read, stopped, stopped_on, to_snapshot, when_acquired, when_answered, when_renewed, with_arrivals}
-use Rattle.bully_member.specs.declared.opening.Terms.{Terms}
+use Rattle.std.proofs.Common.{◌≡◌, ◌≤◌, ◌<◌, ◌+◌, ◌-◌, ◌^◌, ◌++◌, ℕ, Bool, true, false, List, Option, Some, None, if◌then◌else◌, Contains, length, take, arith, sym, ap, subst, ◌∙◌, Result, drop, length-append, length-drop}
+use Rattle.std.proofs.Math.Seq.{take-add}
+use Rattle.std.proofs.lemmas.List.{length-take}
+use Rattle.bully_calls.specs.declared.event.Event.{Event}
+use Rattle.bully_member.specs.Learned.{is_following, not_there}
+use Rattle.bully_member.specs.Member.{MemberState, offset_of, replica_of}
+use Rattle.bully_member.specs.Told.{acquired_by, answered, answered_by, end_for, lost, own_by, own_by_promise, own_promise, renewed_by, snapshot_lost, stopped, stopped_on, when_acquired, when_answered, when_renewed}
 use Rattle.bully_member.specs.declared.values.Activity.{Activity}
 use Rattle.bully_member.specs.declared.values.Asked.{Asked}
 use Rattle.bully_member.specs.declared.values.Ending.{Ending}
@@ -22,25 +14,20 @@ use Rattle.bully_member.specs.declared.values.Promise.{Promise}
 use Rattle.bully_member.specs.declared.values.Request.{Request}
 use Rattle.bully_member.specs.declared.values.SessionId.{SessionId}
 use Rattle.bully_member.specs.declared.values.SessionState.{SessionState}
-use Rattle.bully_member.specs.declared.values.Step.{Step}
 use Rattle.bully_member.specs.declared.values.StoreAnswer.{StoreAnswer}
-use Rattle.bully_rebalance.proofs.OwnLemmas.{owned_owns, same_last}
 use Rattle.bully_rebalance.specs.Acting.{IsReachedBy}
-use Rattle.bully_rebalance.specs.Owning.{OwnsBy, owned_by, token_in}
-use Rattle.bully_rebalance.specs.declared.holding.Owned.{Owned}
-use Rattle.bully_replica.specs.Replica.{HasLearned, IsLogOf, ReplicaState, first_replica}
+use Rattle.bully_replica.specs.Replica.{HasLearned, IsLogOf, ReplicaState}
 use Rattle.bully_replica.specs.declared.row_replica.LearnFault.{LearnFault}
 use Rattle.bully_rows.specs.Headers.{Record}
-use Rattle.bully_rows.specs.declared.header.Header.{Header}
 use Rattle.bully_rows.specs.declared.trace.Row.{Row}
-use Rattle.bully_run.proofs.BusyLemmas.{begun_busy, busy_at, busy_contains, ended_busy, idle_works, stopping_busy, working_busy}
-use Rattle.bully_run.proofs.CallLemmas.{AsksOwn, IsOwnRequest, IsOwnSession, never_shorter, nothing_learned, own_session}
-use Rattle.bully_run.proofs.FrameLemmas.{Grows, IsPlaced, Leads, grows_none, id_by, leads_grows, leads_more, leads_none, leads_one, no_session, placed, promises_kept, unwritten, written}
-use Rattle.bully_run.proofs.SeenLemmas.{SeenFor, due_seen}
-use Rattle.bully_run.specs.Calls.{GoesNext, GoesOnLearning, NumbersLast}
-use Rattle.bully_run.specs.Run.{BeginsWhileSure, Deed, HasEnded, HasEndedOn, IsEpochOf, IsPrefixOf, IsWhole, MayStart, begins_all, id_of, moves, piece_of, session_by, store_by, takes_in}
-use Rattle.bully_work.proofs.StoreLemmas.{none_in}
-use Rattle.bully_work.specs.Store.{Act, Become, Begin, Epoch, HasPromised, HasWork, IsBefore, IsLive, IsOwner, Learn, MayBegin, MayLearn, MayPromise, MayStop, Piece, Promise as Promises, Promised, Session, Stop, Store, begins, learns, nothing_in, promises, stops, with_session}
+use Rattle.bully_trace.proofs.JudgeLemmas.{events-append}
+use Rattle.bully_trace.specs.Verdict.{events_of}
+use Rattle.bully_run.proofs.BusyLemmas.{busy_at, ended_busy}
+use Rattle.bully_run.proofs.CallLemmas.{AsksOwn, IsOwnRequest, IsOwnSession}
+use Rattle.bully_run.proofs.FrameLemmas.{Grows, IsPlaced, Leads, id_by, leads_grows, no_session, placed}
+use Rattle.bully_run.specs.Calls.{GoesOnLearning}
+use Rattle.bully_run.specs.Run.{HasEnded, HasEndedOn, AreRowsOf, session_by}
+use Rattle.bully_work.specs.Store.{Act, Epoch, HasWork, Piece, Promised, Session, Store}
 
 -- What links a member to its session.
 
@@ -64,7 +51,9 @@ pub record Links (s : Store) (i p : ℕ) (r : ReplicaState) (e node promised tri
   pub place : IsPlaced s i r e node
   pub knows : OfSession (s.epochs e).lengths r e promised needs works (s.sessions i (id_by p tries))
   pub holds : Holds r promised p tries session asked
+  pub told : events_of holds.learned.0 ≡ take r.world.events (s.epochs e).log
   pub fresh : (k : ℕ) → tries < k → k < 2 ^ 64 → s.sessions i (id_by p k) ≡ no_session
+  pub older : (k : ℕ) → k < tries → (y : Piece) → HasWork s i (id_by p k) y → ⊥
 
 abbrev pub Linked : Store → ℕ → MemberState → Type 0
 Linked s i m = Links s i m.process (replica_of m) m.terms.epoch m.terms.node m.promised m.tries m.session m.asked m.needs_snapshot m.works
@@ -76,7 +65,9 @@ relink s i p r e node promised tries session next asked more needs now works lin
   place = links.place;
   knows = record { epoch = links.knows.epoch; past = links.knows.past; seen = λ none. links.knows.seen (seen none); reached = links.knows.reached; known = links.knows.known };
   holds = record { learned = links.holds.learned; within = links.holds.within; own = own; asks = asks; tops = links.holds.tops };
+  told = links.told;
   fresh = links.fresh;
+  older = links.older;
 }
 
 -- its work changes, and all that it works on stays among that
@@ -86,13 +77,16 @@ rework s i p r e node promised tries session asked needs works other links known
   place = links.place;
   knows = record { epoch = links.knows.epoch; past = links.knows.past; seen = links.knows.seen; reached = links.knows.reached; known = known };
   holds = links.holds;
+  told = links.told;
   fresh = links.fresh;
+  older = links.older;
 }
 
 -- other acts leave the link
 pub links_stay : (s s' : Store) (i p : ℕ) (r : ReplicaState) (e node promised tries : ℕ) (session : SessionState) (asked : Option Asked) (needs : Bool) (works : List Activity) → Grows s s'
-    → ((k : ℕ) → tries ≤ k → k < 2 ^ 64 → s'.sessions i (id_by p k) ≡ s.sessions i (id_by p k)) → Links s i p r e node promised tries session asked needs works → Links s' i p r e node promised tries session asked needs works
-links_stay s s' i p r e node promised tries session asked needs works grows same links = record {
+    → ((k : ℕ) → tries ≤ k → k < 2 ^ 64 → s'.sessions i (id_by p k) ≡ s.sessions i (id_by p k)) → ((k : ℕ) → k < tries → (y : Piece) → HasWork s' i (id_by p k) y → HasWork s i (id_by p k) y)
+    → Links s i p r e node promised tries session asked needs works → Links s' i p r e node promised tries session asked needs works
+links_stay s s' i p r e node promised tries session asked needs works grows same had links = record {
   place = placed s s' i r e node grows links.place;
   knows = subst (OfSession (s'.epochs e).lengths r e promised needs works) (sym (same tries (omega arith) low)) (record {
     epoch = links.knows.epoch;
@@ -102,6 +96,8 @@ links_stay s s' i p r e node promised tries session asked needs works grows same
     known = links.knows.known;
   });
   holds = links.holds;
+  told = links.told ∙ sym ((grows.extends e links.place.started).log r.world.events links.place.low).0;
+  older = λ k less y has. links.older k less y (had k less y has);
   fresh = λ k more high. same k (omega (arith, more)) high ∙ links.fresh k more high;
 }
   where
@@ -110,12 +106,14 @@ links_stay s s' i p r e node promised tries session asked needs works grows same
 
 -- an act writes the session that the member has asked for last, or for the first time
 pub links_written : (s s' : Store) (i p : ℕ) (r : ReplicaState) (e node promised tries : ℕ) (session : SessionState) (asked : Option Asked) (needs : Bool) (works : List Activity) (acts : List Act) (new : Session) → Leads s s' (id_by p tries) acts
-    → s'.sessions i (id_by p tries) ≡ new → IsPlaced s i r e node → OfSession (s.epochs e).lengths r e promised needs works new → Holds r promised p tries session asked
-    → ((k : ℕ) → tries < k → k < 2 ^ 64 → s.sessions i (id_by p k) ≡ no_session) → Links s' i p r e node promised tries session asked needs works
-links_written s s' i p r e node promised tries session asked needs works acts new leads is place knows holds fresh = record {
+    → s'.sessions i (id_by p tries) ≡ new → IsPlaced s i r e node → OfSession (s.epochs e).lengths r e promised needs works new → (holds : Holds r promised p tries session asked) → events_of holds.learned.0 ≡ take r.world.events (s.epochs e).log
+    → ((k : ℕ) → k < tries → (y : Piece) → HasWork s i (id_by p k) y → ⊥) → ((k : ℕ) → tries < k → k < 2 ^ 64 → s.sessions i (id_by p k) ≡ no_session) → Links s' i p r e node promised tries session asked needs works
+links_written s s' i p r e node promised tries session asked needs works acts new leads is place knows holds told older fresh = record {
   place = placed s s' i r e node (leads_grows s s' (id_by p tries) acts leads) place;
   knows = subst (λ (f : ℕ → Epoch). OfSession (f e).lengths r e promised needs works (s'.sessions i (id_by p tries))) (sym leads.epochs) (subst (OfSession (s.epochs e).lengths r e promised needs works) (sym is) knows);
   holds = holds;
+  told = subst (λ (f : ℕ → Epoch). events_of holds.learned.0 ≡ take r.world.events (f e).log) (sym leads.epochs) told;
+  older = λ k less y has. older k less y (subst (λ (x : Session). Contains x.work y) (leads.others i (id_by p k) (λ same. omega (arith, same, less))) has);
   fresh = λ k more high. leads.others i (id_by p k) (λ same. omega (arith, same, more)) ∙ fresh k more high;
 }
 
@@ -226,28 +224,54 @@ module _ (s : Store) (i : ℕ) where
   stopped_on_linked m k linked none = rework s i m.process (replica_of m) m.terms.epoch m.terms.node m.promised m.tries m.session m.asked m.needs_snapshot m.works (stopped_on m k).works linked
       (λ y has. ended_busy k y.partition m.works (none y has) (linked.knows.known y has))
 
-  pub learned_linked : (m : MemberState) (records : List Record) (taken : Result (Unit {0}) LearnFault) (after : MemberState) → Is m → GoesOnLearning m records taken after → IsPrefixOf s after → Is after
-  learned_linked m records taken after linked goes prefix = subst Is (sym goes.rest) (record {
+  pub learned_linked : (m : MemberState) (records : List Record) (taken : Result (Unit {0}) LearnFault) (after : MemberState) → Is m → GoesOnLearning m records taken after → AreRowsOf s m records → Is after
+  learned_linked m records taken after linked goes are = subst Is (sym goes.rest) (record {
     place = record {
       started = linked.place.started;
       setup = goes.follows.setup ∙ linked.place.setup;
       number = linked.place.number;
-      rows = subst (λ e. IsLogOf (replica_of after) (take (offset_of after) (s.epochs e).log)) epoch prefix.log;
-      low = subst (λ e. offset_of after ≤ length (s.epochs e).log) epoch prefix.low;
+      rows = subst (IsLogOf (replica_of after)) told learned.log;
+      low = low;
     };
     knows = record {
       epoch = linked.knows.epoch;
-      past = let old = linked.knows.past in omega (arith, old, grown);
+      past = let old = linked.knows.past in omega (arith, old, counted);
       seen = λ none. absurd (cc none);
       reached = linked.knows.reached;
       known = linked.knows.known;
     };
-    holds = record { learned = (linked.holds.learned.0 ++ goes.follows.rows, goes.follows.learned linked.holds.learned.0 linked.holds.learned.1); within = (let old = linked.holds.within in omega (arith, old, grown)); own = linked.holds.own; asks = linked.holds.asks; tops = linked.holds.tops };
+    holds = record { learned = (linked.holds.learned.0 ++ goes.follows.rows, learned); within = (let old = linked.holds.within in omega (arith, old, counted)); own = linked.holds.own; asks = linked.holds.asks; tops = linked.holds.tops };
+    told = told;
     fresh = linked.fresh;
+    older = linked.older;
   })
     where
-      epoch : after.terms.epoch ≡ m.terms.epoch
-      epoch = ap (λ (x : MemberState). x.terms.epoch) goes.rest
+      learned : HasLearned (replica_of after) (linked.holds.learned.0 ++ goes.follows.rows)
+      learned = goes.follows.learned linked.holds.learned.0 linked.holds.learned.1
 
-      grown : (replica_of m).world.events ≤ (replica_of after).world.events
-      grown = never_shorter records goes.left m.learned after.learned linked.holds.learned.0 goes.follows linked.holds.learned.1
+      next : events_of goes.follows.rows ≡ take (length (events_of goes.follows.rows)) (drop (offset_of m) (s.epochs m.terms.epoch).log)
+      next = are goes.follows.read goes.left goes.follows.rows goes.follows.parts goes.follows.mean
+
+      more : events_of (linked.holds.learned.0 ++ goes.follows.rows) ≡ events_of linked.holds.learned.0 ++ events_of goes.follows.rows
+      more = events-append linked.holds.learned.0 goes.follows.rows
+
+      counted : (replica_of after).world.events ≡ (replica_of m).world.events + length (events_of goes.follows.rows)
+      counted =
+          let before = linked.holds.learned.1.log.counted in
+          let now = learned.log.counted in
+          let size = ap length more ∙ length-append (events_of linked.holds.learned.0) (events_of goes.follows.rows) in
+          omega (arith, before, now, size)
+
+      told : events_of (linked.holds.learned.0 ++ goes.follows.rows) ≡ take (replica_of after).world.events (s.epochs m.terms.epoch).log
+      told = more ∙ ap (λ (xs : List Event). xs ++ events_of goes.follows.rows) linked.told
+          ∙ ap (λ (xs : List Event). take (replica_of m).world.events (s.epochs m.terms.epoch).log ++ xs) next
+          ∙ sym (take-add (replica_of m).world.events (length (events_of goes.follows.rows)) (s.epochs m.terms.epoch).log)
+          ∙ ap (λ n. take n (s.epochs m.terms.epoch).log) (sym counted)
+
+      low : (replica_of after).world.events ≤ length (s.epochs m.terms.epoch).log
+      low =
+          let within = linked.place.low in
+          let size = ap length next in
+          let cut = length-take (length (events_of goes.follows.rows)) (drop (offset_of m) (s.epochs m.terms.epoch).log) in
+          let rest = length-drop (offset_of m) (s.epochs m.terms.epoch).log in
+          omega (arith, within, size, cut, rest, counted)

@@ -1,5 +1,5 @@
 -- A run is a list of acts of the model, and members know their sessions in it.
-use Rattle.std.proofs.Common.{◌&&◌, ◌||◌, not, nat_le, ◌≡◌, ◌≤◌, ◌<◌, ◌+◌, ◌-◌, ◌*◌, ◌^◌, ◌==◌, ◌++◌, ◌∷◌, [], ℕ, Bool, true, false, List, Option, Some, None, if◌then◌else◌, Contains, cond, take, length, arith, refl, sym, ap, subst, ◌∙◌, ◌⊎◌, inl, inr}
+use Rattle.std.proofs.Common.{◌&&◌, ◌||◌, not, nat_le, ◌≡◌, ◌≤◌, ◌<◌, ◌^◌, ◌==◌, ◌++◌, ◌∷◌, [], ℕ, Bool, true, false, List, Option, Some, None, if◌then◌else◌, Contains, cond, take, arith, refl, sym, ap, subst, ◌∙◌, ◌⊎◌, inl, inr}
 use Rattle.std.proofs.lemmas.Bool.Decides.{nat_tests}
 use Rattle.std.proofs.lemmas.List.Elements.{Contains-append_cases, Contains-push_cases}
 use Rattle.bully_agree.specs.Fencing.{Planned}
@@ -29,13 +29,13 @@ use Rattle.bully_rebalance.specs.Rebalancing.{Rebalances, table_before}
 use Rattle.bully_replica.specs.Replica.{IsLogOf, first_replica}
 use Rattle.bully_rows.specs.declared.header.Header.{Header}
 use Rattle.bully_run.proofs.ActLemmas.{IsRan, followed_ran, next_ran, ran_none, snapshot_ran, start_ran}
-use Rattle.bully_run.proofs.BusyLemmas.{busy_contains}
-use Rattle.bully_run.proofs.FrameLemmas.{Extends, Grows, HadNone, IsPlaced, Leads, asked_more, become_more, grows_none, had_none, id_by, ids_apart, leads_grows, leads_one, longer_grows, no_session, placed, rolled_grows, rolled_none, unwritten, written}
+use Rattle.bully_run.proofs.BusyLemmas.{busy_at, busy_contains}
+use Rattle.bully_run.proofs.FrameLemmas.{Grows, HadNone, IsPlaced, Leads, asked_more, become_more, grows_none, had_none, id_by, ids_apart, leads_grows, leads_one, longer_grows, no_session, placed, rolled_grows, rolled_none, written}
 use Rattle.bully_run.proofs.LinkLemmas.{Linked, answered_linked, due_again, end_linked, learned_linked, links_stay, links_written, lost_linked, not_there_linked, passed_linked, snapshot_lost_linked, stopped_linked, stopped_on_linked}
 use Rattle.bully_run.specs.Calls.{Answered, Broken, Call, Followed, GoesNext, Learn, Leave, Lost, Next, NotThere, Passed, SnapshotLost, SnapshotRead, Stopped, StoppedOn, Takes, Woke, session_now}
 use Rattle.bully_run.specs.Run.{AllEager, Deed, Done, Ends, Expires, Goes, Happening, Happens, HasRun, IsDone, IsEager, IsEagerCall, MayDo, MayTell, Process, Run, RunsBy, Sent, SentAcquire, SentAppend, SentPromise, SentRelease, SentRollOver, Starts, Told, WorksNow, begins_all, first_run, id_of, moves, piece_of, sent_by, session_by, store_by, store_told, takes_in, with_member}
 use Rattle.bully_work.proofs.StoreLemmas.{none_in, now_lem as apart_now}
-use Rattle.bully_work.specs.Store.{AcceptsAppend, AcceptsRollOver, Acquire, Act, AllAsked, Append, AsksAll, Become, Does, End, HasPromised, HasWork, IsOneToOne, KeepsNothing, IsReached, Lease as Held, MayAppend, MayRollOver, MayStop, Piece, Promised, RollOver, Session, Stop, Store, Yield, begins, current, first_store, learns, longer, nothing_in, promises, rolled, stops, with_lease, with_session}
+use Rattle.bully_work.specs.Store.{AcceptsAppend, AcceptsRollOver, Acquire, Act, AllAsked, Append, AsksAll, Become, Does, End, HasPromised, HasWork, IsOneToOne, KeepsNothing, IsReached, Lease as Held, MayAppend, MayRollOver, MayStop, Piece, Promised, RollOver, Session, Stop, Store, Yield, begins, current, learns, longer, nothing_in, promises, stops, with_lease, with_session}
 
 -- The process and the terms of a member stay the same.
 
@@ -278,7 +278,9 @@ stays_process : (s s' : Store) (r : ℕ) (q : Process) → Grows s s' → ((i k 
 stays_process s s' r q grows same is = record {
   same = is.same;
   linked = links_stay s s' q.name q.member.process (replica_of q.member) q.member.terms.epoch q.member.terms.node q.member.promised q.member.tries q.member.session q.member.asked q.member.needs_snapshot q.member.works grows
-      (λ k more high. subst (λ p. s'.sessions q.name (id_by p k) ≡ s.sessions q.name (id_by p k)) (sym is.same) (same q.name k high)) is.linked;
+      (λ k more high. subst (λ p. s'.sessions q.name (id_by p k) ≡ s.sessions q.name (id_by p k)) (sym is.same) (same q.name k high))
+      (λ k less y has. let top = is.linked.holds.tops in
+      subst (λ (x : Session). Contains x.work y) (subst (λ p. s'.sessions q.name (id_by p k) ≡ s.sessions q.name (id_by p k)) (sym is.same) (same q.name k (omega (arith, less, top)))) has) is.linked;
 }
 
 moved : (R : Run) (p i : ℕ) (s' : Store) (after : MemberState) (more : List Sent) → IsLinked R → IsRan R.store s' i p after → ((x : Sent) → Contains more x → IsRight s' x) → IsLinked (with_member R p i after s' more)
@@ -348,6 +350,14 @@ ended_ran s i number m left linked low may = record {
     leads : Leads s (stops s i (id_by m.process number) left) (id_by m.process number) (Stop i (id_by m.process number) left ∷ [])
     leads = leads_one s s i (id_by m.process number) (record (s.sessions i (id_by m.process number)) { work = left }) (Stop i (id_by m.process number) left) tt refl refl refl (may, refl) (λ q has. has)
 
+    had : (k : ℕ) (y : Piece) (b : Bool) → (k == number) ≡ b → HasWork (stops s i (id_by m.process number) left) i (id_by m.process k) y → HasWork s i (id_by m.process k) y
+    had k y true is has =
+        let same : number ≡ k = grind (arith, nat_tests, is) in
+        subst (λ x. HasWork s i (id_by m.process x) y) same (may y (subst (λ (x : Session). Contains x.work y)
+        (written s i (id_by m.process number) (record (s.sessions i (id_by m.process number)) { work = left }))
+        (subst (λ x. HasWork (stops s i (id_by m.process number) left) i (id_by m.process x) y) (sym same) has)))
+    had k y false is has = subst (λ (x : Session). Contains x.work y) (leads.others i (id_by m.process k) (λ same. differs k number is (omega (arith, same)))) has
+
     by_test : (b : Bool) → (number == m.tries) ≡ b → Linked (stops s i (id_by m.process number) left) i m
     by_test true is =
         let same : number ≡ m.tries = grind (arith, nat_tests, is) in
@@ -363,10 +373,11 @@ ended_ran s i number m left linked low may = record {
           reached = linked.knows.reached;
           known = λ y has. linked.knows.known y (subst (λ k. HasWork s i (id_by m.process k) y) same (may y has));
         })
-        linked.holds linked.fresh
+        linked.holds linked.told linked.older linked.fresh
     by_test false is = links_stay s (stops s i (id_by m.process number) left) i m.process (replica_of m) m.terms.epoch m.terms.node m.promised m.tries m.session m.asked m.needs_snapshot m.works
         (leads_grows s (stops s i (id_by m.process number) left) (id_by m.process number) (Stop i (id_by m.process number) left ∷ []) leads)
-        (λ k more high. leads.others i (id_by m.process k) (λ same. differs number m.tries is (omega (arith, same, more, low)))) linked
+        (λ k more high. leads.others i (id_by m.process k) (λ same. differs number m.tries is (omega (arith, same, more, low))))
+        (λ k less y has. had k y (k == number) refl has) linked
 
 -- by the number of the process
 by_process : (s s' : Store) (p : ℕ) (q : Process) (after : MemberState) → IsProcess s p q → IsRan s s' q.name q.member.process after → IsRan s s' q.name p after
@@ -638,8 +649,17 @@ knows_lem happenings R p q run there seen = record {
     linked : Linked R.store q.name q.member
     linked = ((has_run happenings R run).linked.members p q there).linked
 
-pub works_lem : (happenings : List Happening) (R : Run) (p : ℕ) (q : Process) (x : Piece) → HasRun happenings R → R.processes p ≡ Some q → HasWork R.store q.name (id_of (session_now q.member)) x → Contains (busy q.member.works) x.partition
-works_lem happenings R p q x run there has = busy_contains q.member.works x.partition (((has_run happenings R run).linked.members p q there).linked.knows.known x has)
+pub works_lem : (happenings : List Happening) (R : Run) (p number : ℕ) (q : Process) (x : Piece) → HasRun happenings R → R.processes p ≡ Some q → number ≤ q.member.tries → HasWork R.store q.name (id_of (session_by p number)) x → Contains (busy q.member.works) x.partition
+works_lem happenings R p number q x run there low has = busy_contains q.member.works x.partition (by_test (number == q.member.tries) refl)
+  where
+    is : IsProcess R.store p q
+    is = (has_run happenings R run).linked.members p q there
+
+    by_test : (b : Bool) → (number == q.member.tries) ≡ b → busy_at q.member.works x.partition ≡ true
+    by_test true here =
+        let same : number ≡ q.member.tries = grind (arith, nat_tests, here) in
+        is.linked.knows.known x (subst (λ k. HasWork R.store q.name (id_by q.member.process k) x) same (subst (λ r. HasWork R.store q.name (id_by r number) x) (sym is.same) has))
+    by_test false apart = absurd (is.linked.older number (grind (arith, nat_tests, apart, low)) x (subst (λ r. HasWork R.store q.name (id_by r number) x) (sym is.same) has))
 
 pub now_lem : (happenings : List Happening) (R : Run) (p q : ℕ) (x y : Piece) → HasRun happenings R → WorksNow R p x → WorksNow R q y → x.partition ≡ y.partition → p ≡ q
 now_lem happenings R p q x y run one other same = (ids_apart p q one.number other.number (small p one.process one.number one.started one.asked) (small q other.process other.number other.started other.asked) apart.1).0

@@ -1,7 +1,7 @@
 -- A member begins, and asks for its lease, only after a snapshot: none is due.
-use Rattle.std.proofs.Common.{◌≡◌, ◌&&◌, ◌||◌, ◌==◌, not, ℕ, Bool, true, false, Option, Some, None, if◌then◌else◌, nat_lt, arith, refl}
+use Rattle.std.proofs.Common.{◌≡◌, ◌&&◌, ◌||◌, ◌==◌, not, ℕ, Bool, true, false, Option, Some, None, if◌then◌else◌, nat_lt, refl}
 use Rattle.bully_member.specs.Activities.{any_stopping, any_working}
-use Rattle.bully_member.specs.Due.{absent_step, acquiring_step, change_step, due, ending_step, going_step, is_due, is_leaving, is_newcomer, is_outdated, leaving_step, live_step, live_stopping_step, looks_ahead, rebalance_left, session_step, stable_step, step_by_work, step_of_session, step_unless_awaiting, step_without_session, stopping_step, token_now, turn_step, unstable_step}
+use Rattle.bully_member.specs.Due.{absent_step, acquiring_step, change_step, due, ending_step, going_step, is_due, is_leaving, is_newcomer, is_outdated, leaving_step, live_step, looks_ahead, rebalance_left, session_step, stable_step, step_by_work, step_of_session, step_unless_awaiting, step_without_session, stopping_step, token_now, turn_step, unstable_step}
 use Rattle.bully_member.specs.Member.{MemberState, above, all_ready, has_promised, has_room, is_alone, is_closing, is_ready_itself, lease_of}
 use Rattle.bully_member.specs.Times.{pause_left, stopping_backoff, sure, turn_left}
 use Rattle.bully_member.specs.declared.values.Asked.{Asked}

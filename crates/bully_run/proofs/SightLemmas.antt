@@ -1,14 +1,13 @@
 -- A member sees something: each test of its sight has an answer.
-use Rattle.std.proofs.Common.{rules, ◌≡◌, ◌↔◌, ◌+◌, ◌==◌, ◌&&◌, ◌||◌, ◌∷◌, [], not, ℕ, zero, suc, Bool, true, false, List, Option, Some, None, slice_get, arith, refl, sym, ap, subst, ◌∙◌}
+use Rattle.std.proofs.Common.{rules, ◌≡◌, ◌↔◌, ◌+◌, ◌==◌, ◌&&◌, ◌||◌, ◌∷◌, [], not, ℕ, zero, suc, Bool, true, false, List, Option, Some, None, slice_get, arith, refl, ap, subst}
 use Rattle.std.proofs.lemmas.Bool.Decides.{nat_tests}
 use Rattle.std.specs.Prelude.{IsTrue}
 use Rattle.bully_member.specs.Activities.{is_working, works_at}
-use Rattle.bully_member.specs.Due.{HasAll, HasAllOf, MayGoOn, Sees, last_table, table_ahead}
+use Rattle.bully_member.specs.Due.{HasAllOf, MayGoOn, Sees, last_table, table_ahead}
 use Rattle.bully_member.specs.Member.{AllAreDown, MemberState, SeesStable}
 use Rattle.bully_member.specs.declared.values.Activity.{Activity}
 use Rattle.bully_member.specs.declared.values.Sight.{Sight}
 use Rattle.bully_rebalance.specs.Leaving.{is_left}
-use Rattle.bully_work.specs.Working.{GivesTo}
 
 both : (a b : Bool) → a && b ≡ true → (a ≡ true) × (b ≡ true)
 both true true is = (refl, refl)

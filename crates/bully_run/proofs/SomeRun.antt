@@ -1,17 +1,15 @@
 -- There are runs: in this one a process starts, reads a snapshot, asks for its lease, which the store gives it, and is
 -- told that.
-use Rattle.std.proofs.Common.{◌≡◌, ◌↔◌, ◌≤◌, ◌<◌, ◌++◌, ◌∷◌, [], ℕ, zero, suc, Bool, true, false, List, Option, Some, None, Contains, arith, refl, sym, ap, subst, ◌∙◌}
-use Rattle.std.specs.Prelude.{IsTrue}
+use Rattle.std.proofs.Common.{◌≡◌, ◌∷◌, [], ℕ, zero, suc, true, false, List, Some, None, Contains, arith, refl, sym, ap, subst}
 use Rattle.bully_base.specs.Setup.{Setup}
 use Rattle.bully_base.specs.declared.node.Status.TheVariants.{Down}
 use Rattle.bully_member.specs.Activities.{works_at}
 use Rattle.bully_member.specs.Due.{Sees, noted}
-use Rattle.bully_member.specs.Member.{AllAreDown, MemberState, SeesStable, new_member, replica_of}
+use Rattle.bully_member.specs.Member.{MemberState, SeesStable, new_member, replica_of}
 use Rattle.bully_member.specs.Told.{answered, snapshot_read}
 use Rattle.bully_member.specs.declared.opening.Terms.{Terms}
 use Rattle.bully_member.specs.declared.values.Activity.{Activity}
 use Rattle.bully_member.specs.declared.values.Request.{Request}
-use Rattle.bully_member.specs.declared.values.SessionState.{SessionState}
 use Rattle.bully_member.specs.declared.values.Sight.{Sight}
 use Rattle.bully_member.specs.declared.values.Step.{Step}
 use Rattle.bully_member.specs.declared.values.StoreAnswer.{StoreAnswer}
@@ -20,13 +18,13 @@ use Rattle.bully_replica.specs.Replica.{ReplicaState, first_replica, token_of}
 use Rattle.bully_rows.specs.declared.header.Header.{Header}
 use Rattle.bully_rows.specs.declared.header.Version.{Version}
 use Rattle.bully_member.specs.Keeping.{HasSession}
-use Rattle.bully_run.specs.Calls.{Answered, GoesNext, SnapshotRead, session_now}
+use Rattle.bully_run.specs.Calls.{Answered, SnapshotRead, session_now}
 use Rattle.bully_run.specs.Run.{Deed, Done, Goes, Happening, Happens, HasRun, Process, Run, RunsBy, SentAcquire, Starts, Told, first_run, id_of, session_by, store_by, store_told, with_member}
 use Rattle.bully_work.specs.Store.{IsLive, Store, learns, nothing_in, with_lease}
 use Rattle.bully_world.proofs.NodeInvariantLemmas.{first_node_state}
 use Rattle.bully_world.proofs.WorldLemmas.{first_is}
 use Rattle.bully_world.specs.State.{world_of}
-use Rattle.bully_world.specs.World.{World, NodeState, first_world, node_state, vector}
+use Rattle.bully_world.specs.World.{World, NodeState, vector}
 
 -- a group of one node, with one partition
 abbrev setup : Setup

@@ -1,6 +1,6 @@
 -- A member that runs: calls on its value, one after the other, and what it promises by them.
-use Rattle.std.specs.Prelude.{◌≡◌, ◌↔◌, ◌<◌, ◌≤◌, ◌-◌, ◌+◌, ◌^◌, ◌++◌, ◌⊎◌, ℕ, Bool, true, false, List, [], ◌∷◌}
-use Rattle.std.specs.Prelude.{Contains, IsTrue, Option, None, Some, Result}
+use Rattle.std.specs.Prelude.{◌≡◌, ◌<◌, ◌-◌, ◌^◌, ◌++◌, ◌⊎◌, ℕ, Bool, true, List, [], ◌∷◌}
+use Rattle.std.specs.Prelude.{Option, None, Some, Result}
 use Rattle.bully_member.specs.Asking.{promise_of}
 use Rattle.bully_member.specs.Due.{Sees, due, noted}
 use Rattle.bully_member.specs.Keeping.{Awaits, Keeps, WorksOnlyIfSure}

@@ -1,14 +1,14 @@
 -- A run: processes whose members' values change by calls, and the store that they share. What a driver does between them
--- has premises, each with a name: IsEpochOf, IsPrefixOf, IsWhole, NumbersLast, WritesAsKnown, ClosesAsKnown,
+-- has premises, each with a name: IsEpochOf, AreRowsOf, IsWhole, NumbersLast, WritesAsKnown, ClosesAsKnown,
 -- BeginsWhileSure, MayStart, HasEnded, HasEndedOn.
-use Rattle.std.specs.Prelude.{◌≡◌, ◌==◌, ◌<◌, ◌≤◌, ◌*◌, ◌+◌, ◌^◌, ◌++◌, ◌&&◌, ◌||◌, not, ℕ, Bool, true, false, List, [], ◌∷◌}
-use Rattle.std.specs.Prelude.{Contains, Option, None, Some, cond, if◌then◌else◌, length, nat_le, take}
+use Rattle.std.specs.Prelude.{◌≡◌, ◌==◌, ◌≤◌, ◌*◌, ◌+◌, ◌^◌, ◌++◌, ◌&&◌, ◌||◌, not, ℕ, Bool, true, false, List, [], ◌∷◌}
+use Rattle.std.specs.Prelude.{Contains, Option, None, Some, cond, drop, if◌then◌else◌, length, map, nat_le, take}
 use Rattle.std.specs.List.{AllByRecursion}
 use Rattle.bully_agree.specs.Fencing.{Planned}
 use Rattle.bully_base.specs.Setup.{Setup}
 use Rattle.bully_calls.specs.declared.event.Event.{Event}
-use Rattle.bully_member.specs.Activities.{all_idle, busy, works_at}
-use Rattle.bully_member.specs.Asking.{ActsBy, MayBeSilent, Names, promise_of}
+use Rattle.bully_member.specs.Activities.{all_idle, works_at}
+use Rattle.bully_member.specs.Asking.{MayBeSilent, Names, promise_of}
 use Rattle.bully_member.specs.Learned.{is_following}
 use Rattle.bully_member.specs.Member.{MemberState, new_member, offset_of, replica_of}
 use Rattle.bully_member.specs.Rebalance.{rebalanced_nodes}
@@ -19,11 +19,15 @@ use Rattle.bully_member.specs.declared.values.Request.{Request}
 use Rattle.bully_member.specs.declared.values.SessionId.{SessionId}
 use Rattle.bully_member.specs.declared.values.Step.{Step}
 use Rattle.bully_rebalance.specs.Rebalancing.{Rebalances, table_before}
-use Rattle.bully_replica.specs.Replica.{IsLogOf, ReplicaState}
+use Rattle.bully_replica.specs.Replica.{IsLogOf}
+use Rattle.bully_replica.specs.RowReplica.{row_in}
+use Rattle.bully_rows.specs.Headers.{Record}
 use Rattle.bully_rows.specs.declared.header.Header.{Header}
+use Rattle.bully_rows.specs.declared.trace.Row.{Row}
 use Rattle.bully_run.specs.Calls.{Call, Followed, GoesNext, Learn, Next, NumbersLast, SnapshotRead, Stopped, StoppedOn}
 use Rattle.bully_run.specs.Calls.{Takes, session_now}
-use Rattle.bully_work.specs.Store.{AcceptsAcquire, AcceptsAppend, AcceptsRollOver, AcceptsYield, Epoch, HasWork, IsAtWork}
+use Rattle.bully_trace.specs.Verdict.{events_of}
+use Rattle.bully_work.specs.Store.{AcceptsAcquire, AcceptsAppend, AcceptsRollOver, AcceptsYield, HasWork, IsAtWork}
 use Rattle.bully_work.specs.Store.{IsLive, IsOneToOne, Lease as Held, MayStop, Piece, Promised, Store, begins, first_store}
 use Rattle.bully_work.specs.Store.{learns, longer, nothing_in, promises, rolled, stops, with_lease}
 use Rattle.bully_work.specs.Working.{GivesTo}
@@ -83,10 +87,12 @@ pub record IsEpochOf (s : Store) (i : ℕ) (header : Header) (terms : Terms) : T
   pub setup : header.setup ≡ (s.epochs terms.epoch).setup
   pub number : terms.node ≡ (s.epochs terms.epoch).number i
 
--- the rows that it is told are the store's: what it has learned then is a prefix of its epoch's log
-pub record IsPrefixOf (s : Store) (m : MemberState) : Type 0 where
-  pub log : IsLogOf (replica_of m) (take (offset_of m) (s.epochs m.terms.epoch).log)
-  pub low : offset_of m ≤ length (s.epochs m.terms.epoch).log
+-- the rows that it is told are the store's: as far as these records are read as rows, their events are the next ones of
+-- its epoch's log
+abbrev pub AreRowsOf : Store → MemberState → List Record → Type 0
+AreRowsOf s m records = (read left : List Record) (rows : List Row) → records ≡ read ++ left
+    → map (row_in (replica_of m)) read ≡ map Some rows
+    → events_of rows ≡ take (length (events_of rows)) (drop (offset_of m) (s.epochs m.terms.epoch).log)
 
 -- a snapshot is of one moment: before it is reported, the member has learned all rows that the log had then
 abbrev pub IsWhole : Store → MemberState → Type 0
@@ -161,8 +167,8 @@ sent_by i m other d = []
 
 -- the driver may report this
 abbrev pub MayTell : Store → ℕ → MemberState → Call → (after : MemberState) → Type 0
-MayTell s i m (Next now step) after = ⊥
-MayTell s i m (Learn records taken) after = IsPrefixOf s after
+MayTell s i m (Next now other) after = ⊥
+MayTell s i m (Learn records taken) after = AreRowsOf s m records
 MayTell s i m (SnapshotRead now epoch leases has_unknown has_request) after =
     awaits_snapshot m.asked ≡ true → epoch ≡ m.terms.epoch → IsWhole s m
 MayTell s i m (Followed now header terms) after = IsEpochOf s i header terms

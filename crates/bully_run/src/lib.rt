@@ -14,7 +14,7 @@ ghost use Rattle.bully_member.specs.declared.values.Step.{Step as StepState};
 ghost use Rattle.bully_rebalance.specs.Acting.{IsReachedBy};
 ghost use Rattle.bully_run.specs.Calls.{Call, GoesNext, HasLived, IsBehind, IsSameTime, Made, NumbersLast, Takes};
 ghost use Rattle.bully_run.specs.Calls.{session_now};
-ghost use Rattle.bully_run.specs.Run.{AllEager, Happening, HasRun, Process, Run, WorksNow, id_of};
+ghost use Rattle.bully_run.specs.Run.{AllEager, Happening, HasRun, Process, Run, WorksNow, id_of, session_by};
 ghost use Rattle.bully_work.specs.Store.{Act, AllAsked, HasWork, IsLive, IsReached, KeepsNothing, Piece};
 
 use bully_base::NodeSet;
@@ -65,7 +65,7 @@ pub fn forgets_no_promise()
 ///
 /// - `reached`: each run is a list of acts of bully_work. So all laws there hold of its store.
 /// - `knows`: a member that needs no snapshot knows its session (`ActsBy`).
-/// - `works`: what a process works on by its present session, its member has among what it works on.
+/// - `works`: all that a process works on, by whichever of its sessions, its member has among what it works on.
 /// - `now`: no two processes that have their leases work on one partition.
 /// - `eager`: if all groups are eager, no act passes over anybody, and no promise keeps anything. So `asked_apart` and
 ///   `eager_apart` of bully_work hold, too.
@@ -76,9 +76,9 @@ pub fn members_apart()
     ensures knows { (happenings : List Happening) (R : Run) (p : ℕ) (q : Process) → HasRun happenings R
         → R.processes p ≡ Some q → q.member.needs_snapshot ≡ false
         → ActsBy q.member R.store q.name (id_of (session_now q.member)) }
-    ensures works { (happenings : List Happening) (R : Run) (p : ℕ) (q : Process) (x : Piece) → HasRun happenings R
-        → R.processes p ≡ Some q → HasWork R.store q.name (id_of (session_now q.member)) x
-        → Contains (busy q.member.works) x.partition }
+    ensures works { (happenings : List Happening) (R : Run) (p number : ℕ) (q : Process) (x : Piece)
+        → HasRun happenings R → R.processes p ≡ Some q → number ≤ q.member.tries
+        → HasWork R.store q.name (id_of (session_by p number)) x → Contains (busy q.member.works) x.partition }
     ensures now { (happenings : List Happening) (R : Run) (p q : ℕ) (x y : Piece) → HasRun happenings R
         → WorksNow R p x → WorksNow R q y → x.partition ≡ y.partition → p ≡ q }
     ensures eager { (happenings : List Happening) (R : Run) → HasRun happenings R → AllEager happenings

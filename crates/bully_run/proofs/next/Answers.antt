@@ -1,12 +1,10 @@
-use Rattle.std.proofs.Common.{◌≡◌, ◌↔◌, ℕ, Bool, [], List, sym, subst, ap, ◌∙◌, refl}
+use Rattle.std.proofs.Common.{◌≡◌, ◌↔◌, ℕ, Bool, [], List, sym, subst}
 use Rattle.std.specs.Prelude.{IsTrue}
-use Rattle.bully_member.specs.Due.{due, noted}
-use Rattle.bully_member.specs.Keeping.{Awaits, Keeps, WorksOnlyIfSure}
-use Rattle.bully_member.specs.Member.{AllAreDown, MemberState, SeesStable, replica_of}
+use Rattle.bully_member.specs.Due.{noted}
+use Rattle.bully_member.specs.Member.{AllAreDown, MemberState, replica_of}
 use Rattle.bully_rebalance.specs.Stable.{IsStable}
 use Rattle.bully_replica.specs.Replica.{ReplicaState}
 use Rattle.bully_run.proofs.SightLemmas.{sees, sight_of, sight_stable}
-use Rattle.bully_run.specs.Calls.{GoesNext}
 use Rattle.bully_run.proofs.next.Goals as goal
 
 -- what was tested of a replica and a set of nodes
