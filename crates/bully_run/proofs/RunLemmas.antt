@@ -2,7 +2,7 @@
 use Rattle.std.proofs.Common.{◌&&◌, ◌||◌, not, nat_le, ◌≡◌, ◌≤◌, ◌<◌, ◌^◌, ◌==◌, ◌++◌, ◌∷◌, [], ℕ, Bool, true, false, List, Option, Some, None, if◌then◌else◌, Contains, cond, take, arith, refl, sym, ap, subst, ◌∙◌, ◌⊎◌, inl, inr}
 use Rattle.std.proofs.lemmas.Bool.Decides.{nat_tests}
 use Rattle.std.proofs.lemmas.List.Elements.{Contains-append_cases, Contains-push_cases}
-use Rattle.bully_agree.specs.Fencing.{Planned}
+use Rattle.bully_agree.specs.Fencing.{GoesBy, Planned}
 use Rattle.bully_base.specs.Setup.{Setup}
 use Rattle.bully_calls.specs.declared.event.Event.{Event}
 use Rattle.bully_member.proofs.AskLemmas.{append_lem, asks_lem, eager_lem, rolls_lem}
@@ -34,8 +34,8 @@ use Rattle.bully_run.proofs.FrameLemmas.{Grows, HadNone, IsPlaced, Leads, asked_
 use Rattle.bully_run.proofs.LinkLemmas.{Linked, answered_linked, due_again, end_linked, learned_linked, links_stay, links_written, lost_linked, not_there_linked, passed_linked, snapshot_lost_linked, stopped_linked, stopped_on_linked}
 use Rattle.bully_run.specs.Calls.{Answered, Broken, Call, Followed, GoesNext, Learn, Leave, Lost, Next, NotThere, Passed, SnapshotLost, SnapshotRead, Stopped, StoppedOn, Takes, Woke, session_now}
 use Rattle.bully_run.specs.Run.{AllEager, Deed, Done, Ends, Expires, Goes, Happening, Happens, HasRun, IsDone, IsEager, IsEagerCall, MayDo, MayTell, Process, Run, RunsBy, Sent, SentAcquire, SentAppend, SentPromise, SentRelease, SentRollOver, Starts, Told, WorksNow, begins_all, first_run, id_of, moves, piece_of, sent_by, session_by, store_by, store_told, takes_in, with_member}
-use Rattle.bully_work.proofs.StoreLemmas.{none_in, now_lem as apart_now}
-use Rattle.bully_work.specs.Store.{AcceptsAppend, AcceptsRollOver, Acquire, Act, AllAsked, Append, AsksAll, Become, Does, End, HasPromised, HasWork, IsOneToOne, KeepsNothing, IsReached, Lease as Held, MayAppend, MayRollOver, MayStop, Piece, Promised, RollOver, Session, Stop, Store, Yield, begins, current, learns, longer, nothing_in, promises, stops, with_lease, with_session}
+use Rattle.bully_work.proofs.StoreLemmas.{none_in, now_lem as apart_now, owner_lem}
+use Rattle.bully_work.specs.Store.{AcceptsAppend, AcceptsRollOver, Acquire, Act, AllAsked, Append, AsksAll, Become, Does, End, HasPromised, HasWork, IsOneToOne, KeepsNothing, IsReached, Lease as Held, MayAppend, MayRollOver, MayStop, OwnsNow, Piece, Promised, RollOver, Session, Stop, Store, Yield, begins, current, learns, longer, nothing_in, promises, stops, with_lease, with_session}
 
 -- The process and the terms of a member stay the same.
 
@@ -660,6 +660,15 @@ works_lem happenings R p number q x run there low has = busy_contains q.member.w
         let same : number ≡ q.member.tries = grind (arith, nat_tests, here) in
         is.linked.knows.known x (subst (λ k. HasWork R.store q.name (id_by q.member.process k) x) same (subst (λ r. HasWork R.store q.name (id_by r number) x) (sym is.same) has))
     by_test false apart = absurd (is.linked.older number (grind (arith, nat_tests, apart, low)) x (subst (λ r. HasWork R.store q.name (id_by r number) x) (sym is.same) has))
+
+pub owner_of_lem : (happenings : List Happening) (R : Run) (p : ℕ) (x : Piece) → HasRun happenings R → (w : WorksNow R p x) → (x.epoch ≡ R.store.epoch) × OwnsNow R.store w.process.name x.partition
+owner_of_lem happenings R p x run w = (owned.0, owned.1)
+  where
+    reached : (acts : List Act) × IsReached acts R.store
+    reached = reached_lem happenings R run
+
+    owned : (x.epoch ≡ R.store.epoch) × (is : OwnsNow R.store w.process.name x.partition) × GoesBy is.owner.world ((current R.store).number w.process.name) is.plan
+    owned = owner_lem reached.0 R.store w.process.name (id_by p w.number) x reached.1 w.works
 
 pub now_lem : (happenings : List Happening) (R : Run) (p q : ℕ) (x y : Piece) → HasRun happenings R → WorksNow R p x → WorksNow R q y → x.partition ≡ y.partition → p ≡ q
 now_lem happenings R p q x y run one other same = (ids_apart p q one.number other.number (small p one.process one.number one.started one.asked) (small q other.process other.number other.started other.asked) apart.1).0

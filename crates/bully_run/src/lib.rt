@@ -15,7 +15,7 @@ ghost use Rattle.bully_rebalance.specs.Acting.{IsReachedBy};
 ghost use Rattle.bully_run.specs.Calls.{Call, GoesNext, HasLived, IsBehind, IsSameTime, Made, NumbersLast, Takes};
 ghost use Rattle.bully_run.specs.Calls.{session_now};
 ghost use Rattle.bully_run.specs.Run.{AllEager, Happening, HasRun, Process, Run, WorksNow, id_of, session_by};
-ghost use Rattle.bully_work.specs.Store.{Act, AllAsked, HasWork, IsLive, IsReached, KeepsNothing, Piece};
+ghost use Rattle.bully_work.specs.Store.{Act, AllAsked, HasWork, IsLive, IsReached, KeepsNothing, OwnsNow, Piece};
 
 use bully_base::NodeSet;
 use bully_member::{Member, Step};
@@ -66,6 +66,7 @@ pub fn forgets_no_promise()
 /// - `reached`: each run is a list of acts of bully_work. So all laws there hold of its store.
 /// - `knows`: a member that needs no snapshot knows its session (`ActsBy`).
 /// - `works`: all that a process works on, by whichever of its sessions, its member has among what it works on.
+/// - `owner`: a process that works, and has its lease, owns that by the whole log of the current epoch.
 /// - `now`: no two processes that have their leases work on one partition.
 /// - `eager`: if all groups are eager, no act passes over anybody, and no promise keeps anything. So `asked_apart` and
 ///   `eager_apart` of bully_work hold, too.
@@ -79,6 +80,8 @@ pub fn members_apart()
     ensures works { (happenings : List Happening) (R : Run) (p number : ℕ) (q : Process) (x : Piece)
         → HasRun happenings R → R.processes p ≡ Some q → number ≤ q.member.tries
         → HasWork R.store q.name (id_of (session_by p number)) x → Contains (busy q.member.works) x.partition }
+    ensures owner { (happenings : List Happening) (R : Run) (p : ℕ) (x : Piece) → HasRun happenings R
+        → (w : WorksNow R p x) → (x.epoch ≡ R.store.epoch) × OwnsNow R.store w.process.name x.partition }
     ensures now { (happenings : List Happening) (R : Run) (p q : ℕ) (x y : Piece) → HasRun happenings R
         → WorksNow R p x → WorksNow R q y → x.partition ≡ y.partition → p ≡ q }
     ensures eager { (happenings : List Happening) (R : Run) → HasRun happenings R → AllEager happenings

@@ -1,4 +1,4 @@
-use Rattle.bully_run.proofs.RunLemmas.{eager_run_lem, knows_lem, now_lem, reached_lem, works_lem}
+use Rattle.bully_run.proofs.RunLemmas.{eager_run_lem, knows_lem, now_lem, owner_of_lem, reached_lem, works_lem}
 use Rattle.bully_run.proofs.SomeRun.{some_lem}
 use Rattle.bully_run.proofs.members_apart.Goals as goal
 
@@ -10,6 +10,9 @@ returns-clause-knows c = knows_lem
 
 pub returns-clause-works : goal.returns-clause-works
 returns-clause-works c = works_lem
+
+pub returns-clause-owner : goal.returns-clause-owner
+returns-clause-owner c = owner_of_lem
 
 pub returns-clause-now : goal.returns-clause-now
 returns-clause-now c = now_lem
