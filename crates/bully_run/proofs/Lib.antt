@@ -5,5 +5,6 @@ pub mod FrameLemmas
 pub mod LinkLemmas
 pub mod ActLemmas
 pub mod RunLemmas
+pub mod BeginLemmas
 pub mod SightLemmas
 pub mod SomeRun

@@ -633,6 +633,9 @@ first_linked setup number = record {
 has_run : (happenings : List Happening) (R : Run) (run : HasRun happenings R) → IsRunOf happenings (first_run run.setup run.number) R
 has_run happenings R run = runs_on happenings (first_run run.setup run.number) R (first_linked run.setup run.number) run.runs
 
+pub process_is : (happenings : List Happening) (R : Run) (p : ℕ) (q : Process) → HasRun happenings R → R.processes p ≡ Some q → q.member.process ≡ p
+process_is happenings R p q run there = ((has_run happenings R run).linked.members p q there).same
+
 pub reached_lem : (happenings : List Happening) (R : Run) → HasRun happenings R → (acts : List Act) × IsReached acts R.store
 reached_lem happenings R run = let is = has_run happenings R run in (is.acts, record { setup = run.setup; number = run.number; one = run.one; become = is.become })
 

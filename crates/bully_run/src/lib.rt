@@ -3,18 +3,21 @@
 //! It builds on bully_member. Its laws tie the values that a member's calls give to the model of bully_work.
 #![tactic(auto)]
 
-ghost use Rattle.std.specs.Prelude.{◌≡◌, ◌≤◌, ℕ, Contains, List, Some, false};
+ghost use Rattle.std.specs.Prelude.{◌≡◌, ◌≤◌, ◌<◌, ℕ, Contains, List, Some, false, length};
 ghost use Rattle.bully_member.specs.Activities.{busy};
 ghost use Rattle.bully_member.specs.Asking.{ActsBy};
 ghost use Rattle.bully_member.specs.Keeping.{HasSession};
-ghost use Rattle.bully_member.specs.Member.{MemberState};
+ghost use Rattle.bully_member.specs.Member.{MemberState, replica_of};
 ghost use Rattle.bully_member.specs.declared.values.Request.{Request as RequestState};
 ghost use Rattle.bully_member.specs.declared.values.SessionId.{SessionId as SessionIdState};
 ghost use Rattle.bully_member.specs.declared.values.Step.{Step as StepState};
 ghost use Rattle.bully_rebalance.specs.Acting.{IsReachedBy};
 ghost use Rattle.bully_run.specs.Calls.{Call, GoesNext, HasLived, IsBehind, IsSameTime, Made, NumbersLast, Takes};
 ghost use Rattle.bully_run.specs.Calls.{session_now};
-ghost use Rattle.bully_run.specs.Run.{AllEager, Happening, HasRun, Process, Run, WorksNow, id_of, session_by};
+ghost use Rattle.bully_run.specs.Run.{AllEager, Deed, Goes, Happening, Happens, HasRun, Process, Run, WorksNow};
+ghost use Rattle.bully_run.specs.Run.{id_of, piece_of, session_by};
+ghost use Rattle.bully_work.specs.Working.{GivesTo};
+ghost use Rattle.bully_agree.specs.Fencing.{Planned};
 ghost use Rattle.bully_work.specs.Store.{Act, AllAsked, HasWork, IsLive, IsReached, KeepsNothing, OwnsNow, Piece};
 
 use bully_base::NodeSet;
@@ -70,6 +73,8 @@ pub fn forgets_no_promise()
 /// - `now`: no two processes that have their leases work on one partition.
 /// - `eager`: if all groups are eager, no act passes over anybody, and no promise keeps anything. So `asked_apart` and
 ///   `eager_apart` of bully_work hold, too.
+/// - `begins`: a member that is to begin, and has its lease, may: the run may go on so that its process works on any
+///   partition that the last plan gives its node.
 /// - `some`: there are runs. In one a process gets its lease, and is told so.
 pub fn members_apart()
     ensures reached { (happenings : List Happening) (R : Run) → HasRun happenings R
@@ -86,6 +91,13 @@ pub fn members_apart()
         → WorksNow R p x → WorksNow R q y → x.partition ≡ y.partition → p ≡ q }
     ensures eager { (happenings : List Happening) (R : Run) → HasRun happenings R → AllEager happenings
         → (acts : List Act) × IsReached acts R.store × AllAsked acts × KeepsNothing R.store }
+    ensures begins { (happenings : List Happening) (R : Run) (p now token k : ℕ) (q : Process) (after : MemberState)
+        (plan : Planned)
+        → HasRun happenings R → R.processes p ≡ Some q → GoesNext q.member now (StepState.Begin token) after
+        → IsLive R.store q.name (id_of (session_now q.member)) → (replica_of q.member).last ≡ Some plan
+        → GivesTo plan.table k q.member.terms.node → k < length q.member.works
+        → (deed : Deed) × (R' : Run) × Happens R (Goes p now (StepState.Begin token) deed) R'
+        × WorksNow R' p (piece_of q.member plan k) }
     ensures some { (happenings : List Happening) × (R : Run) × (q : Process) × HasRun happenings R
         × (R.processes 0 ≡ Some q) × IsLive R.store q.name (id_of (session_now q.member))
         × HasSession q.member (session_now q.member) }

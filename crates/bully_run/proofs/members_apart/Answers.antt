@@ -1,3 +1,4 @@
+use Rattle.bully_run.proofs.BeginLemmas.{begins_lem}
 use Rattle.bully_run.proofs.RunLemmas.{eager_run_lem, knows_lem, now_lem, owner_of_lem, reached_lem, works_lem}
 use Rattle.bully_run.proofs.SomeRun.{some_lem}
 use Rattle.bully_run.proofs.members_apart.Goals as goal
@@ -22,3 +23,6 @@ returns-clause-eager c = eager_run_lem
 
 pub returns-clause-some : goal.returns-clause-some
 returns-clause-some c = some_lem
+
+pub returns-clause-begins : goal.returns-clause-begins
+returns-clause-begins c = begins_lem
