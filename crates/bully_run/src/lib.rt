@@ -12,17 +12,22 @@ ghost use Rattle.bully_member.specs.declared.values.Request.{Request as RequestS
 ghost use Rattle.bully_member.specs.declared.values.SessionId.{SessionId as SessionIdState};
 ghost use Rattle.bully_member.specs.declared.values.Step.{Step as StepState};
 ghost use Rattle.bully_rebalance.specs.Acting.{IsReachedBy};
-ghost use Rattle.bully_run.specs.Calls.{Call, GoesNext, HasLived, IsBehind, IsSameTime, Made, NumbersLast, Takes};
+ghost use Rattle.bully_run.specs.Calls.{Call, GoesNext, GoesOnLearning, HasLived, IsBehind, IsSameTime, Made, NumbersLast, Takes};
 ghost use Rattle.bully_run.specs.Calls.{session_now};
 ghost use Rattle.bully_run.specs.Run.{AllEager, Deed, Goes, Happening, Happens, HasRun, Process, Run, WorksNow};
 ghost use Rattle.bully_run.specs.Run.{id_of, piece_of, session_by};
 ghost use Rattle.bully_work.specs.Working.{GivesTo};
 ghost use Rattle.bully_agree.specs.Fencing.{Planned};
+ghost use Rattle.bully_rows.specs.Headers.{Record};
 ghost use Rattle.bully_work.specs.Store.{Act, AllAsked, HasWork, IsLive, IsReached, KeepsNothing, OwnsNow, Piece};
 
 use bully_base::NodeSet;
 use bully_member::{Member, Step};
 use bully_rebalance::is_stable;
+use bully_replica::LearnFault;
+use bully_rows::RowReader;
+use std::alloc::Global;
+use std::io::Read;
 
 /// The law of a member's promises. Whatever calls are made on a member's value, in whatever order and with whatever
 /// arguments:
@@ -112,4 +117,16 @@ pub fn next(member: &mut Member, now: u64) -> Step
     let are_down_now = is_stable(member.replica(), &NodeSet::new(), 0);
     let _tests = (is_stable_now, are_down_now);
     member.next(now)
+}
+
+/// What a member learns, as [`Member::learn`] does: a call of a run.
+pub fn learn<R: Read + Drop>(
+    member: &mut Member,
+    alloc: Global,
+    reader: &mut RowReader<R>,
+) -> Result<(), LearnFault>
+    ensures { (records : List Record) → reader.old.records ≡ Some records
+        → GoesOnLearning member.old records result member.new }
+{
+    member.learn(alloc, reader)
 }
