@@ -1,5 +1,5 @@
--- A run: processes whose members' values change by calls, and the store that they share. What a driver does between them
--- has premises, each with a name: IsEpochOf, AreRowsOf, IsWhole, NumbersLast, WritesAsKnown, ClosesAsKnown,
+-- A run: processes whose members' values change by calls, and the store that they share. What a driver does between
+-- them has premises, each with a name: IsEpochOf, AreRowsOf, IsWhole, NumbersLast, WritesAsKnown, ClosesAsKnown,
 -- BeginsWhileSure, MayStart, HasEnded, HasEndedOn.
 use Rattle.std.specs.Prelude.{◌≡◌, ◌==◌, ◌≤◌, ◌*◌, ◌+◌, ◌^◌, ◌++◌, ◌&&◌, ◌||◌, not, ℕ, Bool, true, false, List, [], ◌∷◌}
 use Rattle.std.specs.Prelude.{Contains, Option, None, Some, cond, drop, if◌then◌else◌, length, map, nat_le, take}
@@ -28,8 +28,8 @@ use Rattle.bully_run.specs.Calls.{Call, Followed, GoesNext, Learn, Next, Numbers
 use Rattle.bully_run.specs.Calls.{Takes, session_now}
 use Rattle.bully_trace.specs.Verdict.{events_of}
 use Rattle.bully_work.specs.Store.{AcceptsAcquire, AcceptsAppend, AcceptsRollOver, AcceptsYield, HasWork, IsAtWork}
-use Rattle.bully_work.specs.Store.{IsLive, IsOneToOne, Lease as Held, MayStop, Piece, Promised, Store, begins, first_store}
-use Rattle.bully_work.specs.Store.{learns, longer, nothing_in, promises, rolled, stops, with_lease}
+use Rattle.bully_work.specs.Store.{IsLive, IsOneToOne, Lease as Held, MayStop, Piece, Promised, Store, begins}
+use Rattle.bully_work.specs.Store.{first_store, learns, longer, nothing_in, promises, rolled, stops, with_lease}
 use Rattle.bully_work.specs.Working.{GivesTo}
 
 -- the number of a session in the model of a store. Different sessions have different ones: a process has 2^64
@@ -41,8 +41,8 @@ pub record Process : Type 0 where
   pub name : ℕ
   pub member : MemberState
 
--- What a process has sent to the store. The store may do it at any time, more than once, or never. (A renewal only keeps
--- what there is. A writer is the member as it was when it asked.)
+-- What a process has sent to the store. The store may do it at any time, more than once, or never. (A renewal only
+-- keeps what there is. A writer is the member as it was when it asked.)
 pub data Sent : Type 0 where
   SentAcquire : (name session epoch offset : ℕ) → Sent
   SentRelease : (name session : ℕ) → Sent
@@ -220,14 +220,18 @@ with_member R p i after s more = record {
 abbrev pub session_by : (process number : ℕ) → SessionId
 session_by process number = record { process = process; number = number }
 
--- the run R may go on so, and then is R'. (A process has learned nothing when it starts: the session of number 0, which
--- never has a lease, stands for that.)
+-- a process has learned nothing when it starts: the session of number 0, which never has a lease, stands for that
+abbrev pub store_started : Store → ℕ → (p : ℕ) → Terms → Store
+store_started s i p terms = learns s i (id_of (session_by p 0)) terms.epoch 0
+
+-- the run R may go on so, and then is R'
 abbrev pub Happens : Run → Happening → Run → Type 0
 Happens R (Starts p i header terms ttl) R' = (R.processes p ≡ None) × IsEpochOf R.store i header terms
-    × (R' ≡ with_member R p i (new_member header terms p ttl) (learns R.store i (id_of (session_by p 0)) terms.epoch 0) [])
+    × (R' ≡ with_member R p i (new_member header terms p ttl) (store_started R.store i p terms) [])
 Happens R (Goes p now step deed) R' = (q : Process) × (after : MemberState) × (R.processes p ≡ Some q)
     × GoesNext q.member now step after × MayDo R.store q.name q.member after now step deed
-    × (R' ≡ with_member R p q.name after (store_by R.store q.name q.member step deed) (sent_by q.name q.member step deed))
+    × (R' ≡ with_member R p q.name after (store_by R.store q.name q.member step deed)
+    (sent_by q.name q.member step deed))
 Happens R (Told p call) R' = (q : Process) × (after : MemberState) × (R.processes p ≡ Some q)
     × Takes q.member call after × MayTell R.store q.name q.member call after
     × (R' ≡ with_member R p q.name after (store_told R.store q.name q.member call) [])

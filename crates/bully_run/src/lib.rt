@@ -12,8 +12,8 @@ ghost use Rattle.bully_member.specs.declared.values.Request.{Request as RequestS
 ghost use Rattle.bully_member.specs.declared.values.SessionId.{SessionId as SessionIdState};
 ghost use Rattle.bully_member.specs.declared.values.Step.{Step as StepState};
 ghost use Rattle.bully_rebalance.specs.Acting.{IsReachedBy};
-ghost use Rattle.bully_run.specs.Calls.{Call, GoesNext, GoesOnLearning, HasLived, IsBehind, IsSameTime, Made, NumbersLast, Takes};
-ghost use Rattle.bully_run.specs.Calls.{session_now};
+ghost use Rattle.bully_run.specs.Calls.{Call, GoesNext, GoesOnLearning, HasLived, IsBehind, IsSameTime, Made};
+ghost use Rattle.bully_run.specs.Calls.{NumbersLast, Takes, session_now};
 ghost use Rattle.bully_run.specs.Run.{AllEager, Deed, Goes, Happening, Happens, HasRun, Process, Run, WorksNow};
 ghost use Rattle.bully_run.specs.Run.{id_of, piece_of, session_by};
 ghost use Rattle.bully_work.specs.Working.{GivesTo};
@@ -108,8 +108,8 @@ pub fn members_apart()
         × HasSession q.member (session_now q.member) }
 {}
 
-/// What a member does next, as [`Member::next`] gives it: a call of a run. So such calls are possible wherever there is a
-/// member (`GoesNext` has a witness of what the member sees).
+/// What a member does next, as [`Member::next`] gives it: a call of a run. So such calls are possible wherever there is
+/// a member (`GoesNext` has a witness of what the member sees).
 pub fn next(member: &mut Member, now: u64) -> Step
     ensures { GoesNext member.old now result member.new }
 {
