@@ -1,0 +1,10 @@
+pub mod CallLemmas
+pub mod BusyLemmas
+pub mod SeenLemmas
+pub mod FrameLemmas
+pub mod LinkLemmas
+pub mod ActLemmas
+pub mod RunLemmas
+pub mod BeginLemmas
+pub mod SightLemmas
+pub mod SomeRun
