@@ -7,15 +7,16 @@ use Rattle.bully_agree.specs.Fencing.{Planned}
 use Rattle.bully_member.specs.Activities.{begin_at, changed_from, works_at}
 use Rattle.bully_member.specs.Due.{last_table}
 use Rattle.bully_member.specs.Member.{MemberState, replica_of}
+use Rattle.bully_member.specs.Times.{sure}
 use Rattle.bully_member.specs.declared.values.Activity.{Activity}
 use Rattle.bully_member.specs.declared.values.Step.{Step}
 use Rattle.bully_rebalance.specs.Leaving.{is_left}
 use Rattle.bully_replica.specs.LastPlan.{table_in}
 use Rattle.bully_run.proofs.FrameLemmas.{written}
-use Rattle.bully_run.proofs.RunLemmas.{process_is}
+use Rattle.bully_run.proofs.RunLemmas.{now_lem, process_is}
 use Rattle.bully_run.specs.Calls.{GoesNext, session_now}
-use Rattle.bully_run.specs.Run.{Deed, Goes, Happening, Happens, HasRun, MayStart, Process, Run, WorksNow, id_of, piece_of, session_by, store_by, with_member}
-use Rattle.bully_work.specs.Store.{IsLive, Session, Store, begins}
+use Rattle.bully_run.specs.Run.{BeginsWhileSure, Deed, Goes, Happening, Happens, HasRun, MayStart, Process, Run, WorksNow, id_of, piece_of, session_by, store_by, with_member}
+use Rattle.bully_work.specs.Store.{HasWork, IsLive, Piece, Session, Store, begins}
 use Rattle.bully_work.specs.Working.{GivesTo}
 
 -- what a table leaves a node, that works on after it began
@@ -86,3 +87,23 @@ begins_lem happenings R p now token k q after plan run there goes live last give
         (sym (written (record R.store { begun = record { name = q.name; session = id_of (session_now q.member); piece = piece_of q.member plan k } ∷ R.store.begun }) q.name (id_of (session_now q.member))
         (record (R.store.sessions q.name (id_of (session_now q.member))) { work = (R.store.sessions q.name (id_of (session_now q.member))).work ++ piece_of q.member plan k ∷ [] })))
         (Contains-push (R.store.sessions q.name (id_of (session_now q.member))).work (piece_of q.member plan k))
+
+-- Members whose leases are sure work on different partitions.
+works_if_sure : (happenings : List Happening) (R : Run) (p now : ℕ) (q : Process) (x : Piece) → HasRun happenings R → R.processes p ≡ Some q → BeginsWhileSure R.store q.name q.member now → sure q.member.session q.member.ttl now ≡ true
+    → HasWork R.store q.name (id_of (session_now q.member)) x → WorksNow R p x
+works_if_sure happenings R p now q x run there lasts is has = record {
+  process = q;
+  started = there;
+  number = q.member.tries;
+  asked = omega arith;
+  works = record {
+    live = subst (λ r. IsLive R.store q.name (id_of (session_by r q.member.tries))) (process_is happenings R p q run there) (lasts is);
+    work = subst (λ r. HasWork R.store q.name (id_of (session_by r q.member.tries)) x) (process_is happenings R p q run there) has;
+  };
+}
+
+pub sure_lem : (happenings : List Happening) (R : Run) (p q now later : ℕ) (a b : Process) (x y : Piece) → HasRun happenings R → R.processes p ≡ Some a → R.processes q ≡ Some b → BeginsWhileSure R.store a.name a.member now
+    → BeginsWhileSure R.store b.name b.member later → sure a.member.session a.member.ttl now ≡ true → sure b.member.session b.member.ttl later ≡ true → HasWork R.store a.name (id_of (session_now a.member)) x
+    → HasWork R.store b.name (id_of (session_now b.member)) y → x.partition ≡ y.partition → p ≡ q
+sure_lem happenings R p q now later a b x y run first second one other is too has had same =
+    now_lem happenings R p q x y run (works_if_sure happenings R p now a x run first one is has) (works_if_sure happenings R q later b y run second other too had) same

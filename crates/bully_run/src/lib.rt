@@ -3,18 +3,19 @@
 //! It builds on bully_member. Its laws tie the values that a member's calls give to the model of bully_work.
 #![tactic(auto)]
 
-ghost use Rattle.std.specs.Prelude.{◌≡◌, ◌≤◌, ◌<◌, ℕ, Contains, List, Some, false, length};
+ghost use Rattle.std.specs.Prelude.{◌≡◌, ◌≤◌, ◌<◌, ℕ, Contains, List, Some, false, length, true};
 ghost use Rattle.bully_member.specs.Activities.{busy};
 ghost use Rattle.bully_member.specs.Asking.{ActsBy};
 ghost use Rattle.bully_member.specs.Keeping.{HasSession};
 ghost use Rattle.bully_member.specs.Member.{MemberState, replica_of};
+ghost use Rattle.bully_member.specs.Times.{sure};
 ghost use Rattle.bully_member.specs.declared.values.Request.{Request as RequestState};
 ghost use Rattle.bully_member.specs.declared.values.SessionId.{SessionId as SessionIdState};
 ghost use Rattle.bully_member.specs.declared.values.Step.{Step as StepState};
 ghost use Rattle.bully_rebalance.specs.Acting.{IsReachedBy};
 ghost use Rattle.bully_run.specs.Calls.{Call, GoesNext, GoesOnLearning, HasLived, IsBehind, IsSameTime, Made};
 ghost use Rattle.bully_run.specs.Calls.{NumbersLast, Takes, session_now};
-ghost use Rattle.bully_run.specs.Run.{AllEager, Deed, Goes, Happening, Happens, HasRun, Process, Run, WorksNow};
+ghost use Rattle.bully_run.specs.Run.{AllEager, BeginsWhileSure, Deed, Goes, Happening, Happens, HasRun, Process, Run, WorksNow};
 ghost use Rattle.bully_run.specs.Run.{id_of, piece_of, session_by};
 ghost use Rattle.bully_work.specs.Working.{GivesTo};
 ghost use Rattle.bully_agree.specs.Fencing.{Planned};
@@ -76,6 +77,7 @@ pub fn forgets_no_promise()
 /// - `works`: all that a process works on, by whichever of its sessions, its member has among what it works on.
 /// - `owner`: a process that works, and has its lease, owns that by the whole log of the current epoch.
 /// - `now`: no two processes that have their leases work on one partition.
+/// - `sure`: no two processes whose leases are sure by their clocks work on one partition, if the store keeps these.
 /// - `eager`: if all groups are eager, no act passes over anybody, and no promise keeps anything. So `asked_apart` and
 ///   `eager_apart` of bully_work hold, too.
 /// - `begins`: a member that is to begin, and has its lease, may: the run may go on so that its process works on any
@@ -94,6 +96,13 @@ pub fn members_apart()
         → (w : WorksNow R p x) → (x.epoch ≡ R.store.epoch) × OwnsNow R.store w.process.name x.partition }
     ensures now { (happenings : List Happening) (R : Run) (p q : ℕ) (x y : Piece) → HasRun happenings R
         → WorksNow R p x → WorksNow R q y → x.partition ≡ y.partition → p ≡ q }
+    ensures sure { (happenings : List Happening) (R : Run) (p q now later : ℕ) (a b : Process) (x y : Piece)
+        → HasRun happenings R → R.processes p ≡ Some a → R.processes q ≡ Some b
+        → BeginsWhileSure R.store a.name a.member now → BeginsWhileSure R.store b.name b.member later
+        → sure a.member.session a.member.ttl now ≡ true → sure b.member.session b.member.ttl later ≡ true
+        → HasWork R.store a.name (id_of (session_now a.member)) x
+        → HasWork R.store b.name (id_of (session_now b.member)) y
+        → x.partition ≡ y.partition → p ≡ q }
     ensures eager { (happenings : List Happening) (R : Run) → HasRun happenings R → AllEager happenings
         → (acts : List Act) × IsReached acts R.store × AllAsked acts × KeepsNothing R.store }
     ensures begins { (happenings : List Happening) (R : Run) (p now token k : ℕ) (q : Process) (after : MemberState)

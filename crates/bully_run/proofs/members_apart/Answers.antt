@@ -1,4 +1,4 @@
-use Rattle.bully_run.proofs.BeginLemmas.{begins_lem}
+use Rattle.bully_run.proofs.BeginLemmas.{begins_lem, sure_lem}
 use Rattle.bully_run.proofs.RunLemmas.{eager_run_lem, knows_lem, now_lem, owner_of_lem, reached_lem, works_lem}
 use Rattle.bully_run.proofs.SomeRun.{some_lem}
 use Rattle.bully_run.proofs.members_apart.Goals as goal
@@ -26,3 +26,6 @@ returns-clause-some c = some_lem
 
 pub returns-clause-begins : goal.returns-clause-begins
 returns-clause-begins c = begins_lem
+
+pub returns-clause-sure : goal.returns-clause-sure
+returns-clause-sure c = sure_lem
