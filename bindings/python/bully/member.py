@@ -412,11 +412,12 @@ class Member:
         return needs_promises(self.core, self._found, nanoseconds_of_boot())
 
     def _see_behind(self, reason: Reason) -> None:
-        """Notes for whom the change waits that is under way, if one is. Without promises it isn't known for whom."""
+        """Notes for whom the change waits that is under way, if one is. Without promises it isn't known for whom; what
+        was noted before stays until the change is over."""
         core, found, end = self.core, self._found, Promise(self.opening.epoch, self.core.offset)
-        if not found.has_promises:
-            return
         is_over = reason is Reason.STABLE or core.session is None or found.is_frozen(end)
+        if not is_over and not found.has_promises:
+            return
         with suppress(OutOfMemory):  # then that isn't shown
             self.behind.see(end, {} if is_over else waits_for(core, self.opening, found))
 

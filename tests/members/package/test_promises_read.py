@@ -80,6 +80,24 @@ class PromisesRead(Grouped):
         log.release('c', SESSION)
         wait_until(lambda: len(log.rows) > end)
 
+    def test_for_whom_a_change_waited(self) -> None:
+        """A member that reads no promises any more forgets that a change waited for a node, once the group is stable."""
+        log = self.begin_log(COOPERATIVE)
+        self.come('b', TTL)
+        wait_until(lambda: self.is_shared('b'))
+        assert log.acquire('a', SESSION, Promise(1, len(log.rows)), LONG)
+        wait_until(lambda: any('1' in row.split(',')[-1].split() for row in log.rows if row.startswith('plan')))
+        shown = self.viewed(log, self.members['b'][0].behind, TTL)
+        log.set_maintenance(Maintenance(frozenset('a')), None)
+        wait_until(lambda: set(shown.show().behind) == {'a'})
+        log.set_maintenance(Maintenance(frozenset('ac')), None)
+        assert log.acquire('c', SESSION, Promise(1, len(log.rows)), LONG)
+        thread = self.members['b'][2]
+        wait_until(lambda: not [has_promises for reader, has_promises in log.snapshots if reader is thread][-1])
+        log.set_maintenance(Maintenance(frozenset('c')), None)
+        wait_until(lambda: not shown.show().behind, 5)
+        self.assertTrue(shown.show().is_stable)
+
     def test_in_a_pause(self) -> None:
         """All do, because promises say whether a change is completed first."""
         log = self.begin_log(COOPERATIVE)
