@@ -318,7 +318,7 @@ class Watched(EtcdMember):
         """Whether there is what it waits for, once what is due has been reported."""
         now, log = self.simulation.now, self.kept
         is_wide = log._is_wide_for(wait.until, len(log._news.sessions))
-        if self.watch is None or self.watch.is_wide != is_wide:
+        if self.watch is None or self.watch.is_wide != is_wide or is_wide and log._news.lacks_promises:
             if now < self.broken + int(WATCH_AGAIN * SECOND):
                 return False
             self.begin_watch(log, is_wide)

@@ -603,9 +603,9 @@ class EtcdLog:
 
     def _hear(self, is_news: Callable[[], bool], is_wide: bool, seconds: float) -> bool:
         """Whether there is what `wait` waits for, after so many seconds at most."""
-        watch = self._watch
+        watch, is_other = self._watch, self._is_wide != is_wide or is_wide and self._news.lacks_promises
         try:
-            if watch is None or watch.endpoint != self._client.endpoint or self._is_wide != is_wide:
+            if watch is None or watch.endpoint != self._client.endpoint or is_other:
                 return self._begin_watch(is_news, is_wide, seconds)
             for event in [] if is_news() else watch.events(seconds, self._woken):
                 self._news.see(event)
@@ -705,7 +705,13 @@ class News:
     def is_known(self, is_wide: bool) -> bool:
         """Whether all that a watch with promises or without them reports is known up to the revision of what was
         found."""
-        return self.is_fresh and not (is_wide and self.promised < self.revision)
+        return self.is_fresh and not (is_wide and self.lacks_promises)
+
+    @property
+    def lacks_promises(self) -> bool:
+        """Whether promises that were made before the revision of what was found are not known. A watch that reports
+        them later doesn't help: only what is behind that revision is taken in."""
+        return self.promised < self.revision
 
     @property
     def wanted(self) -> tuple[bytes | None, bytes | None]:

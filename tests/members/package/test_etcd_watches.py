@@ -115,6 +115,15 @@ class Watching(InEtcd):
             self.wait(0, 0.3, Until.ANY_IDLE)
         self.assertIn(f'{self.prefix}/lease/promise/a', seen)
 
+    def test_promises_that_a_snapshot_left_out(self) -> None:
+        """A wait for promises ends by one that the watch reports late: a snapshot without it is of a later moment."""
+        self.assertTrue(self.direct.append(1, 0, ['recover,1']))
+        self.log.snapshot(1, 0)
+        self.wait(1, 0.1, Until.ANY_IDLE)
+        self.assertTrue(self.direct.promise('a', A, Promise(1, 1)))
+        self.assertFalse(self.log.snapshot(1, 1, 'b').has_promises)
+        self.assertLess(self.wait(1, until=Until.ANY_IDLE), PATIENCE)
+
     def test_what_a_watch_reports(self) -> None:
         """Neither rows nor their times, nor notes of nodes whose work fails."""
         self.log.snapshot(1, 0)
