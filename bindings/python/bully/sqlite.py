@@ -321,11 +321,14 @@ class SqliteLog:
         return any(self._one(asked, boot, moment, moment) for boot, moment in there)
 
     def renew(self, name: str, session: Session, ttl: int) -> bool:
+        """If the lease ends sooner by that than it did, others must read it anew, because none does before its end."""
         with self._transaction() as standing:
-            if self._holder(name, session, standing) is None:
+            lease, until = self._leases(standing, name).get(name), standing.now + ttl
+            if lease is None or lease.holder.session != session:
                 return False
-            asked = 'update leases set since = ?, until = ? where name = ?'
-            self._file.execute(asked, (standing.now, standing.now + ttl, name))
+            self._file.execute('update leases set since = ?, until = ? where name = ?', (standing.now, until, name))
+            if until < lease.until:
+                self._file.execute('update changes set sessions = sessions + 1')
         return True
 
     def release(self, name: str, session: Session) -> None:

@@ -99,6 +99,16 @@ class Laws(Tests):
         log.release('a', A)
         self.assertEqual(live(log), {'a': Holder(B, EMPTY)})
 
+    def test_a_shorter_renewal(self) -> None:
+        """Others see the end of a lease that was renewed for a shorter time than before."""
+        log, other = self.pair()
+        self.assertTrue(log.acquire('a', A, EMPTY, self.LONG))
+        self.assertEqual(set(live(other)), {'a'})
+        self.assertTrue(log.renew('a', A, self.TTL))
+        self.assertEqual(set(live(other)), {'a'})
+        self.pass_end(other)
+        self.assertEqual((live(other), dict(other.snapshot(1, 0, 'b').holders)), ({}, {}))
+
     def test_the_promise_of_one(self) -> None:
         """A snapshot may have the promise of one holder alone, and all sessions. The next one with all promises has
         what was left out, whatever came meanwhile."""
