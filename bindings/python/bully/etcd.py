@@ -62,8 +62,8 @@ Told = tuple[Promise, tuple[int, ...]]  # a promise, and the partitions that it 
 
 
 class Part(NamedTuple):
-    """Which sessions and promises are read: those that were put after a revision; if a name is given, its promise in
-    place of these."""
+    """Which sessions and promises are read: all that were put after these two revisions. If a name is given, no promise
+    is read but that of this name, whenever it was put."""
 
     sessions: int = 0
     promises: int = 0
@@ -573,7 +573,8 @@ class EtcdLog:
             else:
                 part = Part(promise_of=part.promise_of)
         requested, holders = requested_of(self.address, end.epoch, news.requested), news.holders(part.promise_of)
-        self._seen_wanted, self._seen, self._has_promises = news.wanted, news.shown(part.promise_of), part.promise_of is None
+        self._seen_wanted, self._seen = news.wanted, news.shown(part.promise_of)
+        self._has_promises = part.promise_of is None
         there, failing, is_whole = rows or Rows(''), news.failing, self._has_promises
         return Snapshot(end.epoch, there, holders, requested, maintenance, failing, answer.revision, is_whole)
 
@@ -587,8 +588,8 @@ class EtcdLog:
     def wait(
         self, epoch: int, offset: int, sessions: Sessions, until: Until, seconds: float, wake: int | None = None
     ) -> None:  # fmt: skip
-        """Waits by a watch. It reports promises to a wait for them; while there are few leases to each wait after a
-        snapshot that has all promises, so that it need not start anew."""
+        """Waits by a watch, which reports promises if the wait is for them. After a snapshot that has all promises it
+        also does while there are few leases, whatever the wait is for: so it need not start anew for the next one."""
         end = seconds_of_boot() + seconds
         is_news = self._news.awaited(Promise(epoch, offset), sessions, until, self._seen_wanted, self._seen)
         is_wide = self._is_wide_for(until, len(sessions))
@@ -614,8 +615,8 @@ class EtcdLog:
         return self._watch is not None and is_news()
 
     def _begin_watch(self, is_news: Callable[[], bool], is_wide: bool, seconds: float) -> bool:
-        """Starts a watch after what was found, unless that is what `wait` waits for. Returns whether it is. What it
-        reports must all be known up to one revision: if it isn't, it is read anew. Raises Silent."""
+        """Starts a watch after what was found, unless that is what `wait` waits for. Returns whether it is. The watch
+        reports what comes after one revision. What isn't known up to that is read before. Raises Silent."""
         pause = self._broken + WATCH_AGAIN - seconds_of_boot()
         if pause > 0:
             sleep_until_ready(min(pause, seconds), self._woken)
@@ -690,7 +691,7 @@ class News:
         self.maintenance: bytes | None = None
         self.failing: dict[str, bool] = {}  # as of the last snapshot
         self.sessions: dict[str, Session] = {}
-        self.promises: dict[str, Told] = {}  # some are out of date, or of sessions that are gone, after `promised`
+        self.promises: dict[str, Told] = {}  # as of `promised`, and some of later; of sessions that are gone, too
         self._made: dict[str, Holder] = {}  # the last holders that were made, with the promise of this name or of all
         self._made_of: str | None = None
         self._is_made = False  # whether nothing is new of sessions and promises since

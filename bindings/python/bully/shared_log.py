@@ -199,9 +199,9 @@ class Log(Protocol):
         """Returns once another epoch is the current one, or there are rows after that offset, or other sessions than
         these are live, or other settings or maintenance are set than in the last snapshot. By `until` it also returns
         once a holder of a lease is idle there that wasn't in the last snapshot, once all are, or once one has made
-        another promise than in that snapshot. (What that left out was promised since.) It also returns once the
-        descriptor `wake` can be read, or the time is over; and it may return sooner. It never misses what was so before
-        the call."""
+        another promise than in that snapshot. (A promise that the snapshot left out counts as made since.) It also
+        returns once the descriptor `wake` can be read, or the time is over; and it may return sooner. It never misses
+        what was so before the call."""
 
     def ask(self, requested: Opening, epoch: int) -> bool:
         """Requests these settings, and no others, if the epoch is the current one and they are for the next. Returns

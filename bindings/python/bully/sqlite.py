@@ -429,7 +429,8 @@ class SqliteLog:
     # Snapshots and waits.
 
     def snapshot(self, epoch: int, offset: int, promise_of: str | None = None) -> Snapshot:
-        """Reads leases only if something is new: of sessions; of promises, if it must have all of them."""
+        """Reads all leases only if a session is new, or one may have ended; if it must have all promises, also if one
+        of these is new. Otherwise it has them from the last time."""
         with self._transaction('deferred') as standing:
             end = standing.end
             see_end(self.path, end, Promise(epoch, offset))

@@ -169,10 +169,10 @@ class Values(unittest.TestCase):
         """A lease has the number that its node has now, and says who is known to leave now, also if its holder is the
         same object as before."""
         leases, holders = adapter.Leases(), {'a': Holder(A, WORKS)}
-        for number in (1, 2):
+        for numbers in ({'a': 1}, {'a': 2}):
             for is_leaving in (False, True, True, False):
-                leaving, expected = frozenset('a' * is_leaving), Lease(number, A, WORKS, (), is_leaving)
-                self.assertEqual(leases.of(holders, {'a': number}, leaving), (expected,))
+                leaving, expected = frozenset('a' * is_leaving), Lease(numbers['a'], A, WORKS, (), is_leaving)
+                self.assertEqual(leases.of(holders, numbers, leaving), (expected,))
 
     def test_waits(self) -> None:
         """An unknown process must go before all can be idle, so nobody waits until all are; and a member that needs no

@@ -2,12 +2,14 @@
 from __future__ import annotations
 
 import threading
+import time
 from collections.abc import Callable
 
-from bully.core import Promise, Session
+from bully.clocks import sleep_until_ready
+from bully.core import Promise, Session, Until
 from bully.epochs import Opening
 from bully.maintenance import Maintenance
-from bully.shared_log import Snapshot
+from bully.shared_log import Sessions, Snapshot
 from ..steps import LONG
 from ..waiting import PATIENCE, wait_until
 from .grouped import COOPERATIVE, EAGER, Grouped
@@ -18,7 +20,8 @@ TTL = 5.0 * PATIENCE  # of a member that renews its lease only after the test
 
 
 class Noting(Troubled):
-    """A log that notes of each snapshot whether it has all promises, by the thread that reads it."""
+    """A log that notes of each snapshot whether it has all promises, by the thread that reads it. A wait lasts as long
+    as over other stores: so what doesn't end it isn't seen before the next renewal."""
 
     def __init__(self, opening: Opening) -> None:
         super().__init__(opening)
@@ -28,6 +31,15 @@ class Noting(Troubled):
         found = super().snapshot(epoch, offset, promise_of)
         self.snapshots.append((threading.current_thread(), found.has_promises))
         return found
+
+    def wait(
+        self, epoch: int, offset: int, sessions: Sessions, until: Until, seconds: float, wake: int | None = None
+    ) -> None:  # fmt: skip
+        end, wanted, before = time.monotonic() + seconds, self._seen.wanted, self._seen.holders
+        while time.monotonic() < end and not sleep_until_ready(0.0, wake):
+            super().wait(epoch, offset, sessions, until, end - time.monotonic(), wake)
+            if self.has_news(epoch, offset, sessions, wanted, until, before):
+                return
 
 
 class PromisesRead(Grouped):
@@ -48,6 +60,18 @@ class PromisesRead(Grouped):
         for thread, has_promises in log.snapshots[begun + 10 :]:
             found[threads[thread]].add(has_promises)
         return found
+
+    def read_none(self, log: Noting, drained: str) -> None:
+        """The member of b, with another one above it, reads snapshots, by news of d that change nothing, until one of
+        them leaves promises out."""
+        thread = self.members['b'][2]
+
+        def is_so() -> bool:
+            is_other = 'd' not in log.maintenance.drained
+            log.set_maintenance(Maintenance(frozenset(f'{drained}d' if is_other else drained)), None)
+            return not [has_promises for reader, has_promises in log.snapshots if reader is thread][-1]
+
+        wait_until(is_so)
 
     def test_who_reads_them(self) -> None:
         """In a cooperative group the highest live one does: also one that becomes that."""
@@ -74,7 +98,7 @@ class PromisesRead(Grouped):
         wait_until(lambda: len(self.works().get('b', ())) == 6 and self.works() == self.owners())
         log.set_maintenance(Maintenance(frozenset('c')), None)
         assert log.acquire('c', SESSION, Promise(1, len(log.rows)), LONG)
-        wait_until(lambda: not log.snapshots[-1][1])
+        self.read_none(log, 'c')
         self.keep('a', SESSION, 0)
         end = len(log.rows)
         log.release('c', SESSION)
@@ -92,8 +116,7 @@ class PromisesRead(Grouped):
         wait_until(lambda: set(shown.show().behind) == {'a'})
         log.set_maintenance(Maintenance(frozenset('ac')), None)
         assert log.acquire('c', SESSION, Promise(1, len(log.rows)), LONG)
-        thread = self.members['b'][2]
-        wait_until(lambda: not [has_promises for reader, has_promises in log.snapshots if reader is thread][-1])
+        self.read_none(log, 'ac')
         log.set_maintenance(Maintenance(frozenset('c')), None)
         wait_until(lambda: not shown.show().behind, 5)
         self.assertTrue(shown.show().is_stable)

@@ -179,6 +179,21 @@ class Waits(Tests):
         later.join()
         self.assertEqual(log.snapshot(1, 1).holders, {'1': Holder(A, EMPTY), '2': Holder(B, Promise(1, 2))})
 
+    def test_idle_beside_one_that_is_gone(self) -> None:
+        """A holder that was gone when a snapshot left promises out isn't waited for after the next one with all."""
+        log, other = self.pair()
+        for name, session in (('1', A), ('2', B), ('3', A)):
+            self.assertTrue(other.acquire(name, session, EMPTY, self.LONG))
+        self.assertTrue(other.append(1, 0, ['recover,1']))
+        self.assertEqual(set(log.snapshot(1, 0).holders), {'1', '2', '3'})
+        other.release('3', A)
+        self.assertFalse(log.snapshot(1, 1, '1').has_promises)
+        sessions = log.snapshot(1, 1).sessions
+        self.assertTrue(other.promise('1', A, Promise(1, 1)))
+        self.ends_by(
+            lambda: other.promise('2', B, Promise(1, 1)), lambda seconds: log.wait(1, 1, sessions, Until.ALL_IDLE, seconds)
+        )
+
     def test_promises_are_no_news(self) -> None:
         """A wait for less goes on. (It need not, but then each would wake all.)"""
         log, other = self.pair()
