@@ -489,7 +489,7 @@ class Told(Below):
 
     def test_many_that_are_not_heard(self) -> None:
         """Its watchdog doesn't wait for it: it has still to kill a member that is stopped in a write."""
-        workers = self.made(['sleep', '1000'])
+        workers = self.made(['sleep', '1000'], ttl=20 * PATIENCE)  # its member would kill a watchdog that is later
         count = 400  # more messages than a socket has room for
         workers._ask(lambda: self.deafen(workers, count))
         wait_until(lambda: len(self.lost) == count)
