@@ -203,3 +203,124 @@ module _ (m : MemberState) (now later : ℕ) (s t : Sight) (works : List Activit
         let none : unless t.may_go_on ≡ 0 = ap unless (may_then left) in
         let less = then_less never m.needs_snapshot in
         omega (arith, one, none, less)
+
+stop_falls : (m mid after : MemberState) (now later : ℕ) (s t : Sight) (calls : List Call) → IsCalm m now → Sees m now s → IsCalm after later → Sees after later t → s.may_go_on ≡ false
+    → mid ≡ noted m now s.is_stable Step.Stop → AreEnds mid calls after → to_do after t < to_do m s
+stop_falls m mid after now later s t calls calm sees then_calm then_sees never is ends =
+    let done : Ended (noted m now s.is_stable Step.Stop) after = subst (λ (x : MemberState). Ended x after) is (all_ended calls mid after ends) in
+    subst (λ (x : MemberState). to_do x t < to_do m s) (sym done.same)
+        (stop_less m now later s t after.works after.is_exact after.is_lost after.is_asked_exact calm sees (subst (λ (x : MemberState). IsCalm x later) done.same then_calm) (subst (λ (x : MemberState). Sees x later t) done.same then_sees)
+        (done.lost refl) never
+        (λ k works. subst (λ i. is_left (table_ahead m now s.is_stable) m.terms.node i ≡ true) (omega arith) (stop_from m.works (table_ahead m now s.is_stable) m.terms.node 0 k (done.fewer k works))))
+
+-- To read a snapshot.
+
+member_else : (b : Bool) (x y : MemberState) → b ≡ false → (if b then x else y) ≡ y
+member_else true x y is = absurd (cc is)
+member_else false x y is = refl
+
+own_fresh : (f : MemberState) (session : SessionId) (own : Option (Promise × Bool)) (by : SessionId) (since : ℕ) → f.needs_snapshot ≡ false → (own_by_promise f own).session ≡ SessionState.Live by since → (own_by_promise f own).needs_snapshot ≡ false
+own_fresh f session None by since fresh live = absurd (cc live)
+own_fresh f session (Some own) by since fresh live = fresh
+
+by_fresh : (f : MemberState) (state : SessionState) (here : Option Lease) (by : SessionId) (since : ℕ) → f.needs_snapshot ≡ false → (own_by f state here).session ≡ SessionState.Live by since → (own_by f state here).needs_snapshot ≡ false
+by_fresh f SessionState.Absent here by since fresh live = fresh
+by_fresh f (SessionState.Unknown session) here by since fresh live = fresh
+by_fresh f (SessionState.Live session at) here by since fresh live = own_fresh f session (own_promise f session here) by since fresh live
+
+seen_most : (m : MemberState) (s : Sight) (st : Bool) (token : Option ℕ) → (if st then to_begin m s token else to_promise m s) ≤ 1
+seen_most m s true None = omega arith
+seen_most m s true (Some token) = unless_most (s.may_go_on && (s.has_all && (token == m.token)))
+seen_most m s false token = unless_most (is_newcomer m || (not (is_affected m m.terms.node) || (s.may_go_on && has_promised m)))
+
+look_fresh : (m behind after : MemberState) (now at later : ℕ) (leases : List Lease) (has_unknown has_request : Bool) → IsCalm after later → behind.asked ≡ Some (record { request = Request.Snapshot; at = now }) → behind.terms.epoch ≡ m.terms.epoch
+    → after ≡ snapshot_read behind at m.terms.epoch leases has_unknown has_request after.coming after.affected → after.needs_snapshot ≡ false
+look_fresh m behind after now at later leases has_unknown has_request then_calm asked same is = subst (λ (x : MemberState). x.needs_snapshot ≡ false) (sym found_is) (by_fresh f f.session (lease_of f.terms.node f.leases) then_calm.session then_calm.since refl (subst (λ (x : MemberState). x.session ≡ SessionState.Live then_calm.session then_calm.since) found_is then_calm.live))
+  where
+    b : MemberState
+    b = with_arrivals behind at leases
+
+    f : MemberState
+    f = found b at leases has_unknown has_request (admitted_among b at leases) after.coming after.affected
+
+    here : MemberState
+    here = found_here b at leases has_unknown has_request after.coming after.affected
+
+    inside : MemberState
+    inside = if not (m.terms.epoch == behind.terms.epoch) then record behind { is_past = true; asked = None } else here
+
+    awaits : not (awaits_snapshot behind.asked) ≡ false
+    awaits = ap (λ a. not (awaits_snapshot a)) asked
+
+    epoch : not (m.terms.epoch == behind.terms.epoch) ≡ false
+    epoch = ap (λ e. not (m.terms.epoch == e)) same ∙ ap not (same_num m.terms.epoch)
+
+    found_is : after ≡ here
+    found_is = is ∙ member_else (not (awaits_snapshot behind.asked)) behind inside awaits ∙ member_else (not (m.terms.epoch == behind.terms.epoch)) (record behind { is_past = true; asked = None }) here epoch
+
+look_falls : (m mid after : MemberState) (now at later : ℕ) (s t : Sight) → IsCalm after later → s.may_go_on ≡ true → m.needs_snapshot ≡ true
+    → mid ≡ noted m now s.is_stable (Step.Ask Request.Snapshot) → HasLooked mid at after → to_do after t < to_do m s
+look_falls m mid after now at later s t then_calm may needs is looked =
+    let asked : looked.behind.asked ≡ Some (record { request = Request.Snapshot; at = now }) = ap (λ (x : MemberState). x.asked) looked.learns.rest ∙ ap (λ (x : MemberState). x.asked) is in
+    let same : looked.behind.terms.epoch ≡ mid.terms.epoch = ap (λ (x : MemberState). x.terms.epoch) looked.learns.rest in
+    let fresh : after.needs_snapshot ≡ false = look_fresh mid looked.behind after now at later looked.leases looked.has_unknown looked.has_request then_calm asked same looked.reads in
+    let three : to_do_then m s ≡ 3 = ap (λ b. if b then 3 else to_do_seen m s) needs in
+    let seen : to_do_then after t ≡ to_do_seen after t = ap (λ b. if b then 3 else to_do_seen after t) fresh in
+    let one = unless_most t.may_go_on in
+    let most = seen_most after t t.is_stable (token_now after) in
+    omega (arith, three, seen, one, most)
+
+-- To promise.
+
+log_tokens : (r : ReplicaState) (log : List Event) (last : Option Planned) → IsLast log last → token_of last ≤ length log
+log_tokens r log None is = omega arith
+log_tokens r log (Some p) is = token_within log p is
+
+tokens_within : (r : ReplicaState) → IsReplica r → token_of r.last ≤ r.world.events
+tokens_within r is =
+    let low = log_tokens r is.events r.last is.log.last in
+    omega (arith, low, is.log.counted)
+
+never_is : (b : Bool) → (b ≡ true → ⊥) → b ≡ false
+never_is true never = absurd (never refl)
+never_is false never = refl
+
+left_same : (lost goes more st by other : Bool) (last coming : Option (List ℕ)) (node k : ℕ) → goes ≡ not lost → more ≡ not lost → st ≡ false → is_left (table_if goes st by last coming) node k ≡ true → is_left (table_if more st other last coming) node k ≡ true
+left_same true goes more st by other last coming node k one two un left = absurd (cc (left, ap (λ b. is_left (table_if b st by last coming) node k) one))
+left_same false goes more true by other last coming node k one two un left = absurd (cc un)
+left_same false goes more false by other last coming node k one two un left =
+    ap (λ b. is_left (table_if b false other last coming) node k) two ∙ sym (ap (λ b. is_left (table_if b false by last coming) node k) one) ∙ left
+
+abbrev promised_at : MemberState → MemberState
+promised_at m = record m { promised = offset_of m; own = record { epoch = m.terms.epoch; offset = offset_of m }; is_exact = true; is_asked_exact = true; asked = None }
+
+promised_none : (new affected may has : Bool) → may ≡ true → has ≡ true → unless (new || (not affected || (may && has))) ≡ 0
+promised_none true affected may has may_is has_is = refl
+promised_none false false may has may_is has_is = refl
+promised_none false true true true may_is has_is = refl
+promised_none false true true false may_is has_is = absurd (cc has_is)
+promised_none false true false has may_is has_is = absurd (cc may_is)
+
+both_true : (a b : Bool) → a ≡ true → b ≡ true → (a && b) && true ≡ true
+both_true true true one other = refl
+both_true true false one other = absurd (cc other)
+both_true false b one other = absurd (cc one)
+
+promise_none : (m : MemberState) (now later : ℕ) (s t : Sight) → IsCalm m now → Sees m now s → IsCalm (promised_at m) later → Sees (promised_at m) later t → s.may_go_on ≡ true → m.needs_snapshot ≡ false → s.is_stable ≡ false → to_do (promised_at m) t ≡ 0
+promise_none m now later s t calm sees then_calm then_sees may fresh unstable =
+    let first : unless t.may_go_on ≡ 0 = ap unless goes in
+    let second : to_do_then n t ≡ to_do_seen n t = ap (λ b. if b then 3 else to_do_seen n t) fresh in
+    let third : to_do_seen n t ≡ to_promise n t = ap (λ b. if b then to_begin n t (token_now n) else to_promise n t) still in
+    let none : to_promise n t ≡ 0 = promised_none (is_newcomer n) (is_affected n n.terms.node) t.may_go_on (has_promised n) goes (both_true (m.terms.epoch == m.terms.epoch) (offset_of m == offset_of m) (same_num m.terms.epoch) (same_num (offset_of m))) in
+    omega (arith, first, second, third, none)
+  where
+    n : MemberState
+    n = promised_at m
+
+    still : t.is_stable ≡ false
+    still = never_is t.is_stable (λ is. let behind = (then_sees.stable.0 (is_true t.is_stable is)).behind in let within = tokens_within (replica_of m) calm.learned in omega (arith, behind, within))
+
+    goes : t.may_go_on ≡ true
+    goes = true_is t.may_go_on (then_sees.stays.1 (λ k works. subst (λ st. is_left (table_if (goes_on n later) st (goes_on_by n (token_now n)) (last_table m) m.coming) m.terms.node k ≡ true) (unstable ∙ sym still)
+        (left_same m.is_lost (goes_on m now) (goes_on n later) s.is_stable (goes_on_by m (token_now m)) (goes_on_by n (token_now n)) (last_table m) m.coming m.terms.node k (goes_is m now calm) (goes_is n later then_calm) unstable
+        (sees.stays.0 (is_true s.may_go_on may) k works))))
