@@ -1,2 +1,3 @@
 pub mod DueLemmas
 pub mod TurnLemmas
+pub mod OwnLemmas
