@@ -1,12 +1,13 @@
 -- One member's progress: what it still has to do by itself until it waits or changes the log, and its turns.
 use Rattle.std.specs.Prelude.{◌≡◌, ◌↔◌, ◌≤◌, ◌+◌, ◌==◌, ◌&&◌, ◌||◌, not, if◌then◌else◌, ℕ, Bool, true, false, List, [], ◌∷◌}
-use Rattle.std.specs.Prelude.{Contains, Option, Some, None, Result, length}
+use Rattle.std.specs.Prelude.{Contains, Option, Some, None, Result, length, min, nat_lt}
 use Rattle.std.specs.List.{list_any}
 use Rattle.bully_agree.specs.Fencing.{Planned}
 use Rattle.bully_member.specs.Activities.{any_stopping, any_working, works_at}
-use Rattle.bully_member.specs.Due.{admission_wait, is_admitted_since, is_newcomer, token_now, turn_step}
-use Rattle.bully_member.specs.Member.{MemberState, has_promised, is_affected, replica_of}
-use Rattle.bully_member.specs.Times.{pause_left, renewal_left}
+use Rattle.bully_member.specs.Due.{admission_wait, is_admitted_since, is_newcomer, token_now, until_ready}
+use Rattle.bully_member.specs.Member.{MemberState, above, all_ready, has_promised, is_affected}
+use Rattle.bully_member.specs.Member.{is_closing, offset_of, replica_of}
+use Rattle.bully_member.specs.Times.{pause_left, renewal_left, turn_left}
 use Rattle.bully_member.specs.Told.{SeesIfFound}
 use Rattle.bully_member.specs.declared.values.Ending.{Ending}
 use Rattle.bully_member.specs.declared.values.Asked.{Asked}
@@ -79,11 +80,20 @@ is_task (Step.Ask Request.Snapshot) = true
 is_task (Step.Ask (Request.Promise session offset)) = true
 is_task _ = false
 
--- what it does once nothing is left: in a stable group it waits; as a newcomer it waits to be admitted; else it waits for
--- its turn and for the others, and then changes the log
+-- the change of the log that is due: to roll the epoch over, or to rebalance the group
+abbrev pub change_of : MemberState → Step
+change_of m = if is_closing m then Step.Ask (Request.RollOver (offset_of m)) else Step.Ask (Request.Append (offset_of m))
+
+-- what it does once nothing is left. In a stable group it waits. In another one a newcomer waits to be admitted; others
+-- wait for their turn, and for all to be ready, and then change the log
 abbrev pub step_at_rest : MemberState → (now : ℕ) → (is_stable : Bool) → Step
 step_at_rest m now true = Step.Wait (admission_wait m now) Until.AnyIdle Reason.Stable
-step_at_rest m now false = if is_newcomer m then Step.Wait (admission_wait m now) Until.News Reason.Admission else turn_step m now
+step_at_rest m now false =
+    let turn = turn_left (above m) m.ttl now m.last_change.at in
+    if is_newcomer m then Step.Wait (admission_wait m now) Until.News Reason.Admission else
+    if nat_lt 0 turn then Step.Wait (min (renewal_left m.session m.ttl now) turn) Until.News Reason.Turn else
+    if not (all_ready m) then Step.Wait (renewal_left m.session m.ttl now) (until_ready m) Reason.Others else
+    change_of m
 
 -- A turn: the member's next step, and then what the driver reports of it.
 

@@ -3,13 +3,20 @@
 //! It builds on bully_run.
 #![tactic(auto)]
 
-ghost use Rattle.std.specs.Prelude.{◌≡◌, ◌<◌, ◌≤◌, ◌↔◌, ℕ, List, length, true};
+ghost use Rattle.std.specs.Prelude.{◌≡◌, ◌≢◌, ◌<◌, ◌≤◌, ◌↔◌, ℕ, [], Contains, List, false, length, true};
 ghost use Rattle.bully_member.specs.Activities.{works_at};
 ghost use Rattle.bully_member.specs.Due.{Sees, due};
-ghost use Rattle.bully_member.specs.Member.{MemberState};
+ghost use Rattle.bully_member.specs.Member.{MemberState, SeesStable, above, all_ready, replica_of};
+ghost use Rattle.bully_member.specs.Rebalance.{rebalanced_nodes};
+ghost use Rattle.bully_rebalance.specs.Rebalancing.{table_before};
+ghost use Rattle.bully_table.specs.Planning.{planned};
+ghost use Rattle.bully_work.specs.Working.{GivesTo};
+ghost use Rattle.bully_calls.specs.declared.event.Event.{Event};
+ghost use Rattle.bully_member.specs.Times.{turn_left};
 ghost use Rattle.bully_member.specs.declared.values.Sight.{Sight};
 ghost use Rattle.bully_member.specs.declared.values.Step.{Step as StepState};
-ghost use Rattle.bully_round.specs.Progress.{DoesTasks, IsCalm, Owns, TakesTurn, Turn, is_task, step_at_rest, to_do};
+ghost use Rattle.bully_round.specs.Group.{HasLearnedOf, HaveOneView, IsAmong, IsAtRest};
+ghost use Rattle.bully_round.specs.Progress.{DoesTasks, IsCalm, Owns, TakesTurn, Turn, change_of, is_task, step_at_rest, to_do};
 
 /// The law of one member's progress.
 pub fn progress_of_one()
@@ -23,4 +30,21 @@ pub fn progress_of_one()
     ensures bounded { (m after : MemberState) (turns : List Turn) → DoesTasks m turns after → length turns ≤ 4 }
     ensures exactly { (m : MemberState) (now : ℕ) (s : Sight) → IsCalm m now → Sees m now s → s.is_stable ≡ true
         → to_do m s ≡ 0 → (k : ℕ) → works_at m.works k ≡ true ↔ Owns m k }
+{}
+
+/// The law of a round.
+pub fn round_becomes_stable()
+    ensures ready { (ms : List MemberState) (m : MemberState) → HaveOneView ms → Contains ms m → all_ready m ≡ true }
+    ensures changes { (ms : List MemberState) (m : MemberState) (now : ℕ) (s : Sight) → HaveOneView ms → Contains ms m
+        → IsAtRest m now false → Sees m now s → turn_left (above m) m.ttl now m.last_change.at ≡ 0
+        → due m now s ≡ change_of m }
+    ensures somebody { (ms : List MemberState) → HaveOneView ms → ms ≢ [] → (m : MemberState) × Contains ms m
+        × ((now : ℕ) (s : Sight) → IsAtRest m now false → Sees m now s → due m now s ≡ change_of m) }
+    ensures stable { (w n : MemberState) (log more : List Event) → HasLearnedOf w log more n
+        → rebalanced_nodes w ≢ [] → SeesStable n }
+    ensures works { (w n : MemberState) (log more : List Event) (now k : ℕ)
+        → HasLearnedOf w log more n → IsAmong w n → IsAtRest n now true
+        → works_at n.works k ≡ true
+        ↔ GivesTo (planned (replica_of n).world.setup (table_before (replica_of w).last w.terms.old)
+        (rebalanced_nodes w)) k n.terms.node }
 {}

@@ -1,0 +1,61 @@
+-- The members of a group who all have one view of the store, and what a rebalance makes of it.
+use Rattle.std.specs.Prelude.{◌≡◌, ◌≤◌, ◌++◌, ℕ, Bool, true, false, List, Contains, length}
+use Rattle.bully_base.specs.Setup.{IsNode}
+use Rattle.bully_calls.specs.declared.event.Event.{Event}
+use Rattle.bully_member.specs.Activities.{busy}
+use Rattle.bully_member.specs.Due.{Sees, is_newcomer}
+use Rattle.bully_member.specs.Member.{MemberState, is_closing, offset_in, replica_of}
+use Rattle.bully_member.specs.Rebalance.{rebalanced_nodes}
+use Rattle.bully_member.specs.declared.values.Lease.{Lease}
+use Rattle.bully_member.specs.declared.values.Sight.{Sight}
+use Rattle.bully_rebalance.specs.Rebalancing.{Rebalances, table_before}
+use Rattle.bully_replica.specs.Replica.{IsLogOf}
+use Rattle.bully_round.specs.Progress.{IsCalm, to_do}
+
+-- at this moment the member is calm, and has nothing left to do by itself, in a group that is stable for it or isn't
+pub record IsAtRest (m : MemberState) (now : ℕ) (is_stable : Bool) : Type 0 where
+  pub sight : Sight
+  pub calm : IsCalm m now
+  pub sees : Sees m now sight
+  pub stable : sight.is_stable ≡ is_stable
+  pub none : to_do m sight ≡ 0
+
+-- both have learned the same of one epoch, and foresee the same change
+pub record HasSameView (m n : MemberState) : Type 0 where
+  pub replica : replica_of m ≡ replica_of n
+  pub epoch : m.terms.epoch ≡ n.terms.epoch
+  pub coming : m.coming ≡ n.coming
+  pub affected : m.affected ≡ n.affected
+
+-- this is the lease of member n, as its last promise that was done left it
+pub record IsLeaseOf (n : MemberState) (p : Lease) : Type 0 where
+  pub node : p.node ≡ n.terms.node
+  pub promise : p.promise ≡ n.own
+  pub kept : n.is_exact ≡ true → p.kept ≡ busy n.works
+
+-- Before the change: all these members have the same view, in which each lease is that of one of them. Each has done
+-- what it has to do by itself, and none is a newcomer.
+pub record HaveOneView (ms : List MemberState) : Type 0 where
+  pub rest : (m : MemberState) → Contains ms m → (now : ℕ) × IsAtRest m now false
+  pub old : (m : MemberState) → Contains ms m → is_newcomer m ≡ false
+  pub alike : (m n : MemberState) → Contains ms m → Contains ms n → HasSameView m n
+  pub leases : (m : MemberState) (p : Lease) → Contains ms m → Contains m.leases p
+      → (n : MemberState) × Contains ms n × IsLeaseOf n p
+  pub known : (m : MemberState) → Contains ms m → m.has_unknown ≡ false
+
+-- After it: member n has learned the rebalance that w appended to this log, and read a snapshot. Nobody came or went: the
+-- same nodes are admitted. Nobody has promised more than the end of the log before. The epoch needn't roll over.
+pub record HasLearnedOf (w : MemberState) (log more : List Event) (n : MemberState) : Type 0 where
+  pub rebalances : Rebalances (replica_of n).world.setup log (table_before (replica_of w).last w.terms.old)
+      (rebalanced_nodes w) more
+  pub learned : IsLogOf (replica_of n) (log ++ more)
+  pub same : n.group ≡ rebalanced_nodes w
+  pub promised : n.promised ≤ length log
+  pub own : offset_in n.terms.epoch n.own ≤ length log
+  pub others : (p : Lease) → Contains n.leases p → offset_in n.terms.epoch p.promise ≤ length log
+  pub goes_on : is_closing n ≡ false
+
+-- n's node is one of those among which w rebalanced the group
+pub record IsAmong (w n : MemberState) : Type 0 where
+  pub node : IsNode (replica_of n).world.setup n.terms.node
+  pub among : Contains (rebalanced_nodes w) n.terms.node
