@@ -3,3 +3,5 @@ pub mod TurnLemmas
 pub mod OwnLemmas
 pub mod GroupLemmas
 pub mod RoundLemmas
+pub mod SomeTurns
+pub mod SomeView

@@ -30,6 +30,7 @@ pub fn progress_of_one()
     ensures bounded { (m after : MemberState) (turns : List Turn) → DoesTasks m turns after → length turns ≤ 4 }
     ensures exactly { (m : MemberState) (now : ℕ) (s : Sight) → IsCalm m now → Sees m now s → s.is_stable ≡ true
         → to_do m s ≡ 0 → (k : ℕ) → works_at m.works k ≡ true ↔ Owns m k }
+    ensures some { (m after : MemberState) × (turns : List Turn) × DoesTasks m turns after × (length turns ≡ 3) }
 {}
 
 /// The law of a round.
@@ -47,4 +48,5 @@ pub fn round_becomes_stable()
         → works_at n.works k ≡ true
         ↔ GivesTo (planned (replica_of n).world.setup (table_before (replica_of w).last w.terms.old)
         (rebalanced_nodes w)) k n.terms.node }
+    ensures some { (ms : List MemberState) × HaveOneView ms × (length ms ≡ 2) }
 {}

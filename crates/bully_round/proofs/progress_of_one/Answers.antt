@@ -1,4 +1,5 @@
 use Rattle.bully_round.proofs.DueLemmas.{acts_lem, rests_lem}
+use Rattle.bully_round.proofs.SomeTurns.{some_lem}
 use Rattle.bully_round.proofs.OwnLemmas.{exactly_lem}
 use Rattle.bully_round.proofs.TurnLemmas.{bounded_lem, falls_lem}
 use Rattle.bully_round.proofs.progress_of_one.Goals as goal
@@ -17,3 +18,6 @@ returns-clause-bounded c = bounded_lem
 
 pub returns-clause-exactly : goal.returns-clause-exactly
 returns-clause-exactly c = exactly_lem
+
+pub returns-clause-some : goal.returns-clause-some
+returns-clause-some c = some_lem
