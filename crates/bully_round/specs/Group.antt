@@ -1,16 +1,18 @@
 -- The members of a group who all have one view of the store, and what a rebalance makes of it.
-use Rattle.std.specs.Prelude.{◌≡◌, ◌≤◌, ◌++◌, ℕ, Bool, true, false, List, Contains, length}
+use Rattle.std.specs.Prelude.{◌≡◌, ◌≤◌, ◌++◌, ℕ, Bool, true, false, List, Contains, length, map}
 use Rattle.bully_base.specs.Setup.{IsNode}
 use Rattle.bully_calls.specs.declared.event.Event.{Event}
 use Rattle.bully_member.specs.Activities.{busy}
 use Rattle.bully_member.specs.Due.{Sees, is_newcomer}
 use Rattle.bully_member.specs.Member.{MemberState, is_closing, offset_in, replica_of}
 use Rattle.bully_member.specs.Rebalance.{rebalanced_nodes}
+use Rattle.bully_member.specs.Told.{to_snapshot}
 use Rattle.bully_member.specs.declared.values.Lease.{Lease}
 use Rattle.bully_member.specs.declared.values.Sight.{Sight}
 use Rattle.bully_rebalance.specs.Rebalancing.{Rebalances, table_before}
 use Rattle.bully_replica.specs.Replica.{IsLogOf}
-use Rattle.bully_round.specs.Progress.{IsCalm, to_do}
+use Rattle.bully_round.specs.Progress.{DoesTasks, IsCalm, Turn, to_do}
+use Rattle.bully_table.specs.Planning.{planned}
 
 -- at this moment the member is calm, and has nothing left to do by itself, in a group that is stable for it or isn't
 pub record IsAtRest (m : MemberState) (now : ℕ) (is_stable : Bool) : Type 0 where
@@ -43,19 +45,56 @@ pub record HaveOneView (ms : List MemberState) : Type 0 where
       → (n : MemberState) × Contains ms n × IsLeaseOf n p
   pub known : (m : MemberState) → Contains ms m → m.has_unknown ≡ false
 
--- After it: member n has learned the rebalance that w appended to this log, and read a snapshot. Nobody came or went: the
--- same nodes are admitted. Nobody has promised more than the end of the log before. The epoch needn't roll over.
+-- w appends these events to this log: they rebalance the group among the nodes that w has found
+abbrev pub Appends : MemberState → (log more : List Event) → Type 0
+Appends w log more = Rebalances (replica_of w).world.setup log (table_before (replica_of w).last w.terms.old)
+    (rebalanced_nodes w) more
+
+-- the table of that rebalance
+abbrev pub table_of : MemberState → List ℕ
+table_of w = planned (replica_of w).world.setup (table_before (replica_of w).last w.terms.old) (rebalanced_nodes w)
+
+-- After the change: member n has learned these events after this log, and read a snapshot. Nobody came or went: the same
+-- nodes are admitted, and its own is one of them. Nobody has promised more than the end of the log before. The epoch
+-- needn't roll over.
 pub record HasLearnedOf (w : MemberState) (log more : List Event) (n : MemberState) : Type 0 where
-  pub rebalances : Rebalances (replica_of n).world.setup log (table_before (replica_of w).last w.terms.old)
-      (rebalanced_nodes w) more
+  pub setup : (replica_of n).world.setup ≡ (replica_of w).world.setup
   pub learned : IsLogOf (replica_of n) (log ++ more)
   pub same : n.group ≡ rebalanced_nodes w
+  pub node : IsNode (replica_of n).world.setup n.terms.node
+  pub among : Contains (rebalanced_nodes w) n.terms.node
   pub promised : n.promised ≤ length log
   pub own : offset_in n.terms.epoch n.own ≤ length log
   pub others : (p : Lease) → Contains n.leases p → offset_in n.terms.epoch p.promise ≤ length log
   pub goes_on : is_closing n ≡ false
 
--- n's node is one of those among which w rebalanced the group
-pub record IsAmong (w n : MemberState) : Type 0 where
-  pub node : IsNode (replica_of n).world.setup n.terms.node
-  pub among : Contains (rebalanced_nodes w) n.terms.node
+-- What becomes of one member in a round. From its first state it does what it has to do, and is then ready for the
+-- change. After that it does again what it has to do, and then is as last.
+pub record Passage : Type 0 where
+  pub first : MemberState
+  pub before : List Turn
+  pub ready : MemberState
+  pub later : List Turn
+  pub last : MemberState
+
+abbrev pub ready_in : Passage → MemberState
+ready_in x = x.ready
+
+pub record Passes (w : MemberState) (log more : List Event) (x : Passage) : Type 0 where
+  pub prepares : DoesTasks x.first x.before x.ready
+  pub goes_on : DoesTasks (to_snapshot x.ready) x.later x.last
+  pub learned : HasLearnedOf w log more x.last
+  pub now : ℕ
+  pub sight : Sight
+  pub calm : IsCalm x.last now
+  pub sees : Sees x.last now sight
+  pub none : to_do x.last sight ≡ 0
+
+-- A round: all are ready, in one view. One of them appends a rebalance to the log. All learn it, and do what is left. Each
+-- node among which the group is rebalanced is that of one of them.
+pub record IsRound (xs : List Passage) (w : MemberState) (log more : List Event) : Type 0 where
+  pub view : HaveOneView (map ready_in xs)
+  pub writer : Contains (map ready_in xs) w
+  pub appends : Appends w log more
+  pub passes : (x : Passage) → Contains xs x → Passes w log more x
+  pub all : (i : ℕ) → Contains (rebalanced_nodes w) i → (x : Passage) × Contains xs x × (x.last.terms.node ≡ i)

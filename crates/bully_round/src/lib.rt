@@ -7,15 +7,12 @@ ghost use Rattle.std.specs.Prelude.{◌≡◌, ◌≢◌, ◌<◌, ◌≤◌, �
 ghost use Rattle.bully_member.specs.Activities.{works_at};
 ghost use Rattle.bully_member.specs.Due.{Sees, due};
 ghost use Rattle.bully_member.specs.Member.{MemberState, SeesStable, above, all_ready, replica_of};
-ghost use Rattle.bully_member.specs.Rebalance.{rebalanced_nodes};
-ghost use Rattle.bully_rebalance.specs.Rebalancing.{table_before};
-ghost use Rattle.bully_table.specs.Planning.{planned};
 ghost use Rattle.bully_work.specs.Working.{GivesTo};
 ghost use Rattle.bully_calls.specs.declared.event.Event.{Event};
 ghost use Rattle.bully_member.specs.Times.{turn_left};
 ghost use Rattle.bully_member.specs.declared.values.Sight.{Sight};
 ghost use Rattle.bully_member.specs.declared.values.Step.{Step as StepState};
-ghost use Rattle.bully_round.specs.Group.{HasLearnedOf, HaveOneView, IsAmong, IsAtRest};
+ghost use Rattle.bully_round.specs.Group.{Appends, HasLearnedOf, HaveOneView, IsAtRest, IsRound, Passage, table_of};
 ghost use Rattle.bully_round.specs.Progress.{DoesTasks, IsCalm, Owns, TakesTurn, Turn, change_of, is_task, step_at_rest, to_do};
 
 /// The law of one member's progress.
@@ -41,12 +38,23 @@ pub fn round_becomes_stable()
         → due m now s ≡ change_of m }
     ensures somebody { (ms : List MemberState) → HaveOneView ms → ms ≢ [] → (m : MemberState) × Contains ms m
         × ((now : ℕ) (s : Sight) → IsAtRest m now false → Sees m now s → due m now s ≡ change_of m) }
-    ensures stable { (w n : MemberState) (log more : List Event) → HasLearnedOf w log more n
-        → rebalanced_nodes w ≢ [] → SeesStable n }
-    ensures works { (w n : MemberState) (log more : List Event) (now k : ℕ)
-        → HasLearnedOf w log more n → IsAmong w n → IsAtRest n now true
-        → works_at n.works k ≡ true
-        ↔ GivesTo (planned (replica_of n).world.setup (table_before (replica_of w).last w.terms.old)
-        (rebalanced_nodes w)) k n.terms.node }
+    ensures stable { (w n : MemberState) (log more : List Event) → Appends w log more → HasLearnedOf w log more n
+        → SeesStable n }
+    ensures works { (w n : MemberState) (log more : List Event) (now k : ℕ) (s : Sight)
+        → Appends w log more → HasLearnedOf w log more n → IsCalm n now → Sees n now s → to_do n s ≡ 0
+        → works_at n.works k ≡ true ↔ GivesTo (table_of w) k n.terms.node }
+    ensures turns { (xs : List Passage) (w : MemberState) (log more : List Event) (x : Passage)
+        → IsRound xs w log more → Contains xs x → (length x.before ≤ 4) × (length x.later ≤ 4) }
+    ensures ends { (xs : List Passage) (w : MemberState) (log more : List Event) (x : Passage)
+        → IsRound xs w log more → Contains xs x → SeesStable x.last }
+    ensures own { (xs : List Passage) (w : MemberState) (log more : List Event) (x : Passage) (k : ℕ)
+        → IsRound xs w log more → Contains xs x
+        → works_at x.last.works k ≡ true ↔ GivesTo (table_of w) k x.last.terms.node }
+    ensures one { (xs : List Passage) (w : MemberState) (log more : List Event) (x y : Passage) (k : ℕ)
+        → IsRound xs w log more → Contains xs x → Contains xs y
+        → works_at x.last.works k ≡ true → works_at y.last.works k ≡ true → x.last.terms.node ≡ y.last.terms.node }
+    ensures served { (xs : List Passage) (w : MemberState) (log more : List Event) (k : ℕ)
+        → IsRound xs w log more → k < (replica_of w).world.setup.partitions
+        → (x : Passage) × Contains xs x × (works_at x.last.works k ≡ true) }
     ensures some { (ms : List MemberState) × HaveOneView ms × (length ms ≡ 2) }
 {}

@@ -1,5 +1,5 @@
 use Rattle.bully_round.proofs.GroupLemmas.{changes_lem, ready_lem, somebody_lem}
-use Rattle.bully_round.proofs.RoundLemmas.{stable_for, works_lem}
+use Rattle.bully_round.proofs.RoundLemmas.{ends_stable_lem, one_works_lem, some_works_lem, stable_for, turns_lem, works_in_round, works_lem}
 use Rattle.bully_round.proofs.SomeView.{some_view_lem}
 use Rattle.bully_round.proofs.round_becomes_stable.Goals as goal
 
@@ -20,3 +20,18 @@ returns-clause-works c = works_lem
 
 pub returns-clause-some : goal.returns-clause-some
 returns-clause-some c = some_view_lem
+
+pub returns-clause-turns : goal.returns-clause-turns
+returns-clause-turns c = turns_lem
+
+pub returns-clause-ends : goal.returns-clause-ends
+returns-clause-ends c = ends_stable_lem
+
+pub returns-clause-own : goal.returns-clause-own
+returns-clause-own c = works_in_round
+
+pub returns-clause-one : goal.returns-clause-one
+returns-clause-one c = one_works_lem
+
+pub returns-clause-served : goal.returns-clause-served
+returns-clause-served c = some_works_lem
