@@ -5,3 +5,4 @@ pub mod GroupLemmas
 pub mod RoundLemmas
 pub mod SomeTurns
 pub mod SomeView
+pub mod SomeRound

@@ -62,7 +62,7 @@ served_behind (Some p) live offset served = served.0
 of_writer : (w n : MemberState) (log more : List Event) → Appends w log more → HasLearnedOf w log more n → Rebalances (replica_of n).world.setup log (table_before (replica_of w).last w.terms.old) (rebalanced_nodes w) more
 of_writer w n log more appends has = subst (λ (s : Setup). Rebalances s log (table_before (replica_of w).last w.terms.old) (rebalanced_nodes w) more) (sym has.setup) appends
 
-is_stable : (w n : MemberState) (log more : List Event) (offset : ℕ) → Appends w log more → HasLearnedOf w log more n → offset ≤ length log → IsStable (replica_of n) (rebalanced_nodes w) offset
+pub is_stable : (w n : MemberState) (log more : List Event) (offset : ℕ) → Appends w log more → HasLearnedOf w log more n → offset ≤ length log → IsStable (replica_of n) (rebalanced_nodes w) offset
 is_stable w n log more offset appends has low = stable_lem (replica_of n) log more (table_before (replica_of w).last w.terms.old) (rebalanced_nodes w) offset (of_writer w n log more appends has) has.learned low
 
 some_in : (nodes : List ℕ) (i : ℕ) → Contains nodes i → nodes ≢ []
@@ -108,6 +108,9 @@ module _ (w n : MemberState) (log more : List Event) (appends : Appends w log mo
 
   given_owns : (k : ℕ) → GivesTo plan.plan.table k n.terms.node → Owns n k
   given_owns k gives = let (o, is, in_it) = given_owned plan.plan.token (partitions_of plan.plan.table n.terms.node) k ((partitions_exact plan.plan.table n.terms.node k).1 gives) in (o, owned ∙ is, in_it)
+
+  pub owns_by : (k : ℕ) → GivesTo (table_of w) k n.terms.node → Owns n k
+  owns_by k gives = given_owns k (subst (λ (t : List ℕ). GivesTo t k n.terms.node) (sym table) gives)
 
   pub works_as : (now k : ℕ) (s : Sight) → IsCalm n now → Sees n now s → to_do n s ≡ 0 → works_at n.works k ≡ true ↔ GivesTo (table_of w) k n.terms.node
   works_as now k s calm sees none =

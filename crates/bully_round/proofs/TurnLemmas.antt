@@ -362,7 +362,7 @@ begun_left table node from (suc k) (a ∷ works) is = by_case (begun_left table 
 pub given_left : (table : List ℕ) (node k : ℕ) → GivesTo table k node → is_left (Some table) node k ≡ true
 given_left table node k gives = ap (λ (o : Option ℕ). option_map_or (λ owner. owner == node) o false) gives ∙ same_num node
 
-short : (table : List ℕ) (k node : ℕ) → GivesTo table k node → k < length table
+pub short : (table : List ℕ) (k node : ℕ) → GivesTo table k node → k < length table
 short [] k node gives = absurd (cc gives)
 short (o ∷ table) zero node gives = omega arith
 short (o ∷ table) (suc k) node gives = let low = short table k node gives in omega (arith, low)

@@ -9,6 +9,7 @@ ghost use Rattle.bully_member.specs.Due.{Sees, due};
 ghost use Rattle.bully_member.specs.Member.{MemberState, SeesStable, above, all_ready, replica_of};
 ghost use Rattle.bully_work.specs.Working.{GivesTo};
 ghost use Rattle.bully_calls.specs.declared.event.Event.{Event};
+ghost use Rattle.bully_member.specs.Rebalance.{rebalanced_nodes};
 ghost use Rattle.bully_member.specs.Times.{turn_left};
 ghost use Rattle.bully_member.specs.declared.values.Sight.{Sight};
 ghost use Rattle.bully_member.specs.declared.values.Step.{Step as StepState};
@@ -57,4 +58,7 @@ pub fn round_becomes_stable()
         → IsRound xs w log more → k < (replica_of w).world.setup.partitions
         → (x : Passage) × Contains xs x × (works_at x.last.works k ≡ true) }
     ensures some { (ms : List MemberState) × HaveOneView ms × (length ms ≡ 2) }
+    ensures after { (w : MemberState) × (log more : List Event) × Appends w log more
+        × ((i : ℕ) → Contains (rebalanced_nodes w) i → (n : MemberState) × (now : ℕ) × (n.terms.node ≡ i)
+        × HasLearnedOf w log more n × IsAtRest n now true) }
 {}
