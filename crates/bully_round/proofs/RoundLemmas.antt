@@ -1,5 +1,5 @@
 -- After the rebalance.
-use Rattle.std.proofs.Common.{rules, ◌≡◌, ◌≢◌, ◌↔◌, ◌<◌, ◌≤◌, ◌+◌, ◌++◌, ◌&&◌, ◌||◌, ◌==◌, not, if◌then◌else◌, cond, ℕ, zero, suc, Bool, true, false, List, [], ◌∷◌, Option, Some, None, Contains, nat_lt, max, fold, filter, length, map, slice_get, get_or, arith, refl, sym, ap, subst, ◌∙◌}
+use Rattle.std.proofs.Common.{rules, ◌≡◌, ◌≢◌, ◌↔◌, ◌<◌, ◌≤◌, ◌+◌, ◌*◌, ◌++◌, ◌&&◌, ◌||◌, ◌==◌, not, if◌then◌else◌, cond, ℕ, zero, suc, Bool, true, false, List, [], ◌∷◌, Option, Some, None, Contains, nat_lt, max, fold, filter, length, map, slice_get, get_or, arith, refl, sym, ap, subst, ◌∙◌}
 use Rattle.std.proofs.lemmas.Bool.Decides.{nat_tests}
 use Rattle.std.proofs.lemmas.Option.{slice_get-get_or}
 use Rattle.std.specs.Option.{option_map, option_map_or}
@@ -7,7 +7,7 @@ use Rattle.bully_agree.specs.Fencing.{Planned}
 use Rattle.bully_base.specs.Setup.{IsNode, Setup}
 use Rattle.bully_calls.specs.declared.event.Event.{Event}
 use Rattle.bully_member.specs.Activities.{works_at}
-use Rattle.bully_member.specs.Due.{Sees}
+use Rattle.bully_member.specs.Due.{Sees, due}
 use Rattle.bully_member.specs.Member.{MemberState, SeesStable, heeded, heeds_promises, is_in_group, most_promised, offset_in, replica_of}
 use Rattle.bully_member.specs.Rebalance.{rebalanced_nodes}
 use Rattle.bully_member.specs.Told.{to_snapshot}
@@ -22,10 +22,11 @@ use Rattle.bully_rebalance.specs.Rebalancing.{PlansAnew, Rebalances, table_befor
 use Rattle.bully_rebalance.specs.Stable.{IsServed, IsStable}
 use Rattle.bully_rebalance.specs.declared.holding.Owned.{Owned}
 use Rattle.bully_replica.specs.Replica.{ReplicaState, token_of}
+use Rattle.bully_round.proofs.DueLemmas.{rests_lem}
 use Rattle.bully_round.proofs.OwnLemmas.{exactly_lem}
-use Rattle.bully_round.specs.Group.{Appends, HasLearnedOf, IsAtRest, IsRound, Passage, Passes, ready_in, table_of}
+use Rattle.bully_round.specs.Group.{Appends, HasLearnedOf, IsAtRest, IsRound, Passage, Passes, all_turns, ready_in, table_of, turns_in}
 use Rattle.bully_round.proofs.TurnLemmas.{bounded_lem, true_is}
-use Rattle.bully_round.specs.Progress.{IsCalm, Owns, to_do}
+use Rattle.bully_round.specs.Progress.{IsCalm, Owns, step_at_rest, to_do}
 use Rattle.bully_table.specs.Planning.{planned}
 use Rattle.bully_work.specs.Working.{GivesTo}
 
@@ -124,8 +125,26 @@ works_lem w n log more now k s appends has calm sees none = works_as w n log mor
 
 -- The whole round.
 
-pub turns_lem : (xs : List Passage) (w : MemberState) (log more : List Event) (x : Passage) → IsRound xs w log more → Contains xs x → (length x.before ≤ 4) × (length x.later ≤ 4)
-turns_lem xs w log more x round has = (bounded_lem x.first x.ready x.before (round.passes x has).prepares, bounded_lem (to_snapshot x.ready) x.last x.later (round.passes x has).goes_on)
+turns_of : (x : Passage) (w : MemberState) (log more : List Event) → Passes w log more x → turns_in x ≤ 12
+turns_of x w log more passes =
+    let one = bounded_lem x.start x.promised x.first passes.promises in
+    let two = bounded_lem (to_snapshot x.promised) x.ready x.second passes.looks in
+    let three = bounded_lem (to_snapshot x.ready) x.last x.third passes.goes_on in
+    omega (arith, one, two, three)
+
+all_turns_of : (xs : List Passage) (w : MemberState) (log more : List Event) → ((x : Passage) → Contains xs x → Passes w log more x) → all_turns xs ≤ 12 * length xs
+all_turns_of [] w log more passes = omega arith
+all_turns_of (x ∷ xs) w log more passes =
+    let first = turns_of x w log more (passes x (0, omega arith, refl)) in
+    let rest = all_turns_of xs w log more (λ y has. passes y (suc has.0, omega (arith, has.1), has.2)) in
+    omega (arith, first, rest)
+
+pub turns_lem : (xs : List Passage) (w : MemberState) (log more : List Event) → IsRound xs w log more → all_turns xs ≤ 12 * length xs
+turns_lem xs w log more round = all_turns_of xs w log more round.passes
+
+pub waits_lem : (xs : List Passage) (w : MemberState) (log more : List Event) (x : Passage) (now : ℕ) (s : Sight) → IsRound xs w log more → Contains xs x → IsCalm x.last now → Sees x.last now s → to_do x.last s ≡ 0 → due x.last now s ≡ step_at_rest x.last now true
+waits_lem xs w log more x now s round has calm sees none =
+    rests_lem x.last now s calm sees none ∙ ap (step_at_rest x.last now) (true_is s.is_stable (sees.stable.1 (stable_for w x.last log more round.appends (round.passes x has).learned)))
 
 pub ends_stable_lem : (xs : List Passage) (w : MemberState) (log more : List Event) (x : Passage) → IsRound xs w log more → Contains xs x → SeesStable x.last
 ends_stable_lem xs w log more x round has = stable_for w x.last log more round.appends (round.passes x has).learned

@@ -1,5 +1,5 @@
 -- The members of a group who all have one view of the store, and what a rebalance makes of it.
-use Rattle.std.specs.Prelude.{◌≡◌, ◌≤◌, ◌++◌, ℕ, Bool, true, false, List, Contains, length, map}
+use Rattle.std.specs.Prelude.{◌≡◌, ◌≤◌, ◌+◌, ◌++◌, ℕ, Bool, true, false, List, [], ◌∷◌, Contains, length, map}
 use Rattle.bully_base.specs.Setup.{IsNode}
 use Rattle.bully_calls.specs.declared.event.Event.{Event}
 use Rattle.bully_member.specs.Activities.{busy}
@@ -68,21 +68,33 @@ pub record HasLearnedOf (w : MemberState) (log more : List Event) (n : MemberSta
   pub others : (p : Lease) → Contains n.leases p → offset_in n.terms.epoch p.promise ≤ length log
   pub goes_on : is_closing n ≡ false
 
--- What becomes of one member in a round. From its first state it does what it has to do, and is then ready for the
--- change. After that it does again what it has to do, and then is as last.
+-- What becomes of one member in a round. From any state it does what it has to do, and then has promised. It is woken, as
+-- others promise, does again what it has to do, and then is ready for the change. After that it is woken once more.
 pub record Passage : Type 0 where
-  pub first : MemberState
-  pub before : List Turn
+  pub start : MemberState
+  pub first : List Turn
+  pub promised : MemberState
+  pub second : List Turn
   pub ready : MemberState
-  pub later : List Turn
+  pub third : List Turn
   pub last : MemberState
 
 abbrev pub ready_in : Passage → MemberState
 ready_in x = x.ready
 
+-- how many turns it takes
+abbrev pub turns_in : Passage → ℕ
+turns_in x = length x.first + length x.second + length x.third
+
+abbrev pub all_turns : List Passage → ℕ
+all_turns [] = 0
+all_turns (x ∷ xs) = turns_in x + all_turns xs
+
+-- ... with nothing left to do in the end
 pub record Passes (w : MemberState) (log more : List Event) (x : Passage) : Type 0 where
-  pub prepares : DoesTasks x.first x.before x.ready
-  pub goes_on : DoesTasks (to_snapshot x.ready) x.later x.last
+  pub promises : DoesTasks x.start x.first x.promised
+  pub looks : DoesTasks (to_snapshot x.promised) x.second x.ready
+  pub goes_on : DoesTasks (to_snapshot x.ready) x.third x.last
   pub learned : HasLearnedOf w log more x.last
   pub now : ℕ
   pub sight : Sight

@@ -1,5 +1,5 @@
 use Rattle.bully_round.proofs.GroupLemmas.{changes_lem, ready_lem, somebody_lem}
-use Rattle.bully_round.proofs.RoundLemmas.{ends_stable_lem, one_works_lem, some_works_lem, stable_for, turns_lem, works_in_round, works_lem}
+use Rattle.bully_round.proofs.RoundLemmas.{ends_stable_lem, one_works_lem, some_works_lem, stable_for, turns_lem, waits_lem, works_in_round, works_lem}
 use Rattle.bully_round.proofs.SomeRound.{some_rest_lem}
 use Rattle.bully_round.proofs.SomeView.{some_view_lem}
 use Rattle.bully_round.proofs.round_becomes_stable.Goals as goal
@@ -39,3 +39,6 @@ returns-clause-served c = some_works_lem
 
 pub returns-clause-after : goal.returns-clause-after
 returns-clause-after c = some_rest_lem
+
+pub returns-clause-waits : goal.returns-clause-waits
+returns-clause-waits c = waits_lem
