@@ -1,5 +1,6 @@
 pub mod DueLemmas
 pub mod TurnLemmas
+pub mod FreshLemmas
 pub mod OwnLemmas
 pub mod GroupLemmas
 pub mod RoundLemmas

@@ -225,7 +225,7 @@ own_fresh : (f : MemberState) (session : SessionId) (own : Option (Promise × Bo
 own_fresh f session None by since fresh live = absurd (cc live)
 own_fresh f session (Some own) by since fresh live = fresh
 
-by_fresh : (f : MemberState) (state : SessionState) (here : Option Lease) (by : SessionId) (since : ℕ) → f.needs_snapshot ≡ false → (own_by f state here).session ≡ SessionState.Live by since → (own_by f state here).needs_snapshot ≡ false
+pub by_fresh : (f : MemberState) (state : SessionState) (here : Option Lease) (by : SessionId) (since : ℕ) → f.needs_snapshot ≡ false → (own_by f state here).session ≡ SessionState.Live by since → (own_by f state here).needs_snapshot ≡ false
 by_fresh f SessionState.Absent here by since fresh live = fresh
 by_fresh f (SessionState.Unknown session) here by since fresh live = fresh
 by_fresh f (SessionState.Live session at) here by since fresh live = own_fresh f session (own_promise f session here) by since fresh live
@@ -235,30 +235,33 @@ seen_most m s true None = omega arith
 seen_most m s true (Some token) = unless_most (s.may_go_on && (s.has_all && (token == m.token)))
 seen_most m s false token = unless_most (is_newcomer m || (not (is_affected m m.terms.node) || (s.may_go_on && has_promised m)))
 
+-- what the member is then
+pub look_is : (m behind after : MemberState) (now at : ℕ) (leases : List Lease) (has_unknown has_request : Bool) → behind.asked ≡ Some (record { request = Request.Snapshot; at = now }) → behind.terms.epoch ≡ m.terms.epoch
+    → after ≡ snapshot_read behind at m.terms.epoch leases has_unknown has_request after.coming after.affected
+    → after ≡ found_here (with_arrivals behind at leases) at leases has_unknown has_request after.coming after.affected
+look_is m behind after now at leases has_unknown has_request asked same is =
+    is ∙ member_else (not (awaits_snapshot behind.asked)) behind inside (ap (λ a. not (awaits_snapshot a)) asked) ∙ member_else (not (m.terms.epoch == behind.terms.epoch)) (record behind { is_past = true; asked = None }) here epoch
+  where
+    here : MemberState
+    here = found_here (with_arrivals behind at leases) at leases has_unknown has_request after.coming after.affected
+
+    inside : MemberState
+    inside = if not (m.terms.epoch == behind.terms.epoch) then record behind { is_past = true; asked = None } else here
+
+    epoch : not (m.terms.epoch == behind.terms.epoch) ≡ false
+    epoch = ap (λ e. not (m.terms.epoch == e)) same ∙ ap not (same_num m.terms.epoch)
+
 look_fresh : (m behind after : MemberState) (now at later : ℕ) (leases : List Lease) (has_unknown has_request : Bool) → IsCalm after later → behind.asked ≡ Some (record { request = Request.Snapshot; at = now }) → behind.terms.epoch ≡ m.terms.epoch
     → after ≡ snapshot_read behind at m.terms.epoch leases has_unknown has_request after.coming after.affected → after.needs_snapshot ≡ false
-look_fresh m behind after now at later leases has_unknown has_request then_calm asked same is = subst (λ (x : MemberState). x.needs_snapshot ≡ false) (sym found_is) (by_fresh f f.session (lease_of f.terms.node f.leases) then_calm.session then_calm.since refl (subst (λ (x : MemberState). x.session ≡ SessionState.Live then_calm.session then_calm.since) found_is then_calm.live))
+look_fresh m behind after now at later leases has_unknown has_request then_calm asked same is =
+    let found_is = look_is m behind after now at leases has_unknown has_request asked same is in
+    ap (λ (x : MemberState). x.needs_snapshot) found_is ∙ by_fresh f f.session (lease_of f.terms.node f.leases) then_calm.session then_calm.since refl (sym (ap (λ (x : MemberState). x.session) found_is) ∙ then_calm.live)
   where
     b : MemberState
     b = with_arrivals behind at leases
 
     f : MemberState
     f = found b at leases has_unknown has_request (admitted_among b at leases) after.coming after.affected
-
-    here : MemberState
-    here = found_here b at leases has_unknown has_request after.coming after.affected
-
-    inside : MemberState
-    inside = if not (m.terms.epoch == behind.terms.epoch) then record behind { is_past = true; asked = None } else here
-
-    awaits : not (awaits_snapshot behind.asked) ≡ false
-    awaits = ap (λ a. not (awaits_snapshot a)) asked
-
-    epoch : not (m.terms.epoch == behind.terms.epoch) ≡ false
-    epoch = ap (λ e. not (m.terms.epoch == e)) same ∙ ap not (same_num m.terms.epoch)
-
-    found_is : after ≡ here
-    found_is = is ∙ member_else (not (awaits_snapshot behind.asked)) behind inside awaits ∙ member_else (not (m.terms.epoch == behind.terms.epoch)) (record behind { is_past = true; asked = None }) here epoch
 
 look_falls : (m mid after : MemberState) (now at later : ℕ) (s t : Sight) → IsCalm after later → s.may_go_on ≡ true → m.needs_snapshot ≡ true
     → mid ≡ noted m now s.is_stable (Step.Ask Request.Snapshot) → HasLooked mid at after → to_do after t < to_do m s

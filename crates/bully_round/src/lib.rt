@@ -5,14 +5,17 @@
 
 ghost use Rattle.std.specs.Prelude.{◌≡◌, ◌≢◌, ◌<◌, ◌≤◌, ◌↔◌, ◌*◌, ℕ, [], Contains, List, false, length, true};
 ghost use Rattle.bully_member.specs.Activities.{works_at};
-ghost use Rattle.bully_member.specs.Due.{Sees, due};
+ghost use Rattle.bully_member.specs.Due.{Sees, due, is_outdated};
 ghost use Rattle.bully_member.specs.Member.{MemberState, SeesStable, above, all_ready, replica_of};
 ghost use Rattle.bully_work.specs.Working.{GivesTo};
 ghost use Rattle.bully_calls.specs.declared.event.Event.{Event};
 ghost use Rattle.bully_member.specs.Rebalance.{rebalanced_nodes};
 ghost use Rattle.bully_member.specs.Times.{turn_left};
+ghost use Rattle.bully_member.specs.declared.values.Request.{Request};
+ghost use Rattle.bully_member.specs.declared.values.SessionId.{SessionId};
+ghost use Rattle.bully_member.specs.declared.values.SessionState.{SessionState};
 ghost use Rattle.bully_member.specs.declared.values.Sight.{Sight};
-ghost use Rattle.bully_member.specs.declared.values.Step.{Step as StepState};
+ghost use Rattle.bully_member.specs.declared.values.Step.{Step};
 ghost use Rattle.bully_round.specs.Group.{Appends, HasLearnedOf, HaveOneView, IsAtRest, IsRound, Passage, all_turns, table_of};
 ghost use Rattle.bully_round.specs.Progress.{DoesTasks, IsCalm, Owns, TakesTurn, Turn, change_of, is_task, step_at_rest, to_do};
 
@@ -27,18 +30,22 @@ ghost use Rattle.bully_round.specs.Progress.{DoesTasks, IsCalm, Owns, TakesTurn,
 /// - `falls`: each turn that does some of it leaves less.
 /// - `bounded`: so after at most 4 such turns nothing is left. It doesn't read snapshots, promise or begin for ever.
 /// - `exactly`: if nothing is left in a stable group, it works on exactly what its node owns.
+/// - `fresh`: once it has read a snapshot, and still has its lease, none is due at that moment.
 /// - `some`: there are such turns. A member that works before it has read a snapshot stops, reads one and promises.
 pub fn progress_of_one()
     ensures acts { (m : MemberState) (now : ℕ) (s : Sight) → IsCalm m now → Sees m now s → 0 < to_do m s
         → is_task (due m now s) ≡ true }
     ensures rests { (m : MemberState) (now : ℕ) (s : Sight) → IsCalm m now → Sees m now s → to_do m s ≡ 0
         → due m now s ≡ step_at_rest m now s.is_stable }
-    ensures falls { (m after : MemberState) (now at later : ℕ) (step : StepState) (s t : Sight)
+    ensures falls { (m after : MemberState) (now at later : ℕ) (step : Step) (s t : Sight)
         → IsCalm m now → Sees m now s → TakesTurn m now at step after → is_task step ≡ true
         → IsCalm after later → Sees after later t → to_do after t < to_do m s }
     ensures bounded { (m after : MemberState) (turns : List Turn) → DoesTasks m turns after → length turns ≤ 4 }
     ensures exactly { (m : MemberState) (now : ℕ) (s : Sight) → IsCalm m now → Sees m now s → s.is_stable ≡ true
         → to_do m s ≡ 0 → (k : ℕ) → works_at m.works k ≡ true ↔ Owns m k }
+    ensures fresh { (m after : MemberState) (now at : ℕ) (session : SessionId) (since : ℕ)
+        → TakesTurn m now at (Step.Ask Request.Snapshot) after
+        → after.session ≡ SessionState.Live session since → is_outdated after at ≡ false }
     ensures some { (m after : MemberState) × (turns : List Turn) × DoesTasks m turns after × (length turns ≡ 3) }
 {}
 

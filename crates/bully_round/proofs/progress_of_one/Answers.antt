@@ -1,3 +1,4 @@
+use Rattle.bully_round.proofs.FreshLemmas.{fresh_lem}
 use Rattle.bully_round.proofs.DueLemmas.{acts_lem, rests_lem}
 use Rattle.bully_round.proofs.SomeTurns.{some_lem}
 use Rattle.bully_round.proofs.OwnLemmas.{exactly_lem}
@@ -21,3 +22,6 @@ returns-clause-exactly c = exactly_lem
 
 pub returns-clause-some : goal.returns-clause-some
 returns-clause-some c = some_lem
+
+pub returns-clause-fresh : goal.returns-clause-fresh
+returns-clause-fresh c = fresh_lem
