@@ -4,6 +4,7 @@ pub mod FreshLemmas
 pub mod OwnLemmas
 pub mod GroupLemmas
 pub mod RoundLemmas
+pub mod AgainLemmas
 pub mod SomeTurns
 pub mod SomeView
 pub mod SomeRound

@@ -1,17 +1,19 @@
 -- The members of a group who all have one view of the store, and what a rebalance makes of it.
-use Rattle.std.specs.Prelude.{◌≡◌, ◌≤◌, ◌+◌, ◌++◌, ℕ, Bool, true, false, List, [], ◌∷◌, Contains, length, map}
+use Rattle.std.specs.Prelude.{◌≡◌, ◌≤◌, ◌+◌, ◌++◌, ℕ, Bool, true, false, List, [], ◌∷◌, Contains, Some, length, map}
 use Rattle.bully_base.specs.Setup.{IsNode}
 use Rattle.bully_calls.specs.declared.event.Event.{Event}
 use Rattle.bully_member.specs.Activities.{busy}
 use Rattle.bully_member.specs.Due.{Sees, is_newcomer}
-use Rattle.bully_member.specs.Member.{MemberState, is_closing, offset_in, replica_of}
+use Rattle.bully_member.specs.Member.{MemberState, is_closing, lease_of, offset_in, replica_of}
 use Rattle.bully_member.specs.Rebalance.{rebalanced_nodes}
 use Rattle.bully_member.specs.Told.{to_snapshot}
 use Rattle.bully_member.specs.declared.values.Lease.{Lease}
+use Rattle.bully_member.specs.declared.values.Request.{Request}
 use Rattle.bully_member.specs.declared.values.Sight.{Sight}
+use Rattle.bully_member.specs.declared.values.Step.{Step}
 use Rattle.bully_rebalance.specs.Rebalancing.{Rebalances, table_before}
 use Rattle.bully_replica.specs.Replica.{IsLogOf}
-use Rattle.bully_round.specs.Progress.{DoesTasks, IsCalm, Turn, to_do}
+use Rattle.bully_round.specs.Progress.{DoesTasks, IsCalm, TakesTurn, Turn, to_do}
 use Rattle.bully_table.specs.Planning.{planned}
 
 -- at this moment the member is calm, and has nothing left to do by itself, in a group that is stable for it or isn't
@@ -110,3 +112,23 @@ pub record IsRound (xs : List Passage) (w : MemberState) (log more : List Event)
   pub appends : Appends w log more
   pub passes : (x : Passage) → Contains xs x → Passes w log more x
   pub all : (i : ℕ) → Contains (rebalanced_nodes w) i → (x : Passage) × Contains xs x × (x.last.terms.node ≡ i)
+
+-- Members that look again, as others have promised.
+
+-- m had nothing left to do, was woken, and has read this snapshot. Nothing was appended, and nobody came or went: it
+-- foresees the same change. Its own lease is as it left it.
+pub record LooksAgain (leases : List Lease) (m after : MemberState) : Type 0 where
+  pub before : ℕ
+  pub rest : IsAtRest m before false
+  pub now : ℕ
+  pub at : ℕ
+  pub turn : TakesTurn (to_snapshot m) now at (Step.Ask Request.Snapshot) after
+  pub seen : turn.reported.leases ≡ leases
+  pub replica : replica_of after ≡ replica_of m
+  pub group : after.group ≡ m.group
+  pub coming : after.coming ≡ m.coming
+  pub affected : after.affected ≡ m.affected
+  pub own : Lease
+  pub there : lease_of m.terms.node leases ≡ Some own
+  pub session : own.session ≡ rest.calm.session
+  pub its : IsLeaseOf m own

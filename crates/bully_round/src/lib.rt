@@ -11,12 +11,13 @@ ghost use Rattle.bully_work.specs.Working.{GivesTo};
 ghost use Rattle.bully_calls.specs.declared.event.Event.{Event};
 ghost use Rattle.bully_member.specs.Rebalance.{rebalanced_nodes};
 ghost use Rattle.bully_member.specs.Times.{turn_left};
+ghost use Rattle.bully_member.specs.declared.values.Lease.{Lease};
 ghost use Rattle.bully_member.specs.declared.values.Request.{Request};
 ghost use Rattle.bully_member.specs.declared.values.SessionId.{SessionId};
 ghost use Rattle.bully_member.specs.declared.values.SessionState.{SessionState};
 ghost use Rattle.bully_member.specs.declared.values.Sight.{Sight};
 ghost use Rattle.bully_member.specs.declared.values.Step.{Step};
-ghost use Rattle.bully_round.specs.Group.{Appends, HasLearnedOf, HaveOneView, IsAtRest, IsRound, Passage, all_turns, table_of};
+ghost use Rattle.bully_round.specs.Group.{Appends, HasLearnedOf, HaveOneView, IsAtRest, IsRound, LooksAgain, Passage, all_turns, table_of};
 ghost use Rattle.bully_round.specs.Progress.{DoesTasks, IsCalm, Owns, TakesTurn, Turn, change_of, is_task, step_at_rest, to_do};
 
 /// The law of one member's progress. A member is *calm* if it has its lease, goes on in its epoch, and nothing is under
@@ -52,7 +53,11 @@ pub fn progress_of_one()
 /// The law of a round: how members among whom nobody comes or goes make their group stable, by one append. No clock is
 /// needed, but that each takes its turns, and that at each it is calm.
 ///
-/// Before the change, once all have one view and nothing is left for any to do by itself (`HaveOneView`):
+/// Before the change:
+///
+/// - `again`: one that had nothing left to do, and looks again because others have promised, still has nothing left.
+///
+/// Once all have one view, and nothing is left for any to do by itself (`HaveOneView`):
 ///
 /// - `ready`: all are ready for the change, as far as each of them knows. So no two wait for each other.
 /// - `changes`: each whose turn has come changes the log.
@@ -74,6 +79,8 @@ pub fn progress_of_one()
 ///
 /// There are such members: `some` before the change, two who have promised, and `after` it.
 pub fn round_becomes_stable()
+    ensures again { (leases : List Lease) (m after : MemberState) (later : ℕ) (t : Sight) → LooksAgain leases m after
+        → IsCalm after later → Sees after later t → t.is_stable ≡ false → to_do after t ≡ 0 }
     ensures ready { (ms : List MemberState) (m : MemberState) → HaveOneView ms → Contains ms m → all_ready m ≡ true }
     ensures changes { (ms : List MemberState) (m : MemberState) (now : ℕ) (s : Sight) → HaveOneView ms → Contains ms m
         → IsAtRest m now false → Sees m now s → turn_left (above m) m.ttl now m.last_change.at ≡ 0
