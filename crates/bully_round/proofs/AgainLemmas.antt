@@ -1,5 +1,5 @@
 -- A member that has promised, and looks again, has nothing left to do.
-use Rattle.std.proofs.Common.{◌≡◌, ◌↔◌, ◌&&◌, ◌||◌, ◌==◌, ◌+◌, not, if◌then◌else◌, ℕ, Bool, true, false, List, Option, Some, None, bytes_eq, arith, refl, sym, ap, subst, ◌∙◌}
+use Rattle.std.proofs.Common.{◌≡◌, ◌↔◌, ◌&&◌, ◌||◌, ◌==◌, ◌+◌, ◌∷◌, [], ◌<◌, not, if◌then◌else◌, ℕ, zero, suc, Bool, true, false, List, Option, Some, None, Contains, map, bytes_eq, arith, refl, sym, ap, subst, ◌∙◌}
 use Rattle.std.proofs.lemmas.Slice.Eq.{bytes_eq-Decides}
 use Rattle.bully_member.specs.Activities.{busy, works_at}
 use Rattle.bully_member.specs.Due.{Sees, asked_for, goes_on, goes_on_by, is_newcomer, last_table, token_now}
@@ -21,7 +21,7 @@ use Rattle.bully_rebalance.specs.Rebalancing.{is_member}
 use Rattle.bully_replica.specs.Replica.{ReplicaState}
 use Rattle.bully_replica.specs.RowReplica.{RowReplicaState}
 use Rattle.bully_round.proofs.TurnLemmas.{goes_is, is_true, look_is, same_num, table_if, true_is}
-use Rattle.bully_round.specs.Group.{IsAtRest, IsLeaseOf, LooksAgain}
+use Rattle.bully_round.specs.Group.{HasSameView, HaveLooked, HaveOneView, IsAtRest, IsLeaseOf, Look, LooksAgain, after_in}
 use Rattle.bully_round.specs.Progress.{HasLooked, IsCalm, to_begin, to_do, to_do_seen, to_do_then, to_promise, unless}
 
 -- What it finds of its own lease.
@@ -173,5 +173,76 @@ module _ (leases : List Lease) (m after : MemberState) (later : ℕ) (t : Sight)
       let last = none in
       omega (arith, first, second, third, last)
 
+  pub rest_then : IsAtRest after later false
+  rest_then = record { sight = t; calm = then_calm; sees = then_sees; stable = still; none = nothing_left }
+
+  pub lease_then : IsLeaseOf after looks.own
+  lease_then = record {
+    node = looks.its.node ∙ sym (ap (λ (x : Terms). x.node) then_terms);
+    promise = sym (ap (λ (x : MemberState). x.own) is);
+    kept = λ exact. sym ((bytes_eq-Decides (busy f.works) looks.own.kept).0 (sym (ap (λ (x : MemberState). x.is_exact) is) ∙ exact)) ∙ sym (ap (λ (x : MemberState). busy x.works) is);
+  }
+
+  pub leases_then : after.leases ≡ leases
+  leases_then = ap (λ (x : MemberState). x.leases) is ∙ looks.seen
+
+  pub unknown_then : after.has_unknown ≡ looks.turn.reported.has_unknown
+  unknown_then = ap (λ (x : MemberState). x.has_unknown) is
+
+  pub epoch_then : after.terms.epoch ≡ m.terms.epoch
+  epoch_then = ap (λ (x : Terms). x.epoch) then_terms
+
+  pub newcomer_then : is_newcomer after ≡ is_newcomer m
+  newcomer_then = newcomer
+
 pub again_lem : (leases : List Lease) (m after : MemberState) (later : ℕ) (t : Sight) → LooksAgain leases m after → IsCalm after later → Sees after later t → t.is_stable ≡ false → to_do after t ≡ 0
 again_lem leases m after later t looks then_calm then_sees still = nothing_left leases m after later t looks then_calm then_sees still
+
+-- All of them.
+
+of_after : (xs : List Look) (m : MemberState) → Contains (map after_in xs) m → (x : Look) × Contains xs x × (m ≡ x.after)
+of_after [] m (i, low, at) = absurd (omega (arith, low))
+of_after (x ∷ xs) m (zero, low, at) = (x, (0, omega arith, refl), cc at)
+of_after (x ∷ xs) m (suc i, low, at) = let (y, has, same) = of_after xs m (i, omega (arith, low), at) in (y, (suc has.0, omega (arith, has.1), has.2), same)
+
+after_of : (xs : List Look) (x : Look) → Contains xs x → Contains (map after_in xs) x.after
+after_of [] x (i, low, at) = absurd (omega (arith, low))
+after_of (y ∷ xs) x (zero, low, at) = let same : y ≡ x = cc at in (0, omega arith, ap (λ (z : Look). z.after) same)
+after_of (y ∷ xs) x (suc i, low, at) = let has = after_of xs x (i, omega (arith, low), at) in (suc has.0, omega (arith, has.1), has.2)
+
+module _ (leases : List Lease) (xs : List Look) (looked : HaveLooked leases xs) where
+  each : (P : MemberState → Type 0) → ((x : Look) → Contains xs x → P x.after) → (m : MemberState) → Contains (map after_in xs) m → P m
+  each P holds m has = let (x, there, same) = of_after xs m has in subst P (sym same) (holds x there)
+
+  same_view : (x y : Look) (one : Contains xs x) (other : Contains xs y) → HasSameView x.after y.after
+  same_view x y one other =
+      let was = looked.alike x y one other in
+      let a = looked.looks x one in
+      let b = looked.looks y other in
+      record {
+        replica = a.replica ∙ was.replica ∙ sym b.replica;
+        epoch = epoch_then leases x.before x.after x.later x.sight a (looked.calm x one) (looked.sees x one) (looked.unstable x one) ∙ was.epoch
+            ∙ sym (epoch_then leases y.before y.after y.later y.sight b (looked.calm y other) (looked.sees y other) (looked.unstable y other));
+        coming = a.coming ∙ was.coming ∙ sym b.coming;
+        affected = a.affected ∙ was.affected ∙ sym b.affected;
+      }
+
+  owner_of : (p : Lease) → Contains leases p → (n : MemberState) × Contains (map after_in xs) n × IsLeaseOf n p
+  owner_of p has =
+      let (x, there, same) = looked.owners p has in
+      (x.after, after_of xs x there, subst (IsLeaseOf x.after) (sym same) (lease_then leases x.before x.after x.later x.sight (looked.looks x there) (looked.calm x there) (looked.sees x there) (looked.unstable x there)))
+
+  leases_of : (x : Look) (there : Contains xs x) (p : Lease) → Contains x.after.leases p → (n : MemberState) × Contains (map after_in xs) n × IsLeaseOf n p
+  leases_of x there p has = owner_of p (subst (λ (ls : List Lease). Contains ls p) (leases_then leases x.before x.after x.later x.sight (looked.looks x there) (looked.calm x there) (looked.sees x there) (looked.unstable x there)) has)
+
+  pub one_view : HaveOneView (map after_in xs)
+  one_view = record {
+    rest = each (λ m. (now : ℕ) × IsAtRest m now false) (λ x there. (x.later, rest_then leases x.before x.after x.later x.sight (looked.looks x there) (looked.calm x there) (looked.sees x there) (looked.unstable x there)));
+    old = each (λ m. is_newcomer m ≡ false) (λ x there. newcomer_then leases x.before x.after x.later x.sight (looked.looks x there) (looked.calm x there) (looked.sees x there) (looked.unstable x there) ∙ looked.old x there);
+    alike = λ m n first second. each (λ a. HasSameView a n) (λ x one. each (HasSameView x.after) (λ y other. same_view x y one other) n second) m first;
+    leases = λ m p one has. each (λ a. Contains a.leases p → (n : MemberState) × Contains (map after_in xs) n × IsLeaseOf n p) (λ x there held. leases_of x there p held) m one has;
+    known = each (λ m. m.has_unknown ≡ false) (λ x there. unknown_then leases x.before x.after x.later x.sight (looked.looks x there) (looked.calm x there) (looked.sees x there) (looked.unstable x there) ∙ looked.known x there);
+  }
+
+pub view_lem : (leases : List Lease) (xs : List Look) → HaveLooked leases xs → HaveOneView (map after_in xs)
+view_lem leases xs looked = one_view leases xs looked

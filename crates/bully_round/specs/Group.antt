@@ -132,3 +132,25 @@ pub record LooksAgain (leases : List Lease) (m after : MemberState) : Type 0 whe
   pub there : lease_of m.terms.node leases ≡ Some own
   pub session : own.session ≡ rest.calm.session
   pub its : IsLeaseOf m own
+
+-- a member before and after it looks again, and when it takes its next turn
+pub record Look : Type 0 where
+  pub before : MemberState
+  pub after : MemberState
+  pub later : ℕ
+  pub sight : Sight
+
+abbrev pub after_in : Look → MemberState
+after_in x = x.after
+
+-- All look at the same snapshot, and the group isn't stable for any. They foresaw the same change, and none is a newcomer.
+-- Each lease is that of one of them, and no unknown process holds one.
+pub record HaveLooked (leases : List Lease) (xs : List Look) : Type 0 where
+  pub looks : (x : Look) → Contains xs x → LooksAgain leases x.before x.after
+  pub calm : (x : Look) → Contains xs x → IsCalm x.after x.later
+  pub sees : (x : Look) → Contains xs x → Sees x.after x.later x.sight
+  pub unstable : (x : Look) → Contains xs x → x.sight.is_stable ≡ false
+  pub alike : (x y : Look) → Contains xs x → Contains xs y → HasSameView x.before y.before
+  pub old : (x : Look) → Contains xs x → is_newcomer x.before ≡ false
+  pub owners : (p : Lease) → Contains leases p → (x : Look) × (has : Contains xs x) × (p ≡ (looks x has).own)
+  pub known : (x : Look) → (has : Contains xs x) → (looks x has).turn.reported.has_unknown ≡ false

@@ -3,7 +3,7 @@
 //! It builds on bully_run.
 #![tactic(auto)]
 
-ghost use Rattle.std.specs.Prelude.{◌≡◌, ◌≢◌, ◌<◌, ◌≤◌, ◌↔◌, ◌*◌, ℕ, [], Contains, List, false, length, true};
+ghost use Rattle.std.specs.Prelude.{◌≡◌, ◌≢◌, ◌<◌, ◌≤◌, ◌↔◌, ◌*◌, ℕ, [], Contains, List, false, length, map, true};
 ghost use Rattle.bully_member.specs.Activities.{works_at};
 ghost use Rattle.bully_member.specs.Due.{Sees, due, is_outdated};
 ghost use Rattle.bully_member.specs.Member.{MemberState, SeesStable, above, all_ready, replica_of};
@@ -17,7 +17,7 @@ ghost use Rattle.bully_member.specs.declared.values.SessionId.{SessionId};
 ghost use Rattle.bully_member.specs.declared.values.SessionState.{SessionState};
 ghost use Rattle.bully_member.specs.declared.values.Sight.{Sight};
 ghost use Rattle.bully_member.specs.declared.values.Step.{Step};
-ghost use Rattle.bully_round.specs.Group.{Appends, HasLearnedOf, HaveOneView, IsAtRest, IsRound, LooksAgain, Passage, all_turns, table_of};
+ghost use Rattle.bully_round.specs.Group.{Appends, HasLearnedOf, HaveLooked, HaveOneView, IsAtRest, IsRound, Look, LooksAgain, Passage, after_in, all_turns, table_of};
 ghost use Rattle.bully_round.specs.Progress.{DoesTasks, IsCalm, Owns, TakesTurn, Turn, change_of, is_task, step_at_rest, to_do};
 
 /// The law of one member's progress. A member is *calm* if it has its lease, goes on in its epoch, and nothing is under
@@ -56,6 +56,7 @@ pub fn progress_of_one()
 /// Before the change:
 ///
 /// - `again`: one that had nothing left to do, and looks again because others have promised, still has nothing left.
+/// - `view`: so once all have looked at the same snapshot again, they have one view.
 ///
 /// Once all have one view, and nothing is left for any to do by itself (`HaveOneView`):
 ///
@@ -81,6 +82,7 @@ pub fn progress_of_one()
 pub fn round_becomes_stable()
     ensures again { (leases : List Lease) (m after : MemberState) (later : ℕ) (t : Sight) → LooksAgain leases m after
         → IsCalm after later → Sees after later t → t.is_stable ≡ false → to_do after t ≡ 0 }
+    ensures view { (leases : List Lease) (xs : List Look) → HaveLooked leases xs → HaveOneView (map after_in xs) }
     ensures ready { (ms : List MemberState) (m : MemberState) → HaveOneView ms → Contains ms m → all_ready m ≡ true }
     ensures changes { (ms : List MemberState) (m : MemberState) (now : ℕ) (s : Sight) → HaveOneView ms → Contains ms m
         → IsAtRest m now false → Sees m now s → turn_left (above m) m.ttl now m.last_change.at ≡ 0

@@ -1,4 +1,4 @@
-use Rattle.bully_round.proofs.AgainLemmas.{again_lem}
+use Rattle.bully_round.proofs.AgainLemmas.{again_lem, view_lem}
 use Rattle.bully_round.proofs.GroupLemmas.{changes_lem, ready_lem, somebody_lem}
 use Rattle.bully_round.proofs.RoundLemmas.{ends_stable_lem, one_works_lem, some_works_lem, stable_for, turns_lem, waits_lem, works_in_round, works_lem}
 use Rattle.bully_round.proofs.SomeRound.{some_rest_lem}
@@ -46,3 +46,6 @@ returns-clause-waits c = waits_lem
 
 pub returns-clause-again : goal.returns-clause-again
 returns-clause-again c = again_lem
+
+pub returns-clause-view : goal.returns-clause-view
+returns-clause-view c = view_lem
