@@ -186,9 +186,6 @@ module _ (leases : List Lease) (m after : MemberState) (later : ℕ) (t : Sight)
   pub leases_then : after.leases ≡ leases
   leases_then = ap (λ (x : MemberState). x.leases) is ∙ looks.seen
 
-  pub unknown_then : after.has_unknown ≡ looks.turn.reported.has_unknown
-  unknown_then = ap (λ (x : MemberState). x.has_unknown) is
-
   pub epoch_then : after.terms.epoch ≡ m.terms.epoch
   epoch_then = ap (λ (x : Terms). x.epoch) then_terms
 
@@ -210,6 +207,9 @@ after_of [] x (i, low, at) = absurd (omega (arith, low))
 after_of (y ∷ xs) x (zero, low, at) = let same : y ≡ x = cc at in (0, omega arith, ap (λ (z : Look). z.after) same)
 after_of (y ∷ xs) x (suc i, low, at) = let has = after_of xs x (i, omega (arith, low), at) in (suc has.0, omega (arith, has.1), has.2)
 
+one_lease : (o : Option Lease) (a b : Lease) → o ≡ Some a → o ≡ Some b → a ≡ b
+one_lease o a b one other = cc (one, other)
+
 module _ (leases : List Lease) (xs : List Look) (looked : HaveLooked leases xs) where
   each : (P : MemberState → Type 0) → ((x : Look) → Contains xs x → P x.after) → (m : MemberState) → Contains (map after_in xs) m → P m
   each P holds m has = let (x, there, same) = of_after xs m has in subst P (sym same) (holds x there)
@@ -230,7 +230,8 @@ module _ (leases : List Lease) (xs : List Look) (looked : HaveLooked leases xs) 
   owner_of : (p : Lease) → Contains leases p → (n : MemberState) × Contains (map after_in xs) n × IsLeaseOf n p
   owner_of p has =
       let (x, there, same) = looked.owners p has in
-      (x.after, after_of xs x there, subst (IsLeaseOf x.after) (sym same) (lease_then leases x.before x.after x.later x.sight (looked.looks x there) (looked.calm x there) (looked.sees x there) (looked.unstable x there)))
+      let own : (looked.looks x there).own ≡ p = one_lease (lease_of x.before.terms.node leases) (looked.looks x there).own p (looked.looks x there).there same in
+      (x.after, after_of xs x there, subst (IsLeaseOf x.after) own (lease_then leases x.before x.after x.later x.sight (looked.looks x there) (looked.calm x there) (looked.sees x there) (looked.unstable x there)))
 
   leases_of : (x : Look) (there : Contains xs x) (p : Lease) → Contains x.after.leases p → (n : MemberState) × Contains (map after_in xs) n × IsLeaseOf n p
   leases_of x there p has = owner_of p (subst (λ (ls : List Lease). Contains ls p) (leases_then leases x.before x.after x.later x.sight (looked.looks x there) (looked.calm x there) (looked.sees x there) (looked.unstable x there)) has)
@@ -241,7 +242,7 @@ module _ (leases : List Lease) (xs : List Look) (looked : HaveLooked leases xs) 
     old = each (λ m. is_newcomer m ≡ false) (λ x there. newcomer_then leases x.before x.after x.later x.sight (looked.looks x there) (looked.calm x there) (looked.sees x there) (looked.unstable x there) ∙ looked.old x there);
     alike = λ m n first second. each (λ a. HasSameView a n) (λ x one. each (HasSameView x.after) (λ y other. same_view x y one other) n second) m first;
     leases = λ m p one has. each (λ a. Contains a.leases p → (n : MemberState) × Contains (map after_in xs) n × IsLeaseOf n p) (λ x there held. leases_of x there p held) m one has;
-    known = each (λ m. m.has_unknown ≡ false) (λ x there. unknown_then leases x.before x.after x.later x.sight (looked.looks x there) (looked.calm x there) (looked.sees x there) (looked.unstable x there) ∙ looked.known x there);
+    known = each (λ m. m.has_unknown ≡ false) looked.known;
   }
 
 pub view_lem : (leases : List Lease) (xs : List Look) → HaveLooked leases xs → HaveOneView (map after_in xs)

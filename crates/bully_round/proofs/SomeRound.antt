@@ -141,7 +141,7 @@ module _ (more : List Event) (rebalances : Rebalances setup [] None nodes more) 
     gives = is_given new.plan.table node 0
 
     abbrev n : MemberState
-    n = record (one node) { learned = record { replica = replica; rows = length more }; works = works_of gives; token = new.plan.token }
+    n = record (one node) { group = nodes; learned = record { replica = replica; rows = length more }; works = works_of gives; token = new.plan.token }
 
     has : HasLearnedOf (one 2) [] more n
     has = record {

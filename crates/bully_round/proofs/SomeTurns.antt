@@ -157,7 +157,7 @@ append_none : (rows : List Row) → rows ++ [] ≡ rows
 append_none [] = refl
 append_none (row ∷ rows) = ap (λ (xs : List Row). row ∷ xs) (append_none rows)
 
-no_more : (f : RowReplicaState) → FollowsUpTo [] f f []
+pub no_more : (f : RowReplicaState) → FollowsUpTo [] f f []
 no_more f = record { rows = []; read = []; parts = refl; mean = refl; counted = omega arith; version = refl; setup = refl; learned = λ earlier is. subst (λ rows. HasLearned f.replica rows) (sym (append_none earlier)) is }
 
 live_one : (i : ℕ) → Contains (1 ∷ []) i ↔ Contains (live_of (lease 1 0 ∷ [])) i

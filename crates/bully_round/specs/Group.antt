@@ -152,5 +152,6 @@ pub record HaveLooked (leases : List Lease) (xs : List Look) : Type 0 where
   pub unstable : (x : Look) → Contains xs x → x.sight.is_stable ≡ false
   pub alike : (x y : Look) → Contains xs x → Contains xs y → HasSameView x.before y.before
   pub old : (x : Look) → Contains xs x → is_newcomer x.before ≡ false
-  pub owners : (p : Lease) → Contains leases p → (x : Look) × (has : Contains xs x) × (p ≡ (looks x has).own)
-  pub known : (x : Look) → (has : Contains xs x) → (looks x has).turn.reported.has_unknown ≡ false
+  pub owners : (p : Lease) → Contains leases p
+      → (x : Look) × Contains xs x × (lease_of x.before.terms.node leases ≡ Some p)
+  pub known : (x : Look) → Contains xs x → x.after.has_unknown ≡ false

@@ -78,7 +78,8 @@ pub fn progress_of_one()
 /// - `one`: no two nodes work on one partition.
 /// - `served`: each partition is worked on.
 ///
-/// There are such members: `some` before the change, two who have promised, and `after` it.
+/// There are such members: two that have promised and look again (`look`), two of one view (`some`), and those that have
+/// learned a rebalance (`after`).
 pub fn round_becomes_stable()
     ensures again { (leases : List Lease) (m after : MemberState) (later : ℕ) (t : Sight) → LooksAgain leases m after
         → IsCalm after later → Sees after later t → t.is_stable ≡ false → to_do after t ≡ 0 }
@@ -110,6 +111,7 @@ pub fn round_becomes_stable()
     ensures served { (xs : List Passage) (w : MemberState) (log more : List Event) (k : ℕ)
         → IsRound xs w log more → k < (replica_of w).world.setup.partitions
         → (x : Passage) × Contains xs x × (works_at x.last.works k ≡ true) }
+    ensures look { (leases : List Lease) × (xs : List Look) × HaveLooked leases xs × (length xs ≡ 2) }
     ensures some { (ms : List MemberState) × HaveOneView ms × (length ms ≡ 2) }
     ensures after { (w : MemberState) × (log more : List Event) × Appends w log more
         × ((i : ℕ) → Contains (rebalanced_nodes w) i → (n : MemberState) × (now : ℕ) × (n.terms.node ≡ i)

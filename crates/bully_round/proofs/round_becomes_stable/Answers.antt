@@ -2,7 +2,7 @@ use Rattle.bully_round.proofs.AgainLemmas.{again_lem, view_lem}
 use Rattle.bully_round.proofs.GroupLemmas.{changes_lem, ready_lem, somebody_lem}
 use Rattle.bully_round.proofs.RoundLemmas.{ends_stable_lem, one_works_lem, some_works_lem, stable_for, turns_lem, waits_lem, works_in_round, works_lem}
 use Rattle.bully_round.proofs.SomeRound.{some_rest_lem}
-use Rattle.bully_round.proofs.SomeView.{some_view_lem}
+use Rattle.bully_round.proofs.SomeView.{some_look_lem, some_view_lem}
 use Rattle.bully_round.proofs.round_becomes_stable.Goals as goal
 
 pub returns-clause-ready : goal.returns-clause-ready
@@ -49,3 +49,6 @@ returns-clause-again c = again_lem
 
 pub returns-clause-view : goal.returns-clause-view
 returns-clause-view c = view_lem
+
+pub returns-clause-look : goal.returns-clause-look
+returns-clause-look c = some_look_lem
