@@ -1,25 +1,22 @@
 -- A member that has promised, and looks again, has nothing left to do.
-use Rattle.std.proofs.Common.{◌≡◌, ◌↔◌, ◌&&◌, ◌||◌, ◌==◌, ◌+◌, ◌∷◌, [], ◌<◌, not, if◌then◌else◌, ℕ, zero, suc, Bool, true, false, List, Option, Some, None, Contains, map, bytes_eq, arith, refl, sym, ap, subst, ◌∙◌}
+use Rattle.std.proofs.Common.{◌≡◌, ◌&&◌, ◌||◌, ◌==◌, ◌+◌, ◌∷◌, [], not, if◌then◌else◌, ℕ, zero, suc, Bool, true, false, List, Option, Some, None, Contains, map, bytes_eq, arith, refl, sym, ap, subst, ◌∙◌}
 use Rattle.std.proofs.lemmas.Slice.Eq.{bytes_eq-Decides}
 use Rattle.bully_member.specs.Activities.{busy, works_at}
 use Rattle.bully_member.specs.Due.{Sees, asked_for, goes_on, goes_on_by, is_newcomer, last_table, token_now}
 use Rattle.bully_member.specs.Learned.{after_learning}
 use Rattle.bully_member.specs.Member.{MemberState, admitted_among, has_promised, here, is_affected, lease_of, replica_of, same_promise}
-use Rattle.bully_member.specs.Told.{found, own_by, own_by_promise, own_of, own_promise, same_session, to_snapshot, with_arrivals}
+use Rattle.bully_member.specs.Told.{found, own_by, own_by_promise, own_of, same_session, to_snapshot, with_arrivals}
 use Rattle.bully_member.specs.declared.opening.Terms.{Terms}
 use Rattle.bully_member.specs.declared.values.Activity.{Activity}
-use Rattle.bully_member.specs.declared.values.Asked.{Asked}
 use Rattle.bully_member.specs.declared.values.Lease.{Lease}
 use Rattle.bully_member.specs.declared.values.Promise.{Promise}
 use Rattle.bully_member.specs.declared.values.Request.{Request}
 use Rattle.bully_member.specs.declared.values.SessionId.{SessionId}
 use Rattle.bully_member.specs.declared.values.SessionState.{SessionState}
 use Rattle.bully_member.specs.declared.values.Sight.{Sight}
-use Rattle.bully_member.specs.declared.values.Step.{Step}
 use Rattle.bully_rebalance.specs.Leaving.{is_left}
 use Rattle.bully_rebalance.specs.Rebalancing.{is_member}
 use Rattle.bully_replica.specs.Replica.{ReplicaState}
-use Rattle.bully_replica.specs.RowReplica.{RowReplicaState}
 use Rattle.bully_round.proofs.TurnLemmas.{goes_is, is_true, look_is, same_num, table_if, true_is}
 use Rattle.bully_round.specs.Group.{HasSameView, HaveLooked, HaveOneView, IsAtRest, IsLeaseOf, Look, LooksAgain, after_in}
 use Rattle.bully_round.specs.Progress.{HasLooked, IsCalm, to_begin, to_do, to_do_seen, to_do_then, to_promise, unless}

@@ -1,16 +1,13 @@
 -- What is due to a calm member.
-use Rattle.std.proofs.Common.{rules, ◌≡◌, ◌↔◌, ◌<◌, ◌+◌, ◌&&◌, ◌||◌, ◌==◌, not, if◌then◌else◌, ℕ, Bool, true, false, Option, Some, None, nat_lt, arith, refl, sym, ap, ◌∙◌}
+use Rattle.std.proofs.Common.{◌≡◌, ◌<◌, ◌+◌, ◌&&◌, ◌||◌, ◌==◌, not, if◌then◌else◌, ℕ, Bool, true, false, Option, Some, None, nat_lt, arith, refl, ap, ◌∙◌}
 use Rattle.std.specs.List.{list_any}
 use Rattle.bully_member.specs.Activities.{any_stopping, any_working}
 use Rattle.bully_member.specs.Due.{Sees, admission_wait, due, going_step, is_admitted_since, is_due, is_newcomer, is_none_of, is_outdated, live_step, session_step, stable_step, step_by_work, step_of_session, step_unless_awaiting, stopping_step, token_now, turn_step, unstable_step}
-use Rattle.bully_member.specs.Member.{MemberState, has_promised, is_affected, is_ready_itself, offset_of}
+use Rattle.bully_member.specs.Member.{MemberState, has_promised, is_affected, offset_of}
 use Rattle.bully_member.specs.Times.{pause_left, paused_backoff, renewal_left, sure}
-use Rattle.bully_member.specs.declared.values.Asked.{Asked}
-use Rattle.bully_member.specs.declared.values.Ending.{Ending}
 use Rattle.bully_member.specs.declared.values.Reason.{Reason}
 use Rattle.bully_member.specs.declared.values.Request.{Request}
 use Rattle.bully_member.specs.declared.values.SessionId.{SessionId}
-use Rattle.bully_member.specs.declared.values.SessionState.{SessionState}
 use Rattle.bully_member.specs.declared.values.Sight.{Sight}
 use Rattle.bully_member.specs.declared.values.Step.{Step}
 use Rattle.bully_member.specs.declared.values.Until.{Until}

@@ -1,12 +1,11 @@
 -- Once it has read a snapshot, none is due.
-use Rattle.std.proofs.Common.{◌≡◌, ◌↔◌, ◌⊎◌, inl, inr, ◌&&◌, ◌||◌, ◌==◌, ◌<◌, ◌+◌, not, if◌then◌else◌, ℕ, suc, zero, Bool, true, false, List, [], ◌∷◌, Option, Some, None, Contains, fold, arith, refl, sym, ap, subst, ◌∙◌}
+use Rattle.std.proofs.Common.{◌≡◌, ◌⊎◌, inl, inr, ◌&&◌, ◌||◌, ◌==◌, not, if◌then◌else◌, ℕ, suc, zero, Bool, true, false, List, [], ◌∷◌, Option, Some, None, Contains, fold, arith, refl, sym, ap, ◌∙◌}
 use Rattle.std.specs.List.{list_any}
 use Rattle.bully_base.proofs.NodeSetLemmas.{Contains-from, Has-from, with_node-members}
 use Rattle.bully_base.specs.NodeSet.{with_node}
-use Rattle.bully_member.specs.Due.{is_admitted_since, is_outdated, noted}
-use Rattle.bully_member.specs.Member.{MemberState, admitted_among, is_admitted, is_down, is_in_group, lease_of, replica_of, stay_left, with_admitted}
-use Rattle.bully_member.specs.Told.{found, found_here, own_by, own_by_promise, own_promise, snapshot_read, to_end_session, with_arrivals}
-use Rattle.bully_member.specs.declared.values.Asked.{Asked}
+use Rattle.bully_member.specs.Due.{is_admitted_since, is_outdated}
+use Rattle.bully_member.specs.Member.{MemberState, admitted_among, is_admitted, is_down, lease_of, stay_left, with_admitted}
+use Rattle.bully_member.specs.Told.{found, own_by, own_by_promise, own_promise, with_arrivals}
 use Rattle.bully_member.specs.declared.values.Lease.{Lease}
 use Rattle.bully_member.specs.declared.values.Promise.{Promise}
 use Rattle.bully_member.specs.declared.values.Request.{Request}

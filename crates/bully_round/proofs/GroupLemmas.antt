@@ -1,17 +1,14 @@
 -- Members of one view get on.
-use Rattle.std.proofs.Common.{rules, ◌≡◌, ◌≢◌, ◌↔◌, ◌<◌, ◌≤◌, ◌+◌, ◌*◌, ◌/◌, ◌-◌, ◌++◌, ◌&&◌, ◌||◌, ◌==◌, not, if◌then◌else◌, cond, ℕ, zero, suc, Bool, true, false, List, [], ◌∷◌, Option, Some, None, Contains, nat_lt, min, max, fold, filter, length, arith, refl, sym, ap, subst, ◌∙◌}
+use Rattle.std.proofs.Common.{◌≡◌, ◌≢◌, ◌<◌, ◌≤◌, ◌+◌, ◌&&◌, ◌||◌, ◌==◌, not, if◌then◌else◌, cond, ℕ, zero, suc, Bool, true, false, List, [], ◌∷◌, Option, Contains, nat_lt, min, arith, refl, sym, ap, subst, ◌∙◌}
 use Rattle.std.proofs.lemmas.Bool.Decides.{nat_tests}
 use Rattle.std.proofs.lemmas.List.Recursion.{is_count_by}
 use Rattle.std.specs.Prelude.{count_by}
 use Rattle.std.specs.List.{list_all}
-use Rattle.bully_agree.specs.Fencing.{Planned}
 use Rattle.bully_base.specs.declared.TheConstants.{NODES_MAX}
-use Rattle.bully_calls.specs.declared.event.Event.{Event}
 use Rattle.bully_member.proofs.KeepLemmas.{sights_same}
 use Rattle.bully_member.specs.Activities.{any_stopping, busy, busy_from, works_at}
-use Rattle.bully_member.specs.Due.{Sees, due, goes_on, goes_on_by, is_newcomer, last_table, table_ahead, token_now}
-use Rattle.bully_member.specs.Member.{MemberState, SeesStable, above, all_ready, has_promised, heeded, heeds_promises, here, is_affected, is_closing, is_in_group, is_ready, is_ready_itself, most_promised, offset_in, replica_of, same_promise}
-use Rattle.bully_member.specs.Rebalance.{rebalanced_nodes}
+use Rattle.bully_member.specs.Due.{Sees, due, goes_on, goes_on_by, is_newcomer, last_table, token_now}
+use Rattle.bully_member.specs.Member.{MemberState, above, all_ready, has_promised, here, is_affected, is_ready, is_ready_itself, replica_of, same_promise}
 use Rattle.bully_member.specs.Times.{turn_left}
 use Rattle.bully_member.specs.declared.values.Activity.{Activity}
 use Rattle.bully_member.specs.declared.values.Lease.{Lease}
@@ -23,8 +20,8 @@ use Rattle.bully_rebalance.specs.Rebalancing.{is_member}
 use Rattle.bully_replica.specs.Replica.{ReplicaState}
 use Rattle.bully_round.proofs.DueLemmas.{rests_lem}
 use Rattle.bully_round.proofs.TurnLemmas.{is_true, table_if}
-use Rattle.bully_round.specs.Group.{HasSameView, HaveOneView, IsAtRest, IsLeaseOf}
-use Rattle.bully_round.specs.Progress.{IsCalm, change_of, step_at_rest, to_begin, to_do, to_do_seen, to_do_then, to_promise, unless}
+use Rattle.bully_round.specs.Group.{HaveOneView, IsAtRest, IsLeaseOf}
+use Rattle.bully_round.specs.Progress.{change_of, step_at_rest, to_begin, to_do_seen, to_do_then, to_promise, unless}
 
 -- What a member at rest in an unstable group has done.
 

@@ -1,11 +1,11 @@
 -- At rest in a stable group a member works on exactly what its node owns.
-use Rattle.std.proofs.Common.{rules, ◌≡◌, ◌↔◌, ◌<◌, ◌+◌, ◌&&◌, ◌==◌, not, if◌then◌else◌, ℕ, zero, suc, Bool, true, false, List, [], ◌∷◌, Option, Some, None, Contains, nat_lt, slice_get, arith, refl, sym, ap, subst, ◌∙◌}
+use Rattle.std.proofs.Common.{◌≡◌, ◌↔◌, ◌+◌, ◌&&◌, ◌==◌, if◌then◌else◌, ℕ, Bool, true, false, List, [], ◌∷◌, Option, Some, None, Contains, nat_lt, slice_get, arith, refl, sym, ap, subst, ◌∙◌}
 use Rattle.std.proofs.lemmas.Bool.Decides.{nat_tests}
 use Rattle.std.specs.Option.{option_map, option_map_or}
 use Rattle.bully_agree.specs.Fencing.{Planned}
 use Rattle.bully_handlers.specs.Vector.{is_normal}
 use Rattle.bully_member.specs.Activities.{works_at}
-use Rattle.bully_member.specs.Due.{HasAllOf, Sees, goes_on, goes_on_by, last_table, table_ahead, token_now}
+use Rattle.bully_member.specs.Due.{HasAllOf, Sees, goes_on, goes_on_by, last_table, token_now}
 use Rattle.bully_member.specs.Member.{MemberState, replica_of}
 use Rattle.bully_member.specs.declared.values.Sight.{Sight}
 use Rattle.bully_rebalance.proofs.PartitionLemmas.{partitions_exact}

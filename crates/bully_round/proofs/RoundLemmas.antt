@@ -1,10 +1,8 @@
 -- After the rebalance.
-use Rattle.std.proofs.Common.{rules, ◌≡◌, ◌≢◌, ◌↔◌, ◌<◌, ◌≤◌, ◌+◌, ◌*◌, ◌++◌, ◌&&◌, ◌||◌, ◌==◌, not, if◌then◌else◌, cond, ℕ, zero, suc, Bool, true, false, List, [], ◌∷◌, Option, Some, None, Contains, nat_lt, max, fold, filter, length, map, slice_get, get_or, arith, refl, sym, ap, subst, ◌∙◌}
-use Rattle.std.proofs.lemmas.Bool.Decides.{nat_tests}
+use Rattle.std.proofs.Common.{◌≡◌, ◌≢◌, ◌↔◌, ◌<◌, ◌≤◌, ◌*◌, ◌++◌, if◌then◌else◌, cond, ℕ, suc, Bool, true, false, List, [], ◌∷◌, Option, Some, None, Contains, max, fold, filter, length, map, get_or, arith, refl, sym, ap, subst, ◌∙◌}
 use Rattle.std.proofs.lemmas.Option.{slice_get-get_or}
-use Rattle.std.specs.Option.{option_map, option_map_or}
 use Rattle.bully_agree.specs.Fencing.{Planned}
-use Rattle.bully_base.specs.Setup.{IsNode, Setup}
+use Rattle.bully_base.specs.Setup.{Setup}
 use Rattle.bully_calls.specs.declared.event.Event.{Event}
 use Rattle.bully_member.specs.Activities.{works_at}
 use Rattle.bully_member.specs.Due.{Sees, due}
@@ -21,10 +19,10 @@ use Rattle.bully_rebalance.specs.Owning.{owned_by, owned_in, owned_with, partiti
 use Rattle.bully_rebalance.specs.Rebalancing.{PlansAnew, Rebalances, table_before}
 use Rattle.bully_rebalance.specs.Stable.{IsServed, IsStable}
 use Rattle.bully_rebalance.specs.declared.holding.Owned.{Owned}
-use Rattle.bully_replica.specs.Replica.{ReplicaState, token_of}
+use Rattle.bully_replica.specs.Replica.{token_of}
 use Rattle.bully_round.proofs.DueLemmas.{rests_lem}
 use Rattle.bully_round.proofs.OwnLemmas.{exactly_lem}
-use Rattle.bully_round.specs.Group.{Appends, HasLearnedOf, IsAtRest, IsRound, Passage, Passes, all_turns, ready_in, table_of, turns_in}
+use Rattle.bully_round.specs.Group.{Appends, HasLearnedOf, IsRound, Passage, Passes, all_turns, ready_in, table_of, turns_in}
 use Rattle.bully_round.proofs.TurnLemmas.{bounded_lem, true_is}
 use Rattle.bully_round.specs.Progress.{IsCalm, Owns, step_at_rest, to_do}
 use Rattle.bully_table.specs.Planning.{planned}

@@ -1,19 +1,18 @@
 -- There are members that have learned a rebalance, and rest in a stable group: of the group of two, whichever of them the
 -- table gives the partition.
-use Rattle.std.proofs.Common.{rules, ◌≡◌, ◌↔◌, ◌<◌, ◌≤◌, ◌+◌, ◌*◌, ◌++◌, ◌∷◌, [], ◌&&◌, ◌==◌, not, ℕ, zero, suc, Bool, true, false, if◌then◌else◌, nat_le, List, Option, Some, None, Contains, length, map, slice_get, arith, refl, sym, ap, subst, ◌∙◌}
+use Rattle.std.proofs.Common.{rules, ◌≡◌, ◌≤◌, ◌+◌, ◌++◌, ◌∷◌, [], ◌&&◌, ◌==◌, not, ℕ, zero, suc, Bool, true, false, if◌then◌else◌, nat_le, List, Option, Some, None, Contains, length, map, slice_get, arith, refl, sym, ap, subst, ◌∙◌}
 use Rattle.std.proofs.lemmas.Bool.Decides.{nat_tests}
 use Rattle.std.specs.Option.{option_map, option_map_or}
 use Rattle.bully_agree.specs.Fencing.{Planned}
-use Rattle.bully_base.specs.Setup.{IsNode, Setup}
+use Rattle.bully_base.specs.Setup.{IsNode}
 use Rattle.bully_base.specs.declared.node.Status.TheVariants.{Down, Normal}
 use Rattle.bully_base.specs.declared.node.Status.{Status}
 use Rattle.bully_calls.specs.Pending.{Pending}
 use Rattle.bully_calls.specs.Slot.{SlotCall, pending_of}
 use Rattle.bully_calls.specs.declared.event.Event.{Event}
-use Rattle.bully_handlers.specs.Vector.{is_normal}
 use Rattle.bully_member.specs.Activities.{any_stopping, works_at}
-use Rattle.bully_member.specs.Due.{HasAllOf, MayGoOn, Sees, goes_on, goes_on_by, last_table, table_ahead, token_now}
-use Rattle.bully_member.specs.Member.{AllAreDown, MemberState, is_closing, offset_in, replica_of}
+use Rattle.bully_member.specs.Due.{HasAllOf, MayGoOn, Sees, goes_on_by, table_ahead, token_now}
+use Rattle.bully_member.specs.Member.{AllAreDown, MemberState, offset_in}
 use Rattle.bully_member.specs.Rebalance.{rebalanced_nodes}
 use Rattle.bully_member.specs.declared.values.Activity.{Activity}
 use Rattle.bully_member.specs.declared.values.Lease.{Lease}
@@ -21,17 +20,16 @@ use Rattle.bully_member.specs.declared.values.Sight.{Sight}
 use Rattle.bully_rebalance.proofs.Rebalanced.{becomes_stable_lem}
 use Rattle.bully_rebalance.proofs.SizeLemmas.{rebalancing_few}
 use Rattle.bully_rebalance.specs.Leaving.{is_given, is_left}
-use Rattle.bully_rebalance.specs.Owning.{owned_by, owned_with, partitions_of, token_in}
+use Rattle.bully_rebalance.specs.Owning.{owned_with, partitions_of, token_in}
 use Rattle.bully_rebalance.specs.Rebalancing.{PlansAnew, Rebalances, rebalancing}
 use Rattle.bully_rebalance.specs.Stable.{IsStable}
-use Rattle.bully_rebalance.specs.declared.holding.Owned.{Owned}
 use Rattle.bully_replica.specs.Replica.{IsLogOf, ReplicaState, first_replica}
 use Rattle.bully_round.proofs.RoundLemmas.{is_stable, owns_by, stable_for}
 use Rattle.bully_round.proofs.SomeTurns.{header, lease, session, setup}
 use Rattle.bully_round.proofs.SomeView.{one}
 use Rattle.bully_round.proofs.TurnLemmas.{given_left, short, table_if}
 use Rattle.bully_round.specs.Group.{Appends, HasLearnedOf, IsAtRest}
-use Rattle.bully_round.specs.Progress.{IsCalm, Owns, to_begin, to_do, unless}
+use Rattle.bully_round.specs.Progress.{IsCalm, to_begin, unless}
 use Rattle.bully_rows.specs.declared.header.Version.{Version}
 use Rattle.bully_run.proofs.CallLemmas.{nothing_learned}
 use Rattle.bully_work.specs.Working.{GivesTo}

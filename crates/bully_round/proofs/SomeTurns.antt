@@ -1,16 +1,15 @@
 -- There are calm members, and members of one view. A member of an eager group works on a partition, and hasn't read a
 -- snapshot yet, so it stops, reads one and promises.
-use Rattle.std.proofs.Common.{rules, ◌≡◌, ◌↔◌, ◌<◌, ◌≤◌, ◌+◌, ◌++◌, ◌∷◌, [], ℕ, zero, suc, Bool, true, false, List, Some, None, Ok, Contains, length, slice_get, arith, refl, sym, ap, subst}
+use Rattle.std.proofs.Common.{◌≡◌, ◌↔◌, ◌++◌, ◌∷◌, [], ℕ, zero, suc, true, false, List, None, Ok, Contains, length, arith, refl, sym, ap, subst}
 use Rattle.bully_base.specs.Setup.{Setup}
 use Rattle.bully_member.specs.Activities.{works_at}
 use Rattle.bully_member.specs.Due.{Sees, noted}
 use Rattle.bully_member.specs.Learned.{after_learning}
-use Rattle.bully_member.specs.Member.{AllAreDown, IsForeseen, MemberState, SeesStable, live_of, new_member, replica_of}
+use Rattle.bully_member.specs.Member.{MemberState, SeesStable, live_of, new_member, replica_of}
 use Rattle.bully_member.specs.Told.{answered, snapshot_read, stopped_on}
 use Rattle.bully_member.specs.declared.opening.Terms.{Terms}
 use Rattle.bully_member.specs.declared.values.Activity.{Activity}
 use Rattle.bully_member.specs.declared.values.Lease.{Lease}
-use Rattle.bully_member.specs.declared.values.Promise.{Promise}
 use Rattle.bully_member.specs.declared.values.Request.{Request}
 use Rattle.bully_member.specs.declared.values.SessionId.{SessionId}
 use Rattle.bully_member.specs.declared.values.SessionState.{SessionState}
@@ -19,14 +18,14 @@ use Rattle.bully_member.specs.declared.values.Step.{Step}
 use Rattle.bully_member.specs.declared.values.StoreAnswer.{StoreAnswer}
 use Rattle.bully_base.specs.declared.node.Status.TheVariants.{Down}
 use Rattle.bully_rebalance.specs.Stable.{IsStable}
-use Rattle.bully_replica.specs.Replica.{HasLearned, IsLogOf, IsReplica, ReplicaState, first_replica, token_of}
+use Rattle.bully_replica.specs.Replica.{HasLearned, IsReplica, ReplicaState, first_replica, token_of}
 use Rattle.bully_replica.specs.RowReplica.{FollowsUpTo, RowReplicaState}
 use Rattle.bully_rows.specs.declared.header.Header.{Header}
 use Rattle.bully_rows.specs.declared.header.Version.{Version}
 use Rattle.bully_rows.specs.declared.trace.Row.{Row}
 use Rattle.bully_run.proofs.CallLemmas.{nothing_learned}
 use Rattle.bully_run.specs.Calls.{StoppedOn}
-use Rattle.bully_round.specs.Progress.{DoesTasks, HasLooked, IsCalm, TakesTurn, Turn}
+use Rattle.bully_round.specs.Progress.{DoesTasks, IsCalm, TakesTurn, Turn}
 use Rattle.bully_world.proofs.NodeInvariantLemmas.{first_node_state}
 use Rattle.bully_world.proofs.WorldLemmas.{first_is}
 use Rattle.bully_world.specs.State.{world_of}

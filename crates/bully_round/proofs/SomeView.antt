@@ -1,13 +1,11 @@
 -- There are members of one view: two of an eager group, who have promised the end of an empty log.
-use Rattle.std.proofs.Common.{◌≡◌, ◌<◌, ◌+◌, ◌↔◌, ◌∷◌, [], ℕ, zero, suc, Bool, true, false, List, Some, None, Ok, Contains, length, arith, refl, sym, ap, subst}
+use Rattle.std.proofs.Common.{◌≡◌, ◌↔◌, ◌∷◌, [], ℕ, zero, suc, true, false, List, Some, None, Ok, Contains, length, arith, refl, ap, subst}
 use Rattle.bully_member.specs.Due.{Sees, is_newcomer, noted}
 use Rattle.bully_member.specs.Learned.{after_learning}
 use Rattle.bully_member.specs.Member.{MemberState, lease_of, live_of, new_member, replica_of}
 use Rattle.bully_member.specs.Told.{snapshot_read, to_snapshot}
 use Rattle.bully_member.specs.declared.values.Arrival.{Arrival}
-use Rattle.bully_member.specs.declared.values.Asked.{Asked}
 use Rattle.bully_member.specs.declared.values.Lease.{Lease}
-use Rattle.bully_member.specs.declared.values.Promise.{Promise}
 use Rattle.bully_member.specs.declared.values.Request.{Request}
 use Rattle.bully_member.specs.declared.values.Step.{Step}
 use Rattle.bully_member.specs.declared.values.SessionState.{SessionState}

@@ -1,22 +1,19 @@
 -- A turn of a calm member.
-use Rattle.std.proofs.Common.{rules, ◌≡◌, ◌↔◌, ◌<◌, ◌≤◌, ◌+◌, ◌-◌, ◌/◌, ◌&&◌, ◌||◌, ◌==◌, ◌⊎◌, inl, inr, not, if◌then◌else◌, ℕ, zero, suc, Bool, true, false, List, [], ◌∷◌, Option, Some, None, Contains, nat_lt, slice_get, length, arith, refl, sym, ap, subst, ◌∙◌, Result}
+use Rattle.std.proofs.Common.{rules, ◌≡◌, ◌↔◌, ◌<◌, ◌≤◌, ◌+◌, ◌-◌, ◌/◌, ◌&&◌, ◌||◌, ◌==◌, ◌⊎◌, inl, inr, not, if◌then◌else◌, ℕ, zero, suc, Bool, true, false, List, [], ◌∷◌, Option, Some, None, nat_lt, length, arith, refl, sym, ap, subst, ◌∙◌}
 use Rattle.std.proofs.lemmas.Bool.Decides.{nat_tests}
 use Rattle.std.specs.Prelude.{IsTrue}
 use Rattle.std.specs.Option.{option_map, option_map_or}
 use Rattle.bully_agree.proofs.PlanLemmas.{token_within}
 use Rattle.bully_agree.specs.Fencing.{IsLast, Planned}
 use Rattle.bully_calls.specs.declared.event.Event.{Event}
-use Rattle.bully_member.proofs.KeepLemmas.{both, sights_same, twice}
-use Rattle.bully_member.specs.Activities.{any_stopping, begin_at, changed_from, end_at, ended_at, is_working, stop_at, works_at}
-use Rattle.bully_member.specs.Due.{HasAllOf, MayGoOn, Sees, admission_wait, ahead, asked_for, begun, change_step, due, goes_on, goes_on_by, is_newcomer, is_none_of, last_table, noted, stable_step, stopping, table_ahead, table_by, token_now, turn_step, unstable_step}
-use Rattle.bully_member.specs.Learned.{after_learning}
+use Rattle.bully_member.proofs.KeepLemmas.{sights_same, twice}
+use Rattle.bully_member.specs.Activities.{begin_at, changed_from, end_at, ended_at, is_working, stop_at, works_at}
+use Rattle.bully_member.specs.Due.{HasAllOf, Sees, admission_wait, begun, change_step, due, goes_on, goes_on_by, is_newcomer, is_none_of, last_table, noted, stable_step, table_ahead, table_by, token_now, turn_step, unstable_step}
 use Rattle.bully_member.specs.Member.{MemberState, SeesStable, above, admitted_among, all_ready, has_promised, is_affected, is_closing, is_ready_itself, lease_of, offset_of, replica_of}
 use Rattle.bully_member.specs.Times.{renewal_left, sure, turn_left}
 use Rattle.bully_member.specs.Told.{answered, awaits_snapshot, found, found_here, own_by, own_by_promise, own_promise, snapshot_read, with_arrivals}
 use Rattle.bully_member.specs.declared.values.Activity.{Activity}
 use Rattle.bully_member.specs.declared.values.Ahead.{Ahead}
-use Rattle.bully_member.specs.declared.values.Asked.{Asked}
-use Rattle.bully_member.specs.declared.values.Ending.{Ending}
 use Rattle.bully_member.specs.declared.values.Lease.{Lease}
 use Rattle.bully_member.specs.declared.values.Promise.{Promise}
 use Rattle.bully_member.specs.declared.values.Reason.{Reason}
@@ -29,10 +26,10 @@ use Rattle.bully_member.specs.declared.values.StoreAnswer.{StoreAnswer}
 use Rattle.bully_member.specs.declared.values.Until.{Until}
 use Rattle.bully_rebalance.specs.Leaving.{is_left}
 use Rattle.bully_replica.specs.LastPlan.{table_in}
-use Rattle.bully_replica.specs.Replica.{IsLogOf, IsReplica, ReplicaState, token_of}
-use Rattle.bully_round.proofs.DueLemmas.{acts_lem, calm_step, due_is, rests_lem, step_seen, step_then}
+use Rattle.bully_replica.specs.Replica.{IsReplica, ReplicaState, token_of}
+use Rattle.bully_round.proofs.DueLemmas.{calm_step, due_is, rests_lem}
 use Rattle.bully_round.specs.Progress.{AreEnds, DoesTasks, HasLooked, IsCalm, IsEnd, IsReported, TakesTurn, Turn, is_task, step_at_rest, to_begin, to_do, to_do_seen, to_do_then, to_promise, unless}
-use Rattle.bully_run.specs.Calls.{Answered, Call, Followed, GoesNext, GoesOnLearning, Learn, Leave, Lost, Next, NotThere, Passed, Woke, Broken, SnapshotLost, SnapshotRead, Stopped, StoppedOn, Takes}
+use Rattle.bully_run.specs.Calls.{Answered, Call, Followed, Learn, Leave, Lost, Next, NotThere, Passed, Woke, Broken, SnapshotLost, SnapshotRead, Stopped, StoppedOn, Takes}
 use Rattle.bully_work.specs.Working.{GivesTo}
 
 -- Small facts.

@@ -1,16 +1,14 @@
 -- One member's progress: what it still has to do by itself until it waits or changes the log, and its turns.
-use Rattle.std.specs.Prelude.{◌≡◌, ◌↔◌, ◌≤◌, ◌+◌, ◌==◌, ◌&&◌, ◌||◌, not, if◌then◌else◌, ℕ, Bool, true, false, List, [], ◌∷◌}
+use Rattle.std.specs.Prelude.{◌≡◌, ◌≤◌, ◌+◌, ◌==◌, ◌&&◌, ◌||◌, not, if◌then◌else◌, ℕ, Bool, true, false, List, [], ◌∷◌}
 use Rattle.std.specs.Prelude.{Contains, Option, Some, None, Result, length, min, nat_lt}
 use Rattle.std.specs.List.{list_any}
 use Rattle.bully_agree.specs.Fencing.{Planned}
-use Rattle.bully_member.specs.Activities.{any_stopping, any_working, works_at}
+use Rattle.bully_member.specs.Activities.{any_stopping}
 use Rattle.bully_member.specs.Due.{admission_wait, is_admitted_since, is_newcomer, token_now, until_ready}
 use Rattle.bully_member.specs.Member.{MemberState, above, all_ready, has_promised, is_affected}
 use Rattle.bully_member.specs.Member.{is_closing, offset_of, replica_of}
 use Rattle.bully_member.specs.Times.{pause_left, renewal_left, turn_left}
 use Rattle.bully_member.specs.Told.{SeesIfFound}
-use Rattle.bully_member.specs.declared.values.Ending.{Ending}
-use Rattle.bully_member.specs.declared.values.Asked.{Asked}
 use Rattle.bully_member.specs.declared.values.Lease.{Lease}
 use Rattle.bully_member.specs.declared.values.Reason.{Reason}
 use Rattle.bully_member.specs.declared.values.Request.{Request}
