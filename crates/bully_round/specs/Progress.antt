@@ -49,12 +49,13 @@ abbrev pub unless : Bool → ℕ
 unless true = 0
 unless false = 1
 
--- to begin: its node owns something, and the member doesn't work on all of that by its token
+-- to begin: its node owns something, and the member doesn't work on exactly that by its token
 abbrev pub to_begin : MemberState → Sight → Option ℕ → ℕ
 to_begin m s None = 0
 to_begin m s (Some token) = unless (s.may_go_on && (s.has_all && (token == m.token)))
 
--- to promise: the coming change affects it, and it hasn't promised that it works on nothing else
+-- to promise: the coming change affects it, and it hasn't promised the end of the log with exactly what it works on, or
+-- still has something to stop. A newcomer waits first
 abbrev pub to_promise : MemberState → Sight → ℕ
 to_promise m s = unless (is_newcomer m || (not (is_affected m m.terms.node) || (s.may_go_on && has_promised m)))
 

@@ -4,11 +4,10 @@
 #![tactic(auto)]
 
 ghost use Rattle.std.specs.Prelude.{◌≡◌, ◌≢◌, ◌<◌, ◌≤◌, ◌↔◌, ◌*◌, ℕ, [], Contains, List, false, length, map, true};
+ghost use Rattle.bully_calls.specs.declared.event.Event.{Event};
 ghost use Rattle.bully_member.specs.Activities.{works_at};
 ghost use Rattle.bully_member.specs.Due.{Sees, due, is_outdated};
 ghost use Rattle.bully_member.specs.Member.{MemberState, SeesStable, above, all_ready, replica_of};
-ghost use Rattle.bully_work.specs.Working.{GivesTo};
-ghost use Rattle.bully_calls.specs.declared.event.Event.{Event};
 ghost use Rattle.bully_member.specs.Rebalance.{rebalanced_nodes};
 ghost use Rattle.bully_member.specs.Times.{turn_left};
 ghost use Rattle.bully_member.specs.declared.values.Lease.{Lease};
@@ -17,8 +16,11 @@ ghost use Rattle.bully_member.specs.declared.values.SessionId.{SessionId};
 ghost use Rattle.bully_member.specs.declared.values.SessionState.{SessionState};
 ghost use Rattle.bully_member.specs.declared.values.Sight.{Sight};
 ghost use Rattle.bully_member.specs.declared.values.Step.{Step};
-ghost use Rattle.bully_round.specs.Group.{Appends, HasLearnedOf, HaveLooked, HaveOneView, IsAtRest, IsRound, Look, LooksAgain, Passage, after_in, all_turns, table_of};
-ghost use Rattle.bully_round.specs.Progress.{DoesTasks, IsCalm, Owns, TakesTurn, Turn, change_of, is_task, step_at_rest, to_do};
+ghost use Rattle.bully_round.specs.Group.{Appends, HasLearnedOf, HaveLooked, HaveOneView, IsAtRest, IsRound, Look};
+ghost use Rattle.bully_round.specs.Group.{LooksAgain, Passage, after_in, all_turns, table_of};
+ghost use Rattle.bully_round.specs.Progress.{DoesTasks, IsCalm, Owns, TakesTurn, Turn, change_of, is_task, step_at_rest};
+ghost use Rattle.bully_round.specs.Progress.{to_do};
+ghost use Rattle.bully_work.specs.Working.{GivesTo};
 
 /// The law of one member's progress. A member is *calm* if it has its lease, goes on in its epoch, and nothing is under
 /// way (`IsCalm`). What is left for it to do by itself is a number (`to_do`): to stop what it may not go on with, to read
