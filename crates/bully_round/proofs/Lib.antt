@@ -1,0 +1,10 @@
+pub mod DueLemmas
+pub mod TurnLemmas
+pub mod FreshLemmas
+pub mod OwnLemmas
+pub mod GroupLemmas
+pub mod RoundLemmas
+pub mod AgainLemmas
+pub mod SomeTurns
+pub mod SomeView
+pub mod SomeRound

@@ -1,0 +1,121 @@
+//! A round of members: how each gets on by its turns, until the group is stable.
+//!
+//! It builds on bully_run.
+#![tactic(auto)]
+
+ghost use Rattle.std.specs.Prelude.{◌≡◌, ◌≢◌, ◌<◌, ◌≤◌, ◌↔◌, ◌*◌, ℕ, [], Contains, List, false, length, map, true};
+ghost use Rattle.bully_calls.specs.declared.event.Event.{Event};
+ghost use Rattle.bully_member.specs.Activities.{works_at};
+ghost use Rattle.bully_member.specs.Due.{Sees, due, is_outdated};
+ghost use Rattle.bully_member.specs.Member.{MemberState, SeesStable, above, all_ready, replica_of};
+ghost use Rattle.bully_member.specs.Rebalance.{rebalanced_nodes};
+ghost use Rattle.bully_member.specs.Times.{turn_left};
+ghost use Rattle.bully_member.specs.declared.values.Lease.{Lease};
+ghost use Rattle.bully_member.specs.declared.values.Request.{Request};
+ghost use Rattle.bully_member.specs.declared.values.SessionId.{SessionId};
+ghost use Rattle.bully_member.specs.declared.values.SessionState.{SessionState};
+ghost use Rattle.bully_member.specs.declared.values.Sight.{Sight};
+ghost use Rattle.bully_member.specs.declared.values.Step.{Step};
+ghost use Rattle.bully_round.specs.Group.{Appends, HasLearnedOf, HaveLooked, HaveOneView, IsAtRest, IsRound, Look};
+ghost use Rattle.bully_round.specs.Group.{LooksAgain, Passage, after_in, all_turns, table_of};
+ghost use Rattle.bully_round.specs.Progress.{DoesTasks, IsCalm, Owns, TakesTurn, Turn, change_of, is_task, step_at_rest};
+ghost use Rattle.bully_round.specs.Progress.{to_do};
+ghost use Rattle.bully_work.specs.Working.{GivesTo};
+
+/// The law of one member's progress. A member is *calm* if it has its lease, goes on in its epoch, and nothing is under
+/// way (`IsCalm`). What is left for it to do by itself is a number (`to_do`): to stop what it may not go on with, to read
+/// a snapshot if one is due, and then to promise, or in a stable group to begin. In a turn (`TakesTurn`) it does its next
+/// step; a request is then done, what was to be stopped ends, and a snapshot is of its epoch.
+///
+/// - `acts`: as long as something is left, its next step does some of it: it doesn't wait.
+/// - `rests`: once nothing is left, its next step is this: in a stable group it waits; otherwise it waits to be admitted,
+///   for its turn, or for the others; and once its turn has come, and all are ready, it changes the log.
+/// - `falls`: each turn that does some of it leaves less.
+/// - `bounded`: so after at most 4 such turns nothing is left. It doesn't read snapshots, promise or begin for ever.
+/// - `exactly`: if nothing is left in a stable group, it works on exactly what its node owns.
+/// - `fresh`: once it has read a snapshot, and still has its lease, none is due at that moment.
+/// - `some`: there are such turns. A member that works before it has read a snapshot stops, reads one and promises.
+pub fn progress_of_one()
+    ensures acts { (m : MemberState) (now : ℕ) (s : Sight) → IsCalm m now → Sees m now s → 0 < to_do m s
+        → is_task (due m now s) ≡ true }
+    ensures rests { (m : MemberState) (now : ℕ) (s : Sight) → IsCalm m now → Sees m now s → to_do m s ≡ 0
+        → due m now s ≡ step_at_rest m now s.is_stable }
+    ensures falls { (m after : MemberState) (now at later : ℕ) (step : Step) (s t : Sight)
+        → IsCalm m now → Sees m now s → TakesTurn m now at step after → is_task step ≡ true
+        → IsCalm after later → Sees after later t → to_do after t < to_do m s }
+    ensures bounded { (m after : MemberState) (turns : List Turn) → DoesTasks m turns after → length turns ≤ 4 }
+    ensures exactly { (m : MemberState) (now : ℕ) (s : Sight) → IsCalm m now → Sees m now s → s.is_stable ≡ true
+        → to_do m s ≡ 0 → (k : ℕ) → works_at m.works k ≡ true ↔ Owns m k }
+    ensures fresh { (m after : MemberState) (now at : ℕ) (session : SessionId) (since : ℕ)
+        → TakesTurn m now at (Step.Ask Request.Snapshot) after
+        → after.session ≡ SessionState.Live session since → is_outdated after at ≡ false }
+    ensures some { (m after : MemberState) × (turns : List Turn) × DoesTasks m turns after × (length turns ≡ 3) }
+{}
+
+/// The law of a round: how members among whom nobody comes or goes make their group stable, by one append. No clock is
+/// needed, but that each takes its turns, and that at each it is calm.
+///
+/// Before the change:
+///
+/// - `again`: one that had nothing left to do, and looks again because others have promised, still has nothing left.
+/// - `view`: so once all have looked at the same snapshot again, they have one view.
+///
+/// Once all have one view, and nothing is left for any to do by itself (`HaveOneView`):
+///
+/// - `ready`: all are ready for the change, as far as each of them knows. So no two wait for each other.
+/// - `changes`: each whose turn has come changes the log.
+/// - `somebody`: the turn of one of them, the one with the highest node, has come.
+///
+/// After the rebalance, which one of them appends (`Appends`):
+///
+/// - `stable`: each that has learned it, and read a snapshot, finds the group stable.
+/// - `works`: once nothing is left for it to do, it works on exactly what the rebalance's table gives its node.
+///
+/// In the whole round (`IsRound`), from whatever states:
+///
+/// - `turns`: they take at most 12 turns each.
+/// - `ends`: in the end the group is stable for each.
+/// - `waits`: each then waits until something is new. So nobody changes the log again.
+/// - `own`: each works on exactly what the table gives its node.
+/// - `one`: no two nodes work on one partition.
+/// - `served`: each partition is worked on.
+///
+/// There are such members: two that have promised and look again (`look`), two of one view (`some`), and those that have
+/// learned a rebalance (`after`).
+pub fn round_becomes_stable()
+    ensures again { (leases : List Lease) (m after : MemberState) (later : ℕ) (t : Sight) → LooksAgain leases m after
+        → IsCalm after later → Sees after later t → t.is_stable ≡ false → to_do after t ≡ 0 }
+    ensures view { (leases : List Lease) (xs : List Look) → HaveLooked leases xs → HaveOneView (map after_in xs) }
+    ensures ready { (ms : List MemberState) (m : MemberState) → HaveOneView ms → Contains ms m → all_ready m ≡ true }
+    ensures changes { (ms : List MemberState) (m : MemberState) (now : ℕ) (s : Sight) → HaveOneView ms → Contains ms m
+        → IsAtRest m now false → Sees m now s → turn_left (above m) m.ttl now m.last_change.at ≡ 0
+        → due m now s ≡ change_of m }
+    ensures somebody { (ms : List MemberState) → HaveOneView ms → ms ≢ [] → (m : MemberState) × Contains ms m
+        × ((now : ℕ) (s : Sight) → IsAtRest m now false → Sees m now s → due m now s ≡ change_of m) }
+    ensures stable { (w n : MemberState) (log more : List Event) → Appends w log more → HasLearnedOf w log more n
+        → SeesStable n }
+    ensures works { (w n : MemberState) (log more : List Event) (now k : ℕ) (s : Sight)
+        → Appends w log more → HasLearnedOf w log more n → IsCalm n now → Sees n now s → to_do n s ≡ 0
+        → works_at n.works k ≡ true ↔ GivesTo (table_of w) k n.terms.node }
+    ensures turns { (xs : List Passage) (w : MemberState) (log more : List Event) → IsRound xs w log more
+        → all_turns xs ≤ 12 * length xs }
+    ensures ends { (xs : List Passage) (w : MemberState) (log more : List Event) (x : Passage)
+        → IsRound xs w log more → Contains xs x → SeesStable x.last }
+    ensures waits { (xs : List Passage) (w : MemberState) (log more : List Event) (x : Passage) (now : ℕ) (s : Sight)
+        → IsRound xs w log more → Contains xs x → IsCalm x.last now → Sees x.last now s → to_do x.last s ≡ 0
+        → due x.last now s ≡ step_at_rest x.last now true }
+    ensures own { (xs : List Passage) (w : MemberState) (log more : List Event) (x : Passage) (k : ℕ)
+        → IsRound xs w log more → Contains xs x
+        → works_at x.last.works k ≡ true ↔ GivesTo (table_of w) k x.last.terms.node }
+    ensures one { (xs : List Passage) (w : MemberState) (log more : List Event) (x y : Passage) (k : ℕ)
+        → IsRound xs w log more → Contains xs x → Contains xs y
+        → works_at x.last.works k ≡ true → works_at y.last.works k ≡ true → x.last.terms.node ≡ y.last.terms.node }
+    ensures served { (xs : List Passage) (w : MemberState) (log more : List Event) (k : ℕ)
+        → IsRound xs w log more → k < (replica_of w).world.setup.partitions
+        → (x : Passage) × Contains xs x × (works_at x.last.works k ≡ true) }
+    ensures look { (leases : List Lease) × (xs : List Look) × HaveLooked leases xs × (length xs ≡ 2) }
+    ensures some { (ms : List MemberState) × HaveOneView ms × (length ms ≡ 2) }
+    ensures after { (w : MemberState) × (log more : List Event) × Appends w log more
+        × ((i : ℕ) → Contains (rebalanced_nodes w) i → (n : MemberState) × (now : ℕ) × (n.terms.node ≡ i)
+        × HasLearnedOf w log more n × IsAtRest n now true) }
+{}
