@@ -711,7 +711,7 @@ class News:
     @property
     def lacks_promises(self) -> bool:
         """Whether promises that were made before the revision of what was found are not known. A watch that reports
-        them later doesn't help: only what is behind that revision is taken in."""
+        them later doesn't help: only what was put after that revision is taken in."""
         return self.promised < self.revision
 
     @property
