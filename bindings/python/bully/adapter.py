@@ -12,7 +12,7 @@ from typing import Union
 
 from .core import Ask, Core, CoreOpening, Lease, Promise, Request, Seen, Session, Until
 from .epochs import Opening
-from .shared_log import Holder, Known, Log, Snapshot, found_in
+from .shared_log import Holder, Known, Log, Snapshot, found_in, renewed
 
 Result = Union[bool, Snapshot, Opening]  # what a call of the log returns
 
@@ -101,7 +101,7 @@ class Leases:
     them together."""
 
     def __init__(self) -> None:
-        self._made: dict[str, tuple[Holder, Lease]] = {}  # the last ones, by name
+        self._made: dict[str, Lease] = {}  # the last ones, by name
         self._of: tuple[Mapping[str, Holder], Mapping[str, int], Container[str]] = {}, {}, ()  # of which holders
         self._last: tuple[Lease, ...] = ()
 
@@ -111,19 +111,19 @@ class Leases:
         """The leases of nodes of the group, in rising order of the nodes. The nodes of these names are known to
         leave."""
         last_holders, last_numbers, last_leaving = self._of
-        if holders is last_holders and numbers is last_numbers and leaving == last_leaving:
+        is_alike = numbers is last_numbers and leaving == last_leaving
+        if holders is last_holders and is_alike:
             return self._last
-        there = [(name, holder, numbers[name]) for name, holder in holders.items() if name in numbers]
-        self._made = {name: (holder, self._lease(name, holder, node, name in leaving)) for name, holder, node in there}
-        self._of = holders, numbers, leaving
-        self._last = tuple(sorted((lease for _, lease in self._made.values()), key=attrgetter('node')))
+        new = [(name, holders[name]) for name in renewed(last_holders if is_alike else {}, holders) if name in numbers]
+        made = {name: self._lease(name, holder, numbers[name], name in leaving) for name, holder in new}
+        kept = {name: lease for name, lease in self._made.items() if name in holders and name in numbers}
+        self._made, self._of = {**kept, **made}, (holders, numbers, leaving)
+        self._last = tuple(sorted(self._made.values(), key=attrgetter('node')))
         return self._last
 
     def _lease(self, name: str, holder: Holder, node: int, is_leaving: bool) -> Lease:
-        before, lease = self._made.get(name, (None, None))
-        if lease is not None and before is holder and (lease.node, lease.is_leaving) == (node, is_leaving):
-            return lease
-        return Lease(node, holder.session, holder.promise, holder.kept, is_leaving)
+        before, lease = self._made.get(name), Lease(node, holder.session, holder.promise, holder.kept, is_leaving)
+        return before if before is not None and before == lease else lease
 
 
 def leases_of(holders: Mapping[str, Holder], numbers: Mapping[str, int]) -> tuple[Lease, ...]:

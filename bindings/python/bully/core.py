@@ -11,6 +11,8 @@ import ctypes
 import enum
 from collections.abc import Callable, Iterable, Sequence
 from dataclasses import dataclass
+from functools import cached_property
+from itertools import chain
 from typing import Union
 
 from .faults import BullyError, NotLearned, OutOfMemory
@@ -53,6 +55,11 @@ class Lease:
     promise: Promise
     kept: tuple[int, ...] = ()
     is_leaving: bool = False
+
+    @cached_property
+    def raw(self) -> bytes:
+        """The same for the library, but for the partitions."""
+        return bytes(_raw_lease(self))
 
 
 @dataclass(frozen=True)
@@ -268,6 +275,12 @@ def _raw_lease(lease: Lease) -> ctypes.Structure:
     return RAW_LEASE(process, number, epoch, offset, node, kept, lease.is_leaving)
 
 
+def _raw_leases(leases: Sequence[Lease]) -> tuple[object, ...]:
+    """These leases, and the partitions that they keep, as four arguments of the library."""
+    raw = (RAW_LEASE * len(leases)).from_buffer_copy(b''.join([lease.raw for lease in leases]))
+    return raw, len(leases), *numbers_of('a partition', chain.from_iterable([lease.kept for lease in leases]))
+
+
 class Core(Learned):
     """A process that acts for one node of a group: what it knows, and what it does next.
 
@@ -284,9 +297,8 @@ class Core(Learned):
         EVENTS_MAX; BadTtl: the ttl is below TTL_MIN or above TTL_MAX; OutOfMemory."""
         super().__init__()
         self.fault: BullyError | None = None  # why its log is broken, if it has a row that wasn't learned
-        self._made: dict[int, tuple[Lease, ctypes.Structure]] = {}  # the leases of the last snapshot, by their `id`
-        self._last: tuple[Lease, ...] = ()
-        self._raws: ctypes.Array[ctypes.Structure] = (RAW_LEASE * 0)()  # the same for the library
+        self._last: tuple[Lease, ...] = ()  # the leases of the last snapshot
+        self._raws = _raw_leases(())  # the same for the library
         number, length = number_of('a process', process, UINT64_MAX), number_of('a ttl', ttl, UINT64_MAX)
         self._begin('open', *self._epoch_of(opening), number, length)
 
@@ -386,19 +398,10 @@ class Core(Learned):
         """What a snapshot showed besides the rows. Nothing changes if no snapshot is awaited.
 
         Raises BadNode; OutOfMemory, and then nothing changes, or the member reads another one after a pause."""
-        count, epoch = len(seen.leases), number_of('an epoch', seen.epoch, UINT32_MAX)
-        leases = self._raw_leases(seen.leases)
-        kept = numbers_of('a partition', (partition for lease in seen.leases for partition in lease.kept))
-        others = bool(seen.has_unknown), bool(seen.has_request)
-        self._call('snapshot_read', _moment(now), epoch, leases, count, *kept, *others)
-
-    def _raw_leases(self, leases: tuple[Lease, ...]) -> ctypes.Array[ctypes.Structure]:
-        """These leases for the library. What is the same object as in the last snapshot is not made anew."""
-        if leases is not self._last:
-            made = [self._made.get(id(lease)) or (lease, _raw_lease(lease)) for lease in leases]
-            self._made = {id(lease): (lease, raw) for lease, raw in made}
-            self._last, self._raws = leases, (RAW_LEASE * len(made))(*(raw for _, raw in made))
-        return self._raws
+        epoch, others = number_of('an epoch', seen.epoch, UINT32_MAX), (bool(seen.has_unknown), bool(seen.has_request))
+        if seen.leases is not self._last:
+            self._last, self._raws = seen.leases, _raw_leases(seen.leases)
+        self._call('snapshot_read', _moment(now), epoch, *self._raws, *others)
 
     def passed(self) -> None:
         """In place of any other answer: the epoch is over, and its log was pruned. A store needs this call only if its

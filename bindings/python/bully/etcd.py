@@ -694,7 +694,7 @@ class News:
         self.promises: dict[str, Told] = {}  # as of `promised`, and some of later; of sessions that are gone, too
         self._made: dict[str, Holder] = {}  # the last holders that were made, with the promise of this name or of all
         self._made_of: str | None = None
-        self._is_made = False  # whether nothing is new of sessions and promises since
+        self._new: set[str] = set()  # of which names something was found since
         self._keys = keys
         self._is_odd = False  # whether only a snapshot can tell what happened
 
@@ -722,20 +722,18 @@ class News:
         """Takes in what the ranges of `standing` found of this part. Returns whether that is all there is: what is gone
         can't be found. If not, nothing changes. Raises ValueError, KeyError if a lease can't be read."""
         keys, (offset, requested, maintenance, *found) = self._keys, answer.ranges[:5]
-        sessions = dict(self.sessions) if part.sessions else {}
-        promises = dict(self.promises) if part.promises or part.promise_of is not None else {}
-        for pair in pairs_of(found[0]):
-            sessions[keys.node(pair.key, keys.sessions)] = session_of(pair.value.decode())
-        for pair in pairs_of(found[1]):
-            promises[keys.node(pair.key, keys.promises)] = promise_of(pair.value.decode())
-        is_made = self._is_made and (sessions, promises) == (self.sessions, self.promises)
+        held = {keys.node(pair.key, keys.sessions): session_of(pair.value.decode()) for pair in pairs_of(found[0])}
+        told = {keys.node(pair.key, keys.promises): promise_of(pair.value.decode()) for pair in pairs_of(found[1])}
+        sessions = {**(self.sessions if part.sessions else {}), **held}
+        promises = {**(self.promises if part.promises or part.promise_of is not None else {}), **told}
         are_all = part.promise_of is None
         there, expected = (sessions, promises)[: 1 + are_all], found[: 1 + are_all]
         if [len(each) for each in there] != [int(each.get('count', 0)) for each in expected]:
             return False
         for name in sessions if are_all else sessions.keys() & {part.promise_of}:
             promises[name]
-        self.sessions, self.promises, self._is_odd, self._is_made = sessions, promises, False, is_made
+        self._new.update(held, told)
+        self.sessions, self.promises, self._is_odd = sessions, promises, False
         self.end, self.requested, self.maintenance = value_of(offset), value_of(requested), value_of(maintenance)
         self.promised = answer.revision if are_all else self.promised
         notes = [(pair.key[len(keys.failing) :], pair.value) for pair in pairs_of(answer.ranges[5])]
@@ -751,23 +749,21 @@ class News:
     def holders(self, promise_of: str | None) -> dict[str, Holder]:
         """Who holds a lease, with the promise of this name alone, or with all. If nothing is new these are the same
         objects as before: the holder, and all of them. So in a large group others see that at once."""
-        if not (self._is_made and self._made_of == promise_of):
-            told, there = self.shown(promise_of), self.sessions.items()
-            self._made = {name: self._holder(name, session, told.get(name, UNKNOWN)) for name, session in there}
-            self._made_of, self._is_made = promise_of, True
+        names = self.sessions.keys() & self._new if self._made_of == promise_of else self.sessions.keys()
+        told = self.shown(promise_of)
+        made = {name: Holder(self.sessions[name], *told.get(name, UNKNOWN)) for name in names}
+        new = {name: holder for name, holder in made.items() if holder != self._made.get(name)}
+        if new or self._made.keys() - self.sessions.keys():
+            self._made = {**{name: each for name, each in self._made.items() if name in self.sessions}, **new}
+        self._made_of, self._new = promise_of, set()
         return self._made
-
-    def _holder(self, name: str, session: Session, told: Told) -> Holder:
-        made = self._made.get(name)
-        is_same = made is not None and made.session is session and (made.promise, made.kept) == told
-        return made if made is not None and is_same else Holder(session, *told)
 
     def see(self, event: Json) -> None:
         """Takes in an event. When a session goes its promise goes, too, and a watch need not report that."""
         pair, is_put = pair_of(event['kv']), event.get('type', 'PUT') == 'PUT'
         if pair.modified <= self.revision:
             return
-        keys, key, self.is_fresh, self._is_made = self._keys, pair.key, False, False
+        keys, key, self.is_fresh = self._keys, pair.key, False
         try:
             if key == keys.offset:
                 self.end = pair.value if is_put else None
@@ -775,18 +771,27 @@ class News:
                 self.requested = pair.value if is_put else None
             elif key == keys.maintenance:
                 self.maintenance = pair.value if is_put else None
-            elif key.startswith(keys.sessions) and is_put:
-                self.sessions[keys.node(key, keys.sessions)] = session_of(pair.value.decode())
             elif key.startswith(keys.sessions):
-                name = keys.node(key, keys.sessions)
-                self.sessions.pop(name, None)
-                self.promises.pop(name, None)
-            elif key.startswith(keys.promises) and is_put:
-                self.promises[keys.node(key, keys.promises)] = promise_of(pair.value.decode())
+                self._see_session(keys.node(key, keys.sessions), pair.value if is_put else None)
             elif key.startswith(keys.promises):
-                self.promises.pop(keys.node(key, keys.promises), None)
+                self._see_promise(keys.node(key, keys.promises), pair.value if is_put else None)
         except ValueError:
             self._is_odd = True
+
+    def _see_session(self, name: str, value: bytes | None) -> None:
+        """Takes in the session of a node, or that it has gone."""
+        if value is not None:
+            self.sessions[name] = session_of(value.decode())
+        else:
+            self.sessions.pop(name, None)
+            self.promises.pop(name, None)
+
+    def _see_promise(self, name: str, value: bytes | None) -> None:
+        """Takes in the promise of a node, or that it has gone."""
+        if value is not None:
+            self.promises[name] = promise_of(value.decode())
+        else:
+            self.promises.pop(name, None)
 
     def awaited(
         self, here: Promise, sessions: Sessions, until: Until, wanted: tuple[bytes | None, bytes | None],

@@ -160,6 +160,7 @@ class Member:
         self.opening = opening
         self._numbers = {name: number for number, name in enumerate(opening.names, 1)}
         self._found = Snapshot(opening.epoch, (), {}, None)  # the last snapshot
+        self._sessions = self._found.sessions  # in that
         self._seen = Seen(opening.epoch)  # what the core was shown of that
         self._leases = Leases()
         self._own: Holder | None = None  # its own lease, with its last promise that was done
@@ -404,7 +405,7 @@ class Member:
         self._see_behind(step.reason)
         epoch, offset = self.opening.epoch, self.core.offset
         until, seconds = awaited(step.until, self._seen, needs), step.at_most / SECOND
-        self._answer(lambda: self.log.wait(epoch, offset, found.sessions, until, seconds, self._woken.fileno()))
+        self._answer(lambda: self.log.wait(epoch, offset, self._sessions, until, seconds, self._woken.fileno()))
         self.core.woke()
 
     def _needs_promises(self) -> bool:
@@ -483,6 +484,8 @@ class Member:
 
     def _snapshot_read(self, found: Snapshot) -> None:
         """Takes in a snapshot."""
+        if found.holders is not self._found.holders:
+            self._sessions = found.sessions
         self._found, self._own = found, None  # its own lease is in the snapshot
         self._giving_up.see(found)
         holder = found.holders.get(self.name)

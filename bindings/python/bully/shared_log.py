@@ -273,6 +273,12 @@ def kept_same(before: Mapping[str, Holder], holders: Mapping[str, Holder]) -> di
     return {name: kept(name, holder) for name, holder in holders.items()}
 
 
+def renewed(before: Mapping[str, Holder], holders: Mapping[str, Holder]) -> list[str]:
+    """The names whose holder isn't the same object as before. In a large group these are found much faster than
+    something is done for each holder."""
+    return [name for name, holder in holders.items() if before.get(name) is not holder]
+
+
 def promises_of(holders: Mapping[str, Holder]) -> dict[str, tuple[Promise, tuple[int, ...]]]:
     """What holders of leases have promised, and what these promises keep."""
     return {name: (holder.promise, holder.kept) for name, holder in holders.items()}

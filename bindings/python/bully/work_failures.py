@@ -14,7 +14,7 @@ from functools import partial
 
 from .clocks import seconds_of_boot
 from .core import Session
-from .shared_log import Holder, Log, Snapshot
+from .shared_log import Holder, Log, Snapshot, renewed
 
 GIVE_UP = 5  # failures in a row, by default
 LONG = 5  # ttls of work after which the failures before don't count any more
@@ -169,13 +169,10 @@ class GivingUp:
         """Takes in a snapshot."""
         if found.holders is self._holders:
             return
-        now, self._holders = seconds_of_boot(), found.holders
-
-        def since(name: str, session: Session) -> tuple[Session, float]:
-            known = self._since.get(name)
-            return known if known is not None and known[0] == session else (session, now)
-
-        self._since = {name: since(name, session) for name, session in found.sessions.items()}
+        now, before, holders = seconds_of_boot(), self._holders, found.holders
+        new = [(name, holders[name].session) for name in renewed(before, holders)]
+        known, self._holders = {name: since for name, since in self._since.items() if name in holders}, holders
+        self._since = {**known, **{name: (its, now) for name, its in new if known.get(name, (None,))[0] != its}}
 
     def due(self, found: Snapshot, names: Collection[str], leads: bool) -> Callable[[], bool] | None:
         """The call of the log that is due after a snapshot, for a node that is live; None if there is none. It returns

@@ -15,13 +15,19 @@ from bully.maintenance import Maintenance
 from bully.memory import MemoryLog
 from bully.shared_log import DamagedLog, Holder, Known, Log, NoEpoch
 from ..calls import Calls, answer_of
-from ..steps import EMPTY, OPENING, A, B, C, Clock, add, be_idle, end_of, known_to, live, where
+from ..steps import EMPTY, LONG, OPENING, A, B, C, Clock, add, be_idle, end_of, known_to, live, where
 from ..waiting import PATIENCE
 
 if TYPE_CHECKING:
     Tests = unittest.TestCase
 else:
     Tests = object
+
+
+def give_over(log: Log, name: str, session: Session, to: Session) -> None:
+    """Another session holds the lease of this name then."""
+    log.release(name, session)
+    assert log.acquire(name, to, EMPTY, LONG)
 
 
 class Laws(Tests):
@@ -123,12 +129,13 @@ class Laws(Tests):
             (lambda: other.release('c', C), {'a': Holder(A, *there), 'b': Holder(B, *here)}),
             (lambda: other.acquire('c', B, EMPTY, self.LONG), {'a': Holder(A, *there), 'b': Holder(B, *here), 'c': Holder(B, EMPTY)}),
             (lambda: other.promise('c', B, *there), {'a': Holder(A, *there), 'b': Holder(B, *here), 'c': Holder(B, *there)}),
+            (lambda: give_over(other, 'b', B, C), {'a': Holder(A, *there), 'b': Holder(C, EMPTY), 'c': Holder(B, *there)}),
         ]  # fmt: skip
         for number, (change, holders) in enumerate(changes):
             change()
-            for name in ('a', 'nobody'):
+            for name, reads in (('a', log), ('nobody', log), ('nobody', other)):  # `other` reads of nobody each time
                 with self.subTest(change=number, promise_of=name):
-                    found = log.snapshot(1, 0, name)
+                    found = reads.snapshot(1, 0, name)
                     shown = {each: holder if each == name else Holder(holder.session, *none) for each, holder in holders.items()}
                     self.assertEqual((found.holders, found.has_promises), (shown, False))
             if number % 3:
