@@ -5,17 +5,17 @@ import threading
 import time
 from collections.abc import Callable
 
-from bully.clocks import sleep_until_ready
+from bully.clocks import seconds_of_boot, sleep_until_ready
 from bully.core import Promise, Session, Until
 from bully.epochs import Opening
 from bully.maintenance import Maintenance
 from bully.shared_log import Sessions, Snapshot
 from ..steps import LONG
 from ..waiting import PATIENCE, wait_until
-from .grouped import COOPERATIVE, EAGER, Grouped
+from .grouped import COOPERATIVE, EAGER, Grouped, share_out
 from .threads import Troubled
 
-SESSION = Session(9, 1)  # of processes that take no steps
+SESSION = Session(8, 1)  # of processes that take no steps
 TTL = 5.0 * PATIENCE  # of a member that renews its lease only after the test
 
 
@@ -61,14 +61,14 @@ class PromisesRead(Grouped):
             found[threads[thread]].add(has_promises)
         return found
 
-    def read_none(self, log: Noting, drained: str) -> None:
-        """The member of b, with another one above it, reads snapshots, by news of d that change nothing, until one of
-        them leaves promises out."""
-        thread = self.members['b'][2]
+    def read_none(self, log: Noting, name: str, drained: str) -> None:
+        """The member of this node, with another one above it, reads snapshots, by news of x that change nothing, until
+        one of them leaves promises out."""
+        thread = self.members[name][2]
 
         def is_so() -> bool:
-            is_other = 'd' not in log.maintenance.drained
-            log.set_maintenance(Maintenance(frozenset(f'{drained}d' if is_other else drained)), None)
+            is_other = 'x' not in log.maintenance.drained
+            log.set_maintenance(Maintenance(frozenset(f'{drained}x' if is_other else drained)), None)
             return not [has_promises for reader, has_promises in log.snapshots if reader is thread][-1]
 
         wait_until(is_so)
@@ -98,7 +98,7 @@ class PromisesRead(Grouped):
         wait_until(lambda: len(self.works().get('b', ())) == 6 and self.works() == self.owners())
         log.set_maintenance(Maintenance(frozenset('c')), None)
         assert log.acquire('c', SESSION, Promise(1, len(log.rows)), LONG)
-        self.read_none(log, 'c')
+        self.read_none(log, 'b', 'c')
         self.keep('a', SESSION, 0)
         end = len(log.rows)
         log.release('c', SESSION)
@@ -116,10 +116,40 @@ class PromisesRead(Grouped):
         wait_until(lambda: set(shown.show().behind) == {'a'})
         log.set_maintenance(Maintenance(frozenset('ac')), None)
         assert log.acquire('c', SESSION, Promise(1, len(log.rows)), LONG)
-        self.read_none(log, 'ac')
+        self.read_none(log, 'b', 'ac')
         log.set_maintenance(Maintenance(frozenset('c')), None)
         wait_until(lambda: not shown.show().behind, 5)
         self.assertTrue(shown.show().is_stable)
+
+    def test_for_whom_a_change_still_waits(self) -> None:
+        """A member that reads no promises any more goes on to report for whom the change under way waited before, and
+        nobody else. So of one that had promised, and has to stop more, only the time since then is shown."""
+        log = self.begin_log(COOPERATIVE)
+        sessions = share_out(log, *'ab')
+        self.come('c', TTL)
+        behind = self.members['c'][0].behind
+
+        def reported() -> set[str]:
+            return set(behind.seen(Promise(1, len(log.rows)), log.holders))
+
+        wait_until(lambda: reported() == {'a', 'b'})
+        shown = self.viewed(log)
+        wait_until(lambda: shown.show().moves)
+        kept = [partition for partition, each in enumerate(shown.show().partitions) if each.coming == 'b']
+        self.keep('b', sessions['b'], *kept)
+        wait_until(lambda: reported() == {'a'})
+        known = seconds_of_boot()
+        log.set_maintenance(Maintenance(frozenset('d')), None)
+        assert log.acquire('d', SESSION, Promise(1, len(log.rows)), LONG)
+        self.read_none(log, 'c', 'd')
+        wait_until(lambda: seconds_of_boot() > known + 0.5)
+        self.assertEqual(reported(), {'a'})
+        shown, undrained = self.viewed(log, behind), seconds_of_boot()
+        log.set_maintenance(Maintenance(), None)
+        wait_until(lambda: set(shown.show().behind) == {'a', 'b'})
+        waited = shown.show().behind
+        self.assertGreaterEqual(waited['a'], undrained - known)
+        self.assertLessEqual(waited['b'], seconds_of_boot() - undrained)
 
     def test_in_a_pause(self) -> None:
         """All do, because promises say whether a change is completed first."""
