@@ -29,7 +29,6 @@ from .soaking import Recorded
 
 NODES, PARTITIONS = 3, 6
 SOON = 8.0  # seconds that anything may take here: with a bug it may never come
-SHOWN = 5  # refusals that are printed
 
 
 def words() -> argparse.Namespace:
@@ -71,9 +70,10 @@ def see_acts(group: Group, occur: Collection[str]) -> None:
     """Judges what the group did, by each of these premises."""
     verdict = judge([*acts_in(group), *kept_of(group)])
     print(verdict)
-    for refusal in verdict.refused[:SHOWN]:
-        print(f'refused: {refusal}')
-    group.count(not verdict.refused, f'{len(verdict.refused)} acts were refused')
+    first = {refusal.premise: refusal for refusal in reversed(verdict.refused)}
+    for refusal in first.values():
+        print(f'refused, for the first time by this premise: {refusal}')
+    group.count(not verdict.refused, f'{len(verdict.refused)} acts were refused, by {", ".join(sorted(first))}')
     never = sorted(set(verdict.never()) & set(occur))
     group.count(not never, f'no act was judged by {", ".join(never)}')
 
