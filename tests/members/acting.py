@@ -137,7 +137,10 @@ class ActedLog:
     def __getattr__(self, name: str) -> object:
         return getattr(self._log, name)  # of the other calls
 
-    def _call(self, call: str, done: Callable[[], _Answered], shown: Callable[[_Answered], object], **more: object) -> _Answered:
+    def _call(
+        self, call: str, done: Callable[[], _Answered], shown: Callable[[_Answered], object], **more: object
+    ) -> _Answered:  # fmt: skip
+        """The answer of that call."""
         note('asks', moment(), call=call, **more)
         result: object = FAILED
         try:

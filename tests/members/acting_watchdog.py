@@ -1,7 +1,5 @@
-"""The watchdog of a member whose acts are written down: `bully.watchdog` with the same words, which also writes down the
-workers that it starts, what these are told and answer, and the ends that it reports.
-
-Its acts are `runs`, `tells`, `heard` and `says` (`acts.py`).
+"""The watchdog of a member whose acts are written down: `bully.watchdog`, which also writes down the workers that it
+starts, what these are told and answer, and the ends that it reports (`acts.py`).
 """
 from __future__ import annotations
 

@@ -3,13 +3,14 @@ run have of drivers (`docs/PROMISES.md`). It judges these acts alone, and has no
 
 An act is a line of JSON: `at`, a moment by CLOCK_BOOTTIME; `member`, the process of a member; `kind`; and more:
 
-| Kind | Who writes it, and of what |
-|---|---|
-| `starts`, `steps`, `answered`, `learned`, `shown`, `followed`, `stopped`, `stopped_on` | `acting.py`, of a call on the rules of a member, each with what these are then: `in` which epoch, the `end` of its log, until when the lease is `sure`, and the number of the session that is `live` |
-| `asks`, `gave` | `acting.py`, of a call of the log, and of what came of it |
-| `runs`, `tells`, `heard`, `says` | `acting_watchdog.py`, of a worker that starts, is told a line, or has answered a stop; and of an end that is reported to the member |
-| `unit` | `recorder.py`, of a unit of work |
-| `kept` | `premises.py`, at the end, of an epoch, as the store has it |
+- `starts`, `steps`, `answered`, `learned`, `shown`, `followed`, `stopped`, `stopped_on`: a call on the rules of a
+  member, each with what these are then: `in` which epoch, the `end` of its log, until when the lease is `sure`, and the
+  number of the session that is `live`. `acting.py` writes these, and
+- `asks`, `gave`: a call of the log, and what came of it;
+- `runs`, `tells`, `heard`, `says`: a worker starts, is told a line, has answered a stop; an end is reported to the
+  member. `acting_watchdog.py` writes these;
+- `unit`: a unit of work that is over, or whose worker was killed in it. `recorder.py` writes it;
+- `kept`: an epoch, as the store has it in the end. `premises.py` writes it.
 """
 from __future__ import annotations
 
@@ -191,7 +192,8 @@ class Sureness:
 
     def __init__(self) -> None:
         self.spans: dict[str, list[Span]] = defaultdict(list)
-        self.seen: list[tuple[Act, int, dict[str, tuple[int, int]]]] = []  # an answer, when it was requested, and who held the leases
+        # Answers: when each was requested, and the sessions that hold leases by it.
+        self.seen: list[tuple[Act, int, dict[str, tuple[int, int]]]] = []
 
     def judge(self, hold: Callable[[str, bool, Act, str], None]) -> None:
         """Within the time for which a session was sure nobody may have seen its lease gone, or another session's."""
@@ -298,7 +300,8 @@ class Judge:
         process = act.more['process']
         self.hold('Starts', process not in self.numbers, act, 'another one had this number')
         self.numbers.add(process)
-        course.start, course.tries, course.step, course.own, course.leases = act.more, 0, None, None, {}
+        self._close(course, act.at)
+        course.start, course.state, course.tries, course.released, course.step = act.more, {}, 0, None, None
         self._enter(course, act, act.more)
 
     def _enter(self, course: Course, act: Act, opening: Mapping[str, Any]) -> None:
@@ -311,7 +314,9 @@ class Judge:
         if there is not None and has_begun and course.name in there['names']:
             kept = there['header'], there['is_cooperative'], there['names'].index(course.name) + 1
         self.hold('IsEpochOf', told == kept, act, f'the store has {kept}')
-        course.names, course.is_cooperative = there['names'] if there is not None else (), opening['is_cooperative']
+        if act.more['in'] == epoch != course.state.get('in'):
+            course.names, course.is_cooperative = there['names'] if there is not None else (), opening['is_cooperative']
+            course.leases, course.own, course.revision = {}, None, 0
 
     def _steps(self, course: Course, act: Act) -> None:
         if act.more['step'] == 'Ask':
@@ -347,17 +352,17 @@ class Judge:
         course.learned = rows
 
     def _shown(self, course: Course, act: Act) -> None:
-        step, asks, gave = course.step, course.asks, course.gave
-        found = gave.more['result'] if gave is not None and gave.more['call'] == 'snapshot' else {}
+        asks, gave = course.asks, course.gave
+        found = gave.more['result'] if gave is not None and gave.more['call'] == 'snapshot' else None
         if asks is None or gave is None or not isinstance(found, dict):
             self._see_answer(course, act, False)
             return
         leases = {course.names[int(node) - 1]: lease for node, lease in act.more['leases'].items()}
-        are_same = found['is_paused'] or leases == {name: each for name, each in found['holders'].items() if name in course.names}
+        there = {name: lease for name, lease in found['holders'].items() if name in course.names}
         is_same = (found['epoch'], found['rows']) == (act.more['epoch'], course.learned)
-        self._see_answer(course, act, is_same and are_same)
+        self._see_answer(course, act, is_same and (found['is_paused'] or leases == there))
         course.leases, course.own, course.revision = leases, None, found['revision']
-        if act.more['epoch'] == act.more['in'] and step is not None:
+        if act.more['epoch'] == act.more['in']:
             self._see_whole(act, asks.at, gave.at, found['holders'].values())
 
     def _see_whole(self, act: Act, asked: int, gave: int, leases: Iterable[Lease]) -> None:
@@ -503,7 +508,8 @@ class Judge:
         has_ended = token in over.tokens and token not in work.tokens
         premise = over.ended_by if has_ended else 'MayStart'
         is_so = work.tokens.get(token, begun) < begun
-        self.hold(premise, is_so, act, f'work goes on there by {sorted(work.tokens)}, and had ended by {sorted(over.tokens)}')
+        why = f'work goes on there by {sorted(work.tokens)}, and by {sorted(over.tokens)} it had ended'
+        self.hold(premise, is_so, act, why)
 
 
 def judge(acts: Iterable[Act]) -> Verdict:

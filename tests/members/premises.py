@@ -20,7 +20,7 @@ import subprocess
 import sys
 import tempfile
 import time
-from collections.abc import Collection, Iterator
+from collections.abc import Callable, Collection, Iterator, Sequence
 from pathlib import Path
 
 from .acts import PREMISES, Act, act_of, judge
@@ -28,7 +28,7 @@ from .groups import KINDS, NAMES, Group, add_modes, init_words
 from .soaking import Recorded
 
 NODES, PARTITIONS = 3, 6
-SOON = 8.0  # seconds that anything may take here: with a bug it may never come
+SOON = 10.0  # seconds that anything may take here: with a bug it may never come
 
 
 def words() -> argparse.Namespace:
@@ -72,7 +72,7 @@ def see_acts(group: Group, occur: Collection[str]) -> None:
     print(verdict)
     first = {refusal.premise: refusal for refusal in reversed(verdict.refused)}
     for refusal in first.values():
-        print(f'refused, for the first time by this premise: {refusal}')
+        print(f'refused, for the first time by this premise: {refusal} ({PREMISES[refusal.premise]})')
     group.count(not verdict.refused, f'{len(verdict.refused)} acts were refused, by {", ".join(sorted(first))}')
     never = sorted(set(verdict.never()) & set(occur))
     group.count(not never, f'no act was judged by {", ".join(never)}')
@@ -88,25 +88,23 @@ class Trial:
         self.group, self.file = group, file
 
     def run(self) -> None:
-        self.group.begin_all(NAMES[:NODES])
-        self.settle('the start')
-        self.lock()
-        self.settle('the end of a lock')
-        self.stop('b')
-        self.settle('the end of a stop')
-        self.turn()
-        self.settle('other numbers')
-        self.kill('a')
-        self.settle('a death')
-        self.group.begin('a')
-        self.settle('a return')
+        """One after the other, as long as the group becomes stable in time."""
+        changes: Sequence[tuple[str, Callable[[], object]]] = (
+            ('the start', lambda: self.group.begin_all(NAMES[:NODES])), ('a lock', self.lock),
+            ('a stop', lambda: self.stop('b')), ('other numbers', self.turn), ('a death', lambda: self.kill('a')),
+            ('a return', lambda: self.group.begin('a')),
+        )  # fmt: skip
+        for what, change in changes:
+            change()
+            if not self.is_settled():
+                self.group.count(False, f'{what}: not stable in {SOON:g} s')
+                break
         self.end()
 
-    def settle(self, what: str) -> None:
+    def is_settled(self) -> bool:
         """Waits until the group is stable, and works."""
-        since = self.group.stay_stable(0.0, time.monotonic() + SOON)
-        self.group.count(since is not None, f'{what}: not stable in {SOON:g} s')
-        self.group.count(self.group.goes_on(time.monotonic() + SOON) is not None, f'{what}: no work in {SOON:g} s')
+        end = time.monotonic() + SOON
+        return self.group.stay_stable(0.0, end) is not None and self.group.goes_on(end) is not None
 
     def lock(self) -> None:
         """Nobody can write for half a ttl: longer than a member waits for that."""
@@ -115,7 +113,7 @@ class Trial:
             time.sleep(self.group.ttl / 2)
 
     def stop(self, name: str) -> None:
-        """The member is stopped until its lease is over. One that has the file locked then is killed by its watchdog."""
+        """The member is stopped until its lease is over. Its watchdog kills one that has the file locked then."""
         member = self.group.members[name]
         member.send_signal(signal.SIGSTOP)
         time.sleep(1.5 * self.group.ttl)
@@ -136,11 +134,12 @@ class Trial:
 
     def end(self) -> None:
         """All leave in order."""
+        end = time.monotonic() + SOON
         for member in self.group.members.values():
             member.terminate()
         for name, member in self.group.members.items():
             with contextlib.suppress(subprocess.TimeoutExpired):
-                member.wait(SOON)
+                member.wait(max(0.0, end - time.monotonic()))
             self.group.count(member.returncode == 0, f'{name} ended with status {member.returncode}')
 
 
