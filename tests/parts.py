@@ -55,8 +55,8 @@ PARTS = [
     Part('package', 'tests/members/run package BUILT/library', 'library'),
     Part('rules', 'tests/members/run rules BUILT/library', 'library', short='--rebalance 100 --explore 50000 --restarts 4 --manners 3',
          full='--rebalance 5000 --explore 500000 --restarts 100 --manners 300', limit=7200),
-    # (those of the stores; in full all of the package, and those of the rules, for each of which a library is built)
-    Part('bugs', 'tests/members/run wrong BUILT/library --jobs 4 memory: sqlite: etcd:', 'library', full='test', limit=7200),
+    # (those of the stores; in full all of the package and of drivers, and those of the rules, for each of which a library is built)
+    Part('bugs', 'tests/members/run wrong BUILT/library --jobs 4 memory: sqlite: etcd:', 'library', full='test premises', limit=7200),
     Part('bugs-of-rules', 'tests/members/run wrong BUILT/library --edited BUILT/edited .edit', 'library', short=NONE, whole=NONE,
          full='--jobs 2', limit=7200),
     Part('members', MEMBERS, 'library', short='--to 60', whole='--to 300', full='--to 10000', limit=7200),
@@ -72,6 +72,8 @@ PARTS = [
     Part('kills-cooperating', 'tests/members/run try BUILT/library --cooperative --kind each', 'library',
          short='--kills 1 --pauses 1 --epochs 1 --maintenance 1 --share 4', whole='--kills 2 --pauses 3 --epochs 1 --maintenance 1 --share 4',
          full='--kills 50 --pauses 25 --share 1', limit=7200),
+    Part('premises', 'tests/members/run premises BUILT/library', 'library'),
+    Part('premises-cooperating', 'tests/members/run premises BUILT/library --cooperative --kind each', 'library'),
     Part('network', 'tests/members/run network BUILT/library', 'library', 'etcd', '--faults 4', '--faults 8', '--faults 100', limit=7200),
     Part('soak', 'tests/members/run soak BUILT/library', 'library', short=NONE, whole=NONE, full='--seconds 20'),
     Part('soak-over-etcd', 'tests/members/run soak BUILT/library --store etcd', 'library', 'etcd', NONE, NONE, '--seconds 20'),

@@ -18,7 +18,7 @@ from bully.command import parser
 from bully.shared_log import Log, Unanswered
 from bully.store_options import store_of
 from bully.view import GroupView, LogView
-from places import environment
+from places import PYTHON, environment
 from .processes import children, close_all, is_running, own_memory, processor_seconds, send_all, workers_of
 from .tables import kept, most_kept, owners_by_name
 from .waiting import wait_until
@@ -120,12 +120,13 @@ class Group:
     def __init__(
         self, folder: Path, stores: dict[str, str], ttl: float, within: Callable[[str], Sequence[str]] = lambda _: (),
         names: Sequence[str] = NAMES, partitions: int = PARTITIONS, words: Sequence[str] = (),
-        work: Callable[[Path, int], Work] = Work, init: Sequence[str] = (),
+        work: Callable[[Path, int], Work] = Work, init: Sequence[str] = (), acts: Path | None = None,
     ) -> None:  # fmt: skip
         """A new group. `stores` has the address of the log for each member, and for the view of the group ('').
         `within` has the words by which a process is begun where a member is; `words` are more ones for each member, and
-        `init` for the making of the log; and `work` makes what has the work, in a folder."""
-        self.folder, self.ttl, self.words = folder, ttl, list(words)
+        `init` for the making of the log; `work` makes what has the work, in a folder; and in the folder `acts`, if there
+        is one, members write down what they do (`acting.py`)."""
+        self.folder, self.ttl, self.words, self.acts = folder, ttl, list(words), acts
         self.stores, self.within = stores, within
         self.configs = 0
         self.config = self.configured(names, partitions)
@@ -153,12 +154,14 @@ class Group:
 
     def command(self, name: str, *more: str, member: str = '') -> subprocess.Popen[bytes]:
         """Starts `bully-member`, where the member is, if one is named."""
-        within = self.within(member) if member else ()
+        within, program, path = self.within(member) if member else (), ['bully_member'], str(PYTHON)
+        if member and self.acts is not None:
+            program, path = ['members.acting', str(self.acts)], os.pathsep.join([str(HERE.parent), path])
         words = [
-            *within, sys.executable, '-W', 'error', '-m', 'bully_member', name, '--log', self.stores[member], *more,
+            *within, sys.executable, '-W', 'error', '-m', *program, name, '--log', self.stores[member], *more,
         ]  # fmt: skip
         with open(self.said(member or name), 'ab') as said:
-            return subprocess.Popen(words, env=environment(), stdout=said, stderr=said)
+            return subprocess.Popen(words, env=environment(PYTHONPATH=path), stdout=said, stderr=said)
 
     def said(self, name: str) -> Path:
         """The file of what a member, or another command, says."""

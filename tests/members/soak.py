@@ -7,7 +7,8 @@ workers do.
 LIBRARY_FOLDER is what `bin/library` wrote. Members, their watchdogs and their workers are killed and paused, by a seed,
 also a member with its worker and with its watchdog at one moment; so are the servers, one or all. Whatever has ended is
 started again. After a share of the faults the group gets time to become stable, and after the others the next one
-comes. Each worker asks the recorder, a process of its own, for each unit of work (`recorder.py`).
+comes. Each worker asks the recorder, a process of its own, for each unit of work (`recorder.py`). All members write down
+what they do, and at the end these acts are judged by the premises that the promises have of drivers (`acts.py`).
 
 Each kind of fault must be seen to happen. At the end the group must become stable, and leave in order; no unit may
 have overlapped another one, or have been requested with an old token; and the logs must be lawful, also with
@@ -29,6 +30,7 @@ from pathlib import Path
 from .etcd_servers import PROGRAM, Servers
 from .faults import addresses
 from .groups import KINDS, NAMES, Group, add_modes, init_words
+from .premises import occurring, see_acts
 from .soaking import Recorded, Soak, see_faults
 
 NODES_MAX = 5
@@ -66,11 +68,12 @@ def stores_in(
 def begun(
     closing: contextlib.ExitStack, folder: Path, stores: dict[str, str], nodes: int, options: argparse.Namespace
 ) -> Group:
-    """A group with a recorder."""
-    folder.mkdir(exist_ok=True)
+    """A group with a recorder, whose members write down what they do."""
+    acts = folder / 'acts'
+    acts.mkdir(parents=True, exist_ok=True)
     group = Group(
         folder, stores, options.ttl, names=NAMES[:nodes], words=KINDS[options.kind], work=Recorded,
-        init=init_words(options),
+        init=init_words(options), acts=acts,
     )  # fmt: skip
     assert isinstance(group.work, Recorded)
     closing.callback(group.work.close)
@@ -99,6 +102,7 @@ def soak_in(folder: Path, options: argparse.Namespace) -> Group:
         group.end(options.program)
         soak.judge()
         soak.tell()
+        see_acts(group, occurring(options))
     return group
 
 

@@ -202,8 +202,9 @@ class Soak:
     # All of it.
 
     def run(self, seconds: float) -> None:
-        """Faults for so long; each kind once at least."""
+        """Faults for so long; each kind once at least. Before them the nodes get other numbers, in a new epoch."""
         self.group.become_stable('the start', lambda: self.group.begin_all(self.names))
+        self.group.resize('other numbers', self.names[1:] + self.names[:1], self.group.work.partitions)
         end, kinds = time.monotonic() + seconds, self.turns()
         while (
             time.monotonic() < end or time.monotonic() < end + PATIENCE and not all(map(self.happened.get, self.kinds))

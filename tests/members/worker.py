@@ -22,6 +22,8 @@ ROW = 64  # bytes that a row has at most
 UNIT = 0.002  # seconds that a unit of work takes
 
 folder, node, answers = sys.argv[1], os.environ['BULLY_NODE'], os.environ.get('BULLY_ANSWERS')
+member = os.environ.get('ACTS_OF', '-')  # whose acts are written down, if they are: these have the clock of leases
+clock = time.CLOCK_MONOTONIC if member == '-' else time.CLOCK_BOOTTIME
 lines = open(0, 'rb', buffering=0, closefd=False)  # so that nothing is read ahead
 token, partitions = int(os.environ.get('BULLY_TOKEN', 0)), os.environ.get('BULLY_PARTITIONS', '').split()
 recorder = socket.socket(socket.AF_UNIX, socket.SOCK_SEQPACKET)
@@ -60,10 +62,10 @@ def work_by_file(partition: str) -> None:
 
 def work_by_recorder(partition: str) -> None:
     """One unit, by leave of the recorder."""
-    recorder.send(f'begin {partition} {token} {node} {time.clock_gettime_ns(time.CLOCK_MONOTONIC)}'.encode())
+    recorder.send(f'begin {partition} {token} {node} {member} {time.clock_gettime_ns(clock)}'.encode())
     if recorder.recv(ROW) == b'granted':
         time.sleep(UNIT)
-        recorder.send(b'end %d' % time.clock_gettime_ns(time.CLOCK_MONOTONIC))
+        recorder.send(b'end %d' % time.clock_gettime_ns(clock))
 
 
 def hear() -> None:

@@ -1,0 +1,51 @@
+"""Writes down what a process of a member does: its acts, as lines of a file of its own (`acts.py`).
+
+Each line is written at once, by one call of the system, since whoever writes may be killed at any moment. A fork of the
+watchdog writes into the file of its parent.
+"""
+from __future__ import annotations
+
+import json
+import os
+import time
+from contextlib import suppress
+
+FOLDER, OF = 'ACTS_FOLDER', 'ACTS_OF'  # of the environment: where acts are kept, and of which member's process they are
+
+
+def moment() -> int:
+    """The clock of leases on one machine."""
+    return time.clock_gettime_ns(time.CLOCK_BOOTTIME)
+
+
+class Pen:
+    """Writes the acts of this process."""
+
+    def __init__(self) -> None:
+        self.member = os.environ[OF]
+        file = os.path.join(os.environ[FOLDER], f'{self.member}.{os.getpid()}')
+        self.file = os.open(file, os.O_WRONLY | os.O_APPEND | os.O_CREAT | os.O_CLOEXEC, 0o600)
+
+    def note(self, kind: str, at: int, **more: object) -> None:
+        """An act of this kind, done at that moment."""
+        text = json.dumps({'at': at, 'member': self.member, 'kind': kind, **more})
+        os.write(self.file, f'{text}\n'.encode())
+
+
+def living_below(process: int) -> list[int]:
+    """The processes that this one has started, with all that they have, but for those that have ended and that nobody
+    has waited for."""
+    found: list[int] = []
+    with suppress(OSError):  # it has ended
+        for task in os.listdir(f'/proc/{process}/task'):
+            with open(f'/proc/{process}/task/{task}/children', encoding='ascii') as file:
+                found += map(int, file.read().split())
+    return [each for child in found for each in (*([child] if is_alive(child) else []), *living_below(child))]
+
+
+def is_alive(process: int) -> bool:
+    """Whether that process is there, and not only its status."""
+    with suppress(OSError):
+        with open(f'/proc/{process}/stat', encoding='utf-8', errors='replace') as file:
+            return file.read().rsplit(')', 1)[1].split()[0] not in 'ZX'
+    return False

@@ -1,0 +1,223 @@
+"""`bully-member`, which also writes down what it does: each call on the rules of its member, and each call of the log.
+
+    python -m members.acting FOLDER WORDS OF BULLY-MEMBER ..
+
+The package isn't changed for that: what is between driver and rules, and between driver and log, is wrapped here, and
+the watchdog is that of `acting_watchdog.py`. The acts go into a file of FOLDER. `acts.py` says which there are, and
+judges them.
+"""
+from __future__ import annotations
+
+import os
+import signal
+import sys
+from collections.abc import Callable, Mapping, Sequence
+from contextlib import suppress
+from pathlib import Path
+from typing import Any, TypeVar
+
+from bully import command, member, worker
+from bully.core import Ask, Begin, Core, CoreOpening, Live, Promise, Request, Seen, Session, Step, StoreAnswer
+from bully.epochs import Opening, Token
+from bully.faults import BullyError
+from bully.shared_log import Holder, Known, Log, Snapshot, Unanswered
+from bully.values import Line
+
+from .acted import FOLDER, OF, Pen, living_below, moment
+
+WATCHDOG = str(Path(__file__).with_name('acting_watchdog.py'))
+CALLS = {
+    Request.ACQUIRE: 'acquire', Request.RENEW: 'renew', Request.RELEASE: 'release', Request.SNAPSHOT: 'snapshot',
+    Request.PROMISE: 'promise', Request.APPEND: 'append', Request.ROLL_OVER: 'roll_over', Request.FOLLOW: 'opening',
+}  # fmt: skip
+UNANSWERED, FAILED = 'unanswered', 'failed'
+Told = dict[str, Any]
+_Answered = TypeVar('_Answered')
+pens: list[Pen] = []  # the one of this process
+
+
+def note(kind: str, at: int, **more: object) -> None:
+    pens[0].note(kind, at, **more)
+
+
+def shown_opening(opening: Opening | CoreOpening) -> Told:
+    """An opening, as an act has it: that of the store has names, and that for a member the number of its node."""
+    more: Told = {'names': opening.names} if isinstance(opening, Opening) else {'node': opening.node}
+    return {'epoch': opening.epoch, 'header': str(opening.header), 'is_cooperative': opening.is_cooperative, **more}
+
+
+def shown_lease(session: Session, promise: Promise, kept: Sequence[int]) -> list[object]:
+    return [session.process, session.number, promise.epoch, promise.offset, list(kept)]
+
+
+def shown_holders(holders: Mapping[str, Holder]) -> Told:
+    return {name: shown_lease(*holder) for name, holder in holders.items()}
+
+
+# ---- Calls on the rules
+
+
+class ActedCore(Core):
+    """The rules of a member. Each call that changes them is written down, with what they are then."""
+
+    def __init__(self, opening: CoreOpening, process: int, ttl: int) -> None:
+        super().__init__(opening, process, ttl)
+        note('starts', moment(), process=process, name=ActedMember.acts_for, **shown_opening(opening), **self._now())
+
+    def _now(self) -> Told:
+        """The epoch, the end of its log, until when the lease is sure, and the number of the session that is live."""
+        live = self.session
+        number = live.session.number if isinstance(live, Live) else None
+        return {'in': self.epoch, 'end': self.offset, 'sure': self.sure_until, 'live': number}
+
+    def _about(self, step: Step) -> Told:
+        """What a step is, and what a driver reads for it."""
+        if isinstance(step, Begin):
+            owned = self.owned()
+            return {'token': Token.of(self.epoch, step.token), 'owned': owned.partitions if owned is not None else ()}
+        if not isinstance(step, Ask):
+            return {}
+        session = [step.session.process, step.session.number]
+        about = {'request': CALLS[step.request], 'session': session, 'offset': step.offset, 'works': self.works()}
+        if step.request in (Request.APPEND, Request.ROLL_OVER):
+            nodes = range(1, self.nodes + 1)
+            about.update(affected=[node for node in nodes if self.is_affected(node)], is_ending=self.ending is not None)
+        if step.request is Request.APPEND:
+            with suppress(BullyError):  # then the driver gets the same
+                about.update(rows=self.rebalance())
+        return about
+
+    def next(self, now: int) -> Step:
+        step = super().next(now)
+        note('steps', moment(), now=now, step=type(step).__name__, **self._about(step), **self._now())
+        return step
+
+    def answered(self, now: int, answer: StoreAnswer) -> None:
+        at = moment()
+        super().answered(now, answer)
+        note('answered', at, now=now, answer=answer.value, **self._now())
+
+    def learn(self, rows: Sequence[Line]) -> None:
+        at, told = moment(), {'epoch': self.epoch, 'offset': self.offset, 'rows': list(map(str, rows))}
+        super().learn(rows)
+        note('learned', at, **told, **self._now())
+
+    def snapshot_read(self, now: int, seen: Seen) -> None:
+        at = moment()
+        super().snapshot_read(now, seen)
+        leases = {lease.node: shown_lease(lease.session, lease.promise, lease.kept) for lease in seen.leases}
+        note('shown', at, now=now, epoch=seen.epoch, leases=leases, **self._now())
+
+    def followed(self, now: int, opening: CoreOpening | None) -> None:
+        at = moment()
+        super().followed(now, opening)
+        note('followed', at, now=now, opening=opening and shown_opening(opening), **self._now())
+
+    def stopped(self) -> None:
+        at, there = moment(), living_below(os.getpid())
+        super().stopped()
+        note('stopped', at, there=there, **self._now())
+
+    def stopped_on(self, partition: int) -> None:
+        at, there = moment(), living_below(os.getpid())
+        super().stopped_on(partition)
+        note('stopped_on', at, partition=partition, there=there, **self._now())
+
+
+# ---- Calls of the log
+
+
+class ActedLog:
+    """A log. Of the calls that requests of the rules are, each is written down as `asks`, and what came of it as
+    `gave`."""
+
+    def __init__(self, log: Log) -> None:
+        self._log = log
+
+    def __getattr__(self, name: str) -> object:
+        return getattr(self._log, name)  # of the other calls
+
+    def _call(
+        self, call: str, done: Callable[[], _Answered], shown: Callable[[_Answered], object], **more: object
+    ) -> _Answered:  # fmt: skip
+        """The answer of that call."""
+        note('asks', moment(), call=call, **more)
+        result: object = FAILED
+        try:
+            answer = done()
+            result = shown(answer)
+            return answer
+        except Unanswered:
+            result = UNANSWERED
+            raise
+        finally:
+            note('gave', moment(), call=call, result=result)
+
+    def acquire(self, name: str, session: Session, promise: Promise, ttl: int) -> bool:
+        told = {'name': name, 'session': [*vars(session).values()], 'epoch': promise.epoch, 'offset': promise.offset}
+        return self._call('acquire', lambda: self._log.acquire(name, session, promise, ttl), bool, **told)
+
+    def renew(self, name: str, session: Session, ttl: int) -> bool:
+        told = {'name': name, 'session': [*vars(session).values()]}
+        return self._call('renew', lambda: self._log.renew(name, session, ttl), bool, **told)
+
+    def release(self, name: str, session: Session) -> None:
+        told = {'name': name, 'session': [*vars(session).values()]}
+        self._call('release', lambda: self._log.release(name, session), lambda _: True, **told)
+
+    def promise(self, name: str, session: Session, promise: Promise, kept: tuple[int, ...] = ()) -> bool:
+        told = {'name': name, 'session': [*vars(session).values()], 'epoch': promise.epoch, 'offset': promise.offset}
+        return self._call('promise', lambda: self._log.promise(name, session, promise, kept), bool, works=kept, **told)
+
+    def append(self, epoch: int, offset: int, rows: Sequence[str], known: Known | None = None) -> bool:
+        told = {'epoch': epoch, 'offset': offset, 'rows': list(rows), 'known': shown_known(known)}
+        return self._call('append', lambda: self._log.append(epoch, offset, rows, known), bool, **told)
+
+    def roll_over(self, epoch: int, offset: int, opening: Opening, known: Known | None = None) -> bool:
+        told = {'epoch': epoch, 'offset': offset, 'names': opening.names, 'known': shown_known(known)}
+        return self._call('roll_over', lambda: self._log.roll_over(epoch, offset, opening, known), bool, **told)
+
+    def snapshot(self, epoch: int, offset: int, promise_of: str | None = None) -> Snapshot:
+        told = {'epoch': epoch, 'offset': offset}
+        return self._call('snapshot', lambda: self._log.snapshot(epoch, offset, promise_of), shown_snapshot, **told)
+
+    def opening(self, epoch: int | None = None) -> Opening:
+        return self._call('opening', lambda: self._log.opening(epoch), shown_opening)
+
+
+def shown_known(known: Known | None) -> Told | None:
+    if known is None:
+        return None
+    return {'affected': sorted(known.affected), 'holders': shown_holders(known.holders), 'revision': known.revision}
+
+
+def shown_snapshot(found: Snapshot) -> Told:
+    told = {'rows': list(found.rows), 'holders': shown_holders(found.holders), 'revision': found.revision}
+    return {'epoch': found.epoch, 'is_paused': found.maintenance.is_paused, **told}
+
+
+# ---- The command
+
+
+class ActedMember(member.Member):
+    """A member over such a log."""
+
+    acts_for = ''  # the name of its node
+
+    def __init__(self, log: Log, node: int | str, *more: Any, **named: Any) -> None:
+        ActedMember.acts_for = str(node)
+        super().__init__(ActedLog(log), node, *more, **named)  # type: ignore[arg-type]
+
+
+def main() -> int:
+    signal.pthread_sigmask(signal.SIG_BLOCK, signal.valid_signals())  # as `bully_member` does
+    os.environ[FOLDER], os.environ[OF] = sys.argv[1], f'{os.getpid()}-{moment()}'
+    pens.append(Pen())
+    worker.WATCHDOG = WATCHDOG
+    setattr(member, 'Core', ActedCore)
+    setattr(command, 'Member', ActedMember)
+    return command.main(sys.argv[2:])
+
+
+if __name__ == '__main__':
+    sys.exit(main())

@@ -1,0 +1,74 @@
+"""The watchdog of a member whose acts are written down: `bully.watchdog`, which also writes down the workers that it
+starts, what these are told and answer, and the ends that it reports (`acts.py`).
+"""
+from __future__ import annotations
+
+import json
+import os
+import sys
+import types
+from collections.abc import Sequence
+from pathlib import Path
+
+TESTS = Path(__file__).resolve().parents[1]
+alone = types.ModuleType('bully')  # as in the watchdog itself
+alone.__path__ = [str(TESTS.parent / 'bindings' / 'python' / 'bully')]
+sys.modules['bully'] = alone
+sys.path.append(str(TESTS))
+
+from bully import watchdog
+
+from members.acted import Pen, living_below, moment
+
+pen = Pen()
+keepers: list[ActedKeeper] = []  # the one of this process, if it is one
+
+
+class ActedWorker(watchdog.Worker):
+    """A worker whose start is written down, and what it is told and answers."""
+
+    def __init__(self, words: Sequence[str], environment: list[bytes], talks: bool) -> None:
+        super().__init__(words, environment, talks)
+        told = dict(entry.decode().split('=', 1) for entry in environment if entry)
+        keeper, partitions = keepers[-1], told.get('BULLY_PARTITIONS', '').split()
+        keeper.processes[keeper.begins] = self.process
+        work = {'token': int(told.get('BULLY_TOKEN', 0)), 'partitions': list(map(int, partitions))}
+        pen.note('runs', keeper.asked, process=self.process, until=keeper.until, **work)
+
+    def tell(self, line: bytes) -> None:
+        if self.lines is not None:  # else it takes none
+            keeper, told = keepers[-1], json.loads(line)
+            at = keeper.asked if 'begin' in told else moment()
+            pen.note('tells', at, process=self.process, until=keeper.until, **told)
+        super().tell(line)
+
+    def answers_stops(self) -> int:
+        count = super().answers_stops()
+        for _ in range(count):
+            pen.note('heard', moment(), process=self.process)
+        return count
+
+
+class ActedKeeper(watchdog.Keeper):
+    """A keeper that notes when it was asked to begin, before it looks at its clock."""
+
+    asked, begins = 0, b''
+    processes: dict[bytes, int]  # those that it has started, by their names
+
+    def begin(self, name: bytes, words: bytes) -> None:
+        self.asked, self.begins = moment(), name
+        if not keepers or keepers[-1] is not self:
+            self.processes = {}
+            keepers.append(self)
+        super().begin(name, words)
+
+    def say(self, word: str, *more: int, name: bytes = b'') -> None:
+        process = self.processes.get(name or self.name) if keepers else None
+        if process is not None and word in ('stopped', 'lost', 'ended'):
+            pen.note('says', moment(), word=word, process=process, there=living_below(os.getpid()))
+        super().say(word, *more, name=name)
+
+
+watchdog.Worker, watchdog.Keeper = ActedWorker, ActedKeeper  # type: ignore[misc]
+if __name__ == '__main__':
+    watchdog.main()

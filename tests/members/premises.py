@@ -1,0 +1,175 @@
+"""Tries the premises of drivers in a short run of processes: three members over a file, whose acts are written down and
+judged (`acts.py`).
+
+    tests/members/run premises LIBRARY_FOLDER [--ttl SECONDS] [--cooperative] [--kind KIND] [--folder FOLDER]
+
+LIBRARY_FOLDER is what `bin/library` wrote. Each kind of act occurs: members start, and end in order; the file is locked
+for so long that requests aren't answered; a member is stopped for longer than its lease lasts, and one is killed; and
+the nodes get other numbers. An act that breaks a premise is printed, with the name of the premise. It is a failure,
+too, if no act was judged by one of them. The last line is 'N passed, M failed'; the exit status is 0 if M is 0,
+otherwise 1.
+"""
+from __future__ import annotations
+
+import argparse
+import contextlib
+import os
+import signal
+import sqlite3
+import subprocess
+import sys
+import tempfile
+import time
+from collections.abc import Callable, Collection, Iterator, Sequence
+from pathlib import Path
+
+from .acts import PREMISES, Act, act_of, judge
+from .groups import KINDS, NAMES, Group, add_modes, init_words
+from .soaking import Recorded
+
+NODES, PARTITIONS = 3, 6
+SOON = 10.0  # seconds that anything may take here: with a bug it may never come
+
+
+def words() -> argparse.Namespace:
+    parser = argparse.ArgumentParser(description=__doc__, formatter_class=argparse.RawDescriptionHelpFormatter)
+    parser.add_argument('library', type=Path)
+    parser.add_argument('--ttl', type=float, default=1.0)
+    add_modes(parser)
+    parser.add_argument('--folder', type=Path, help='keep the log, the work and the acts there')
+    return parser.parse_args()
+
+
+# ---- What was written down
+
+
+def acts_in(group: Group) -> Iterator[Act]:
+    """The acts of all processes of the group; not those whose line isn't whole, since the writer was killed."""
+    assert group.acts is not None
+    for file in (*sorted(group.acts.iterdir()), *group.work.folder.glob('units')):
+        for line in file.read_bytes().split(b'\n')[:-1]:
+            yield act_of(line)
+
+
+def kept_of(group: Group) -> Iterator[Act]:
+    """The epochs, as the store has them."""
+    with contextlib.closing(group.opened()) as log:
+        for epoch in log.epochs():
+            opening = log.opening(epoch)
+            told = {'header': opening.header, 'names': list(opening.names), 'is_cooperative': opening.is_cooperative}
+            yield Act(0, '', 'kept', {'epoch': epoch, **told, 'rows': list(log.read(epoch, 0))})
+
+
+def occurring(options: argparse.Namespace) -> set[str]:
+    """The premises by which acts must be judged: work ends on a partition alone only in some groups."""
+    has_parts = options.cooperative or options.kind == 'each'
+    return PREMISES.keys() - ({'HasEndedOn'} if not has_parts else set())
+
+
+def see_acts(group: Group, occur: Collection[str]) -> None:
+    """Judges what the group did, by each of these premises."""
+    verdict = judge([*acts_in(group), *kept_of(group)])
+    print(verdict)
+    first = {refusal.premise: refusal for refusal in reversed(verdict.refused)}
+    for refusal in first.values():
+        print(f'refused, for the first time by this premise: {refusal} ({PREMISES[refusal.premise]})')
+    group.count(not verdict.refused, f'{len(verdict.refused)} acts were refused, by {", ".join(sorted(first))}')
+    never = sorted(set(verdict.never()) & set(occur))
+    group.count(not never, f'no act was judged by {", ".join(never)}')
+
+
+# ---- What happens
+
+
+class Trial:
+    """A group to which all happens once."""
+
+    def __init__(self, group: Group, file: Path) -> None:
+        self.group, self.file = group, file
+
+    def run(self) -> None:
+        """One after the other, as long as the group becomes stable in time."""
+        changes: Sequence[tuple[str, Callable[[], object]]] = (
+            ('the start', lambda: self.group.begin_all(NAMES[:NODES])), ('a lock', self.lock),
+            ('a stop', lambda: self.stop('b')), ('other numbers', self.turn), ('a death', lambda: self.kill('a')),
+            ('a return', lambda: self.group.begin('a')),
+        )  # fmt: skip
+        for what, change in changes:
+            change()
+            if not self.is_settled():
+                self.group.count(False, f'{what}: not stable in {SOON:g} s')
+                break
+        self.end()
+
+    def is_settled(self) -> bool:
+        """Waits until the group is stable, and works."""
+        end = time.monotonic() + SOON
+        return self.group.stay_stable(0.0, end) is not None and self.group.goes_on(end) is not None
+
+    def lock(self) -> None:
+        """Nobody can write for half a ttl: longer than a member waits for that."""
+        with contextlib.closing(sqlite3.connect(self.file, isolation_level=None)) as file:
+            file.execute('begin immediate')
+            time.sleep(self.group.ttl / 2)
+
+    def stop(self, name: str) -> None:
+        """The member is stopped until its lease is over. Its watchdog kills one that has the file locked then."""
+        member = self.group.members[name]
+        member.send_signal(signal.SIGSTOP)
+        time.sleep(1.5 * self.group.ttl)
+        member.send_signal(signal.SIGCONT)
+        if member.poll() is not None:
+            self.group.begin(name)
+
+    def turn(self) -> None:
+        """The nodes get other numbers, in a new epoch."""
+        file = self.group.configured(NAMES[1:NODES] + NAMES[0], PARTITIONS)
+        with contextlib.suppress(subprocess.TimeoutExpired):
+            self.group.command('resize', '--config', str(file)).wait(SOON)
+
+    def kill(self, name: str) -> None:
+        member = self.group.members.pop(name)
+        member.kill()
+        member.wait()
+
+    def end(self) -> None:
+        """All leave in order."""
+        end = time.monotonic() + SOON
+        for member in self.group.members.values():
+            member.terminate()
+        for name, member in self.group.members.items():
+            with contextlib.suppress(subprocess.TimeoutExpired):
+                member.wait(max(0.0, end - time.monotonic()))
+            self.group.count(member.returncode == 0, f'{name} ended with status {member.returncode}')
+
+
+def tried_in(folder: Path, options: argparse.Namespace) -> Group:
+    """All of it; no process is left."""
+    file, acts = folder / 'group.db', folder / 'acts'
+    acts.mkdir()
+    with contextlib.ExitStack() as closing:
+        group = Group(
+            folder, dict.fromkeys(['', *NAMES], f'sqlite:{file}'), options.ttl, names=NAMES[:NODES],
+            partitions=PARTITIONS, words=KINDS[options.kind], work=Recorded, init=init_words(options), acts=acts,
+        )  # fmt: skip
+        assert isinstance(group.work, Recorded)
+        closing.callback(group.work.close)
+        closing.callback(group.close)
+        Trial(group, file).run()
+    see_acts(group, occurring(options))
+    return group
+
+
+def main() -> int:
+    options = words()
+    os.environ['BULLY_LIBRARY'] = str(options.library.resolve())
+    with tempfile.TemporaryDirectory() as room:
+        folder = (options.folder or Path(room)).resolve()
+        folder.mkdir(exist_ok=True)
+        group = tried_in(folder, options)
+    print(f'{group.passed} passed, {group.failed} failed')
+    return 1 if group.failed else 0
+
+
+if __name__ == '__main__':
+    sys.exit(main())
