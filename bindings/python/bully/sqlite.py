@@ -36,6 +36,7 @@ from .values import Rows
 
 APPLICATION = 0x62756C79  # of a file with a log: `buly`
 SHORTEST_SLEEP, LONGEST_SLEEP = 0.001, 0.05  # seconds between two polls of a file
+MANY = 128  # leases: while there are more, each wait polls less often, so that all together poll no more often
 SIGHT = SECOND // 4  # nanoseconds between two checks of which files are there, at most
 PRUNED_AT_ONCE = 100  # appends
 NEVER = 2**63 - 1
@@ -477,7 +478,7 @@ class SqliteLog:
     ) -> None:  # fmt: skip
         """After a wait without news the next one polls at the pace that this one had reached; after news it starts fast
         again, because more often follows soon."""
-        end = nanoseconds_of_boot() + int(seconds * SECOND)
+        end, longest = nanoseconds_of_boot() + int(seconds * SECOND), LONGEST_SLEEP * max(1.0, len(sessions) / MANY)
         self._version = self._promise_changes = -1
         while not self._is_news(Promise(epoch, offset), sessions, until):
             now = nanoseconds_of_boot()
@@ -486,7 +487,7 @@ class SqliteLog:
             lease = max(SHORTEST_SLEEP, (self._earliest - now) / SECOND)
             if sleep_until_ready(min(self._sleep, (end - now) / SECOND, lease), wake):
                 break
-            self._sleep = min(2 * self._sleep, LONGEST_SLEEP)
+            self._sleep = min(2 * self._sleep, longest)
         self._sleep = SHORTEST_SLEEP
 
     def _is_news(self, here: Promise, sessions: Sessions, until: Until) -> bool:

@@ -130,6 +130,19 @@ class WaitsInFile(WithLogs, Waits):
             log.wait(1, 0, log.snapshot(1, 0).sessions, Until.NEWS, 0.1)
             self.assertEqual(sleeps[0], sqlite.SHORTEST_SLEEP)
 
+    def test_pace_of_many(self) -> None:
+        """If there are more leases than MANY, each wait polls so much less often: three times for three times MANY."""
+        log, other = self.pair()
+        for name in ('1', '2', '3'):
+            self.assertTrue(other.acquire(name, A, EMPTY, self.LONG))
+        sessions = log.snapshot(1, 0).sessions
+        for many, times in ((4, 1), (3, 1), (1, 3)):
+            no_sleep = mock.patch.object(sqlite, 'sleep_until_ready', return_value=[])
+            with mock.patch.object(sqlite, 'MANY', many), no_sleep as sleep:
+                log.wait(1, 0, sessions, Until.NEWS, 10 * sqlite.LONGEST_SLEEP)
+            longest = max(call.args[0] for call in sleep.call_args_list)
+            self.assertAlmostEqual(longest, times * sqlite.LONGEST_SLEEP)
+
 
 class EpochsInMemory(EpochLaws, unittest.TestCase):
     """The laws of epochs of a log in memory."""
