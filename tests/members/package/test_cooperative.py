@@ -8,12 +8,14 @@ from types import SimpleNamespace
 from typing import Any
 
 from bully import check
+from bully.core import Promise, Session
 from bully.epochs import Opening, Token
 from bully.member import Member
 from bully.memory import MemoryLog
+from bully.shared_log import Holder
 from bully.working import Assignment, Callback, PartitionCallbacks, WholeCallbacks
-from ..steps import OPENING
-from ..waiting import wait_until
+from ..steps import LONG, OPENING
+from ..waiting import PATIENCE, wait_until
 from .below import assigned
 from .threads import Threads, Troubled
 
@@ -106,6 +108,17 @@ class Cooperative(Threads):
             self.assertEqual(worker.said[count[name] :], [('revoked', tuple(moved)), ('assigned', ())])
         self.assertEqual([words for words, _ in new.said], ['assigned'])
         self.assertTrue(check('\n'.join([HEADER, *self.log.rows, '']).encode()).is_lawful)
+
+    def test_promises_again(self) -> None:
+        """It promises the end of the log with exactly what it works on: again each time that it has stopped more, while
+        nothing is appended."""
+        worker = self.come('a', 2 * PATIENCE)  # so that it leaves it to the others to append
+        wait_until(self.is_shared)
+        session, end = self.log.holders['a'].session, Promise(1, len(self.log.rows))
+        for number, (name, left) in enumerate((('b', 6), ('c', 4), ('d', 3)), 1):
+            assert self.log.acquire(name, Session(8, number), end, LONG)
+            wait_until(lambda: len(worker.works) == left)
+            wait_until(lambda: self.log.holders['a'] == Holder(session, end, tuple(sorted(worker.works))))
 
     def test_a_leave_stops_nobody_else(self) -> None:
         self.all_come('abcd')
