@@ -1,5 +1,5 @@
 """Tries the premises of drivers in a short run of processes: three members over a file, whose acts are written down and
-judged (`acts.py`).
+judged (`monitor.py`).
 
     tests/members/run premises LIBRARY_FOLDER [--ttl SECONDS] [--cooperative] [--kind KIND] [--folder FOLDER]
 
@@ -23,8 +23,9 @@ import time
 from collections.abc import Callable, Collection, Iterator, Sequence
 from pathlib import Path
 
-from .acts import PREMISES, Act, act_of, judge
+from .acts import PREMISES, Act, act_of
 from .groups import KINDS, NAMES, Group, add_modes, init_words
+from .monitor import judge
 from .soaking import Recorded
 
 NODES, PARTITIONS = 3, 6
