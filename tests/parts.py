@@ -74,6 +74,7 @@ PARTS = [
          full='--kills 50 --pauses 25 --share 1', limit=7200),
     Part('premises', 'tests/members/run premises BUILT/library', 'library'),
     Part('premises-cooperating', 'tests/members/run premises BUILT/library --cooperative --kind each', 'library'),
+    Part('premises-over-etcd', 'tests/members/run premises BUILT/library --store etcd --cooperative --kind talk', 'library', 'etcd'),
     Part('network', 'tests/members/run network BUILT/library', 'library', 'etcd', '--faults 4', '--faults 8', '--faults 100', limit=7200),
     Part('soak', 'tests/members/run soak BUILT/library', 'library', short=NONE, whole=NONE, full='--seconds 20'),
     Part('soak-over-etcd', 'tests/members/run soak BUILT/library --store etcd', 'library', 'etcd', NONE, NONE, '--seconds 20'),

@@ -1,7 +1,7 @@
 """Writes down what a process of a member does: its acts, as lines of a file of its own (`acts.py`).
 
-Each line is written at once, by one call of the system, since whoever writes may be killed at any moment. A fork of the
-watchdog writes into the file of its parent.
+Each line is written at once, by one call of the system, since whoever writes may be killed at any moment: so only the
+last line of a file may not be whole.
 """
 from __future__ import annotations
 
@@ -22,9 +22,18 @@ class Pen:
     """Writes the acts of this process."""
 
     def __init__(self) -> None:
-        self.member = os.environ[OF]
-        file = os.path.join(os.environ[FOLDER], f'{self.member}.{os.getpid()}')
-        self.file = os.open(file, os.O_WRONLY | os.O_APPEND | os.O_CREAT | os.O_CLOEXEC, 0o600)
+        self.folder, self.member = os.environ[FOLDER], os.environ[OF]
+        self.file = self._opened()
+
+    def _opened(self) -> int:
+        """The file of this process."""
+        file = os.path.join(self.folder, f'{self.member}.{os.getpid()}')
+        return os.open(file, os.O_WRONLY | os.O_APPEND | os.O_CREAT | os.O_CLOEXEC, 0o600)
+
+    def after_fork(self) -> None:
+        """This process has a file of its own from now on."""
+        os.close(self.file)
+        self.file = self._opened()
 
     def note(self, kind: str, at: int, **more: object) -> None:
         """An act of this kind, done at that moment."""

@@ -3,8 +3,7 @@
     python -m members.acting FOLDER WORDS OF BULLY-MEMBER ..
 
 The package isn't changed for that: what is between driver and rules, and between driver and log, is wrapped here, and
-the watchdog is that of `acting_watchdog.py`. The acts go into a file of FOLDER. `acts.py` says which there are, and
-judges them.
+the watchdog is that of `acting_watchdog.py`. The acts go into a file of FOLDER. `acts.py` says which there are.
 """
 from __future__ import annotations
 
@@ -13,8 +12,9 @@ import signal
 import sys
 from collections.abc import Callable, Mapping, Sequence
 from contextlib import suppress
+from functools import partial
 from pathlib import Path
-from typing import Any, TypeVar
+from typing import Any
 
 from bully import command, member, worker
 from bully.core import Ask, Begin, Core, CoreOpening, Live, Promise, Request, Seen, Session, Step, StoreAnswer
@@ -32,7 +32,6 @@ CALLS = {
 }  # fmt: skip
 UNANSWERED, FAILED = 'unanswered', 'failed'
 Told = dict[str, Any]
-_Answered = TypeVar('_Answered')
 pens: list[Pen] = []  # the one of this process
 
 
@@ -127,62 +126,10 @@ class ActedCore(Core):
 # ---- Calls of the log
 
 
-class ActedLog:
-    """A log. Of the calls that requests of the rules are, each is written down as `asks`, and what came of it as
-    `gave`."""
-
-    def __init__(self, log: Log) -> None:
-        self._log = log
-
-    def __getattr__(self, name: str) -> object:
-        return getattr(self._log, name)  # of the other calls
-
-    def _call(
-        self, call: str, done: Callable[[], _Answered], shown: Callable[[_Answered], object], **more: object
-    ) -> _Answered:  # fmt: skip
-        """The answer of that call."""
-        note('asks', moment(), call=call, **more)
-        result: object = FAILED
-        try:
-            answer = done()
-            result = shown(answer)
-            return answer
-        except Unanswered:
-            result = UNANSWERED
-            raise
-        finally:
-            note('gave', moment(), call=call, result=result)
-
-    def acquire(self, name: str, session: Session, promise: Promise, ttl: int) -> bool:
-        told = {'name': name, 'session': [*vars(session).values()], 'epoch': promise.epoch, 'offset': promise.offset}
-        return self._call('acquire', lambda: self._log.acquire(name, session, promise, ttl), bool, **told)
-
-    def renew(self, name: str, session: Session, ttl: int) -> bool:
-        told = {'name': name, 'session': [*vars(session).values()]}
-        return self._call('renew', lambda: self._log.renew(name, session, ttl), bool, **told)
-
-    def release(self, name: str, session: Session) -> None:
-        told = {'name': name, 'session': [*vars(session).values()]}
-        self._call('release', lambda: self._log.release(name, session), lambda _: True, **told)
-
-    def promise(self, name: str, session: Session, promise: Promise, kept: tuple[int, ...] = ()) -> bool:
-        told = {'name': name, 'session': [*vars(session).values()], 'epoch': promise.epoch, 'offset': promise.offset}
-        return self._call('promise', lambda: self._log.promise(name, session, promise, kept), bool, works=kept, **told)
-
-    def append(self, epoch: int, offset: int, rows: Sequence[str], known: Known | None = None) -> bool:
-        told = {'epoch': epoch, 'offset': offset, 'rows': list(rows), 'known': shown_known(known)}
-        return self._call('append', lambda: self._log.append(epoch, offset, rows, known), bool, **told)
-
-    def roll_over(self, epoch: int, offset: int, opening: Opening, known: Known | None = None) -> bool:
-        told = {'epoch': epoch, 'offset': offset, 'names': opening.names, 'known': shown_known(known)}
-        return self._call('roll_over', lambda: self._log.roll_over(epoch, offset, opening, known), bool, **told)
-
-    def snapshot(self, epoch: int, offset: int, promise_of: str | None = None) -> Snapshot:
-        told = {'epoch': epoch, 'offset': offset}
-        return self._call('snapshot', lambda: self._log.snapshot(epoch, offset, promise_of), shown_snapshot, **told)
-
-    def opening(self, epoch: int | None = None) -> Opening:
-        return self._call('opening', lambda: self._log.opening(epoch), shown_opening)
+def of_session(name: str, session: Session, promise: Promise | None = None) -> Told:
+    """A call for a session of that node, and for a promise of it."""
+    more: Told = {} if promise is None else {'epoch': promise.epoch, 'offset': promise.offset}
+    return {'name': name, 'session': [session.process, session.number], **more}
 
 
 def shown_known(known: Known | None) -> Told | None:
@@ -191,9 +138,56 @@ def shown_known(known: Known | None) -> Told | None:
     return {'affected': sorted(known.affected), 'holders': shown_holders(known.holders), 'revision': known.revision}
 
 
-def shown_snapshot(found: Snapshot) -> Told:
-    told = {'rows': list(found.rows), 'holders': shown_holders(found.holders), 'revision': found.revision}
-    return {'epoch': found.epoch, 'is_paused': found.maintenance.is_paused, **told}
+def of_change(epoch: int, offset: int, known: Known | None, **more: object) -> Told:
+    """A call that appends, or ends the epoch."""
+    return {'epoch': epoch, 'offset': offset, 'known': shown_known(known), **more}
+
+
+ABOUT: dict[str, Callable[..., Told]] = {  # what is written down of a call, by its arguments
+    'acquire': lambda name, session, promise, ttl: of_session(name, session, promise),
+    'renew': lambda name, session, ttl: of_session(name, session),
+    'release': of_session,
+    'promise': lambda name, session, promise, kept=(): {**of_session(name, session, promise), 'works': kept},
+    'append': lambda epoch, offset, rows, known=None: of_change(epoch, offset, known, rows=list(rows)),
+    'roll_over': lambda epoch, offset, opening, known=None: of_change(epoch, offset, known, names=opening.names),
+    'snapshot': lambda epoch, offset, promise_of=None: {'epoch': epoch, 'offset': offset},
+    'opening': lambda epoch=None: {},
+}
+
+
+def shown_answer(answer: object) -> object:
+    """What a call has returned: a release returns nothing once it is done."""
+    if isinstance(answer, Opening):
+        return shown_opening(answer)
+    if not isinstance(answer, Snapshot):
+        return answer is None or answer
+    told: Told = {'rows': list(answer.rows), 'holders': shown_holders(answer.holders), 'revision': answer.revision}
+    return {'epoch': answer.epoch, 'is_paused': answer.maintenance.is_paused, **told}
+
+
+class ActedLog:
+    """A log. Of the calls that requests of the rules are, each is written down as `asks`, and what came of it as
+    `gave`."""
+
+    def __init__(self, log: Log) -> None:
+        self._log = log
+
+    def __getattr__(self, name: str) -> object:
+        found = getattr(self._log, name)
+        return partial(self._call, name, found) if name in ABOUT else found
+
+    def _call(self, name: str, call: Callable[..., object], *arguments: object) -> object:
+        result: object = FAILED
+        note('asks', moment(), call=name, **ABOUT[name](*arguments))
+        try:
+            answer = call(*arguments)
+            result = shown_answer(answer)
+        except Unanswered:
+            result = UNANSWERED
+            raise
+        finally:
+            note('gave', moment(), call=name, result=result)
+        return answer
 
 
 # ---- The command

@@ -9,6 +9,7 @@ import sys
 import types
 from collections.abc import Sequence
 from pathlib import Path
+from typing import Any
 
 TESTS = Path(__file__).resolve().parents[1]
 alone = types.ModuleType('bully')  # as in the watchdog itself
@@ -21,7 +22,7 @@ from bully import watchdog
 from members.acted import Pen, living_below, moment
 
 pen = Pen()
-keepers: list[ActedKeeper] = []  # the one of this process, if it is one
+keepers: list[ActedKeeper] = []  # the last one is that of this process, if it is one
 
 
 class ActedWorker(watchdog.Worker):
@@ -53,17 +54,19 @@ class ActedKeeper(watchdog.Keeper):
     """A keeper that notes when it was asked to begin, before it looks at its clock."""
 
     asked, begins = 0, b''
-    processes: dict[bytes, int]  # those that it has started, by their names
+
+    def __init__(self, *arguments: Any) -> None:
+        super().__init__(*arguments)
+        self.processes: dict[bytes, int] = {}  # those that it has started, by their names
+        keepers.append(self)
+        pen.after_fork()
 
     def begin(self, name: bytes, words: bytes) -> None:
         self.asked, self.begins = moment(), name
-        if not keepers or keepers[-1] is not self:
-            self.processes = {}
-            keepers.append(self)
         super().begin(name, words)
 
     def say(self, word: str, *more: int, name: bytes = b'') -> None:
-        process = self.processes.get(name or self.name) if keepers else None
+        process = self.processes.get(name or self.name)
         if process is not None and word in ('stopped', 'lost', 'ended'):
             pen.note('says', moment(), word=word, process=process, there=living_below(os.getpid()))
         super().say(word, *more, name=name)

@@ -1,9 +1,10 @@
-"""Tries the premises of drivers in a short run of processes: three members over a file, whose acts are written down and
-judged (`acts.py`).
+"""Tries the premises of drivers in a short run of processes: three members over a file, or over a server of etcd, whose
+acts are written down and judged (`monitor.py`).
 
-    tests/members/run premises LIBRARY_FOLDER [--ttl SECONDS] [--cooperative] [--kind KIND] [--folder FOLDER]
+    tests/members/run premises LIBRARY_FOLDER [--store sqlite|etcd] [--ttl SECONDS] [--cooperative] [--kind KIND]
+        [--folder FOLDER]
 
-LIBRARY_FOLDER is what `bin/library` wrote. Each kind of act occurs: members start, and end in order; the file is locked
+LIBRARY_FOLDER is what `bin/library` wrote. Each kind of act occurs: members start, and end in order; the store is silent
 for so long that requests aren't answered; a member is stopped for longer than its lease lasts, and one is killed; and
 the nodes get other numbers. An act that breaks a premise is printed, with the name of the premise. It is a failure,
 too, if no act was judged by one of them. The last line is 'N passed, M failed'; the exit status is 0 if M is 0,
@@ -21,10 +22,13 @@ import sys
 import tempfile
 import time
 from collections.abc import Callable, Collection, Iterator, Sequence
+from functools import partial
 from pathlib import Path
 
-from .acts import PREMISES, Act, act_of, judge
+from .acts import PREMISES, Act, act_of
+from .etcd_servers import PROGRAM, Server, Servers
 from .groups import KINDS, NAMES, Group, add_modes, init_words
+from .monitor import judge
 from .soaking import Recorded
 
 NODES, PARTITIONS = 3, 6
@@ -34,7 +38,8 @@ SOON = 10.0  # seconds that anything may take here: with a bug it may never come
 def words() -> argparse.Namespace:
     parser = argparse.ArgumentParser(description=__doc__, formatter_class=argparse.RawDescriptionHelpFormatter)
     parser.add_argument('library', type=Path)
-    parser.add_argument('--ttl', type=float, default=1.0)
+    parser.add_argument('--store', choices=['sqlite', 'etcd'], default='sqlite')
+    parser.add_argument('--ttl', type=float, default=2.0, help='no less than 2 with etcd')
     add_modes(parser)
     parser.add_argument('--folder', type=Path, help='keep the log, the work and the acts there')
     return parser.parse_args()
@@ -84,13 +89,15 @@ def see_acts(group: Group, occur: Collection[str]) -> None:
 class Trial:
     """A group to which all happens once."""
 
-    def __init__(self, group: Group, file: Path) -> None:
-        self.group, self.file = group, file
+    def __init__(self, group: Group, be_silent: Callable[[float], object]) -> None:
+        """The store can be silent for so many seconds."""
+        self.group, self.be_silent = group, be_silent
 
     def run(self) -> None:
         """One after the other, as long as the group becomes stable in time."""
         changes: Sequence[tuple[str, Callable[[], object]]] = (
-            ('the start', lambda: self.group.begin_all(NAMES[:NODES])), ('a lock', self.lock),
+            ('the start', lambda: self.group.begin_all(NAMES[:NODES])),
+            ('a silence', lambda: self.be_silent(self.group.ttl / 2)),  # longer than a member waits
             ('a stop', lambda: self.stop('b')), ('other numbers', self.turn), ('a death', lambda: self.kill('a')),
             ('a return', lambda: self.group.begin('a')),
         )  # fmt: skip
@@ -105,12 +112,6 @@ class Trial:
         """Waits until the group is stable, and works."""
         end = time.monotonic() + SOON
         return self.group.stay_stable(0.0, end) is not None and self.group.goes_on(end) is not None
-
-    def lock(self) -> None:
-        """Nobody can write for half a ttl: longer than a member waits for that."""
-        with contextlib.closing(sqlite3.connect(self.file, isolation_level=None)) as file:
-            file.execute('begin immediate')
-            time.sleep(self.group.ttl / 2)
 
     def stop(self, name: str) -> None:
         """The member is stopped until its lease is over. Its watchdog kills one that has the file locked then."""
@@ -143,26 +144,53 @@ class Trial:
             self.group.count(member.returncode == 0, f'{name} ended with status {member.returncode}')
 
 
+def lock(file: Path, seconds: float) -> None:
+    """Nobody can write into the file for so long."""
+    with contextlib.closing(sqlite3.connect(file, isolation_level=None)) as locked:
+        locked.execute('begin immediate')
+        time.sleep(seconds)
+
+
+def pause(server: Server, seconds: float) -> None:
+    """The server is paused for so long."""
+    server.pause()
+    time.sleep(seconds)
+    server.resume()
+
+
+def store_in(closing: contextlib.ExitStack, folder: Path, kind: str) -> tuple[str, Callable[[float], object]]:
+    """The address of a log, and what silences its store."""
+    if kind == 'sqlite':
+        return f'sqlite:{folder / "group.db"}', partial(lock, folder / 'group.db')
+    servers = Servers()
+    closing.callback(servers.close)
+    return servers.address('group'), partial(pause, servers.each[0])
+
+
 def tried_in(folder: Path, options: argparse.Namespace) -> Group:
     """All of it; no process is left."""
-    file, acts = folder / 'group.db', folder / 'acts'
+    acts = folder / 'acts'
     acts.mkdir()
     with contextlib.ExitStack() as closing:
+        store, be_silent = store_in(closing, folder, options.store)
         group = Group(
-            folder, dict.fromkeys(['', *NAMES], f'sqlite:{file}'), options.ttl, names=NAMES[:NODES],
+            folder, dict.fromkeys(['', *NAMES], store), options.ttl, names=NAMES[:NODES],
             partitions=PARTITIONS, words=KINDS[options.kind], work=Recorded, init=init_words(options), acts=acts,
         )  # fmt: skip
         assert isinstance(group.work, Recorded)
         closing.callback(group.work.close)
         closing.callback(group.close)
-        Trial(group, file).run()
-    see_acts(group, occurring(options))
+        Trial(group, be_silent).run()
+        see_acts(group, occurring(options))
     return group
 
 
 def main() -> int:
     options = words()
     os.environ['BULLY_LIBRARY'] = str(options.library.resolve())
+    if options.store == 'etcd' and PROGRAM is None:
+        print('tests/members/premises: skipped, since no program `etcd` is on the path\n0 passed, 0 failed, 1 skipped')
+        return 0
     with tempfile.TemporaryDirectory() as room:
         folder = (options.folder or Path(room)).resolve()
         folder.mkdir(exist_ok=True)

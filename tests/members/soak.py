@@ -8,7 +8,7 @@ LIBRARY_FOLDER is what `bin/library` wrote. Members, their watchdogs and their w
 also a member with its worker and with its watchdog at one moment; so are the servers, one or all. Whatever has ended is
 started again. After a share of the faults the group gets time to become stable, and after the others the next one
 comes. Each worker asks the recorder, a process of its own, for each unit of work (`recorder.py`). All members write down
-what they do, and at the end these acts are judged by the premises that the promises have of drivers (`acts.py`).
+what they do, and at the end these acts are judged by the premises that the promises have of drivers (`monitor.py`).
 
 Each kind of fault must be seen to happen. At the end the group must become stable, and leave in order; no unit may
 have overlapped another one, or have been requested with an old token; and the logs must be lawful, also with

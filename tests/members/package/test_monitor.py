@@ -1,5 +1,5 @@
-"""Tests of the judge of acts, by acts that are written here: each premise of `crates/bully_run/specs/Run.antt` is broken
-by some of them, and by nothing else."""
+"""Tests of the monitor, by acts that are written here: each premise of `crates/bully_run/specs/Run.antt` is broken by
+some of them, and by nothing else."""
 from __future__ import annotations
 
 import json
@@ -7,7 +7,8 @@ import unittest
 from collections.abc import Iterable, Sequence
 from typing import Any
 
-from ..acts import PREMISES, Act, act_of, judge
+from ..acts import PREMISES, Act, act_of
+from ..monitor import judge
 
 ROWS = ['recover,1', 'recover,2']
 TOKEN = 10_000_002
@@ -36,7 +37,8 @@ def asked(
     """A request of the rules, with its call of the log, which is given that result a moment later."""
     about = {'session': told.get('session', [0, 0]), 'offset': told.get('offset', 0), 'works': told.get('works', [])}
     step = act(at, 'steps', member, now=at - 1, step='Ask', request=request, **{**about, **more}, **now)
-    return [step, act(at + 1, 'asks', member, call=request, **told), act(at + 2, 'gave', member, call=request, result=result)]
+    asks = act(at + 1, 'asks', member, call=request, **told)
+    return [step, asks, act(at + 2, 'gave', member, call=request, result=result)]
 
 
 def answered(at: int, now: Told, answer: str = 'done') -> Act:
@@ -44,17 +46,17 @@ def answered(at: int, now: Told, answer: str = 'done') -> Act:
 
 
 def snapshot(
-    at: int, rows: Sequence[str], holders: Told, before: Told, now: Told, member: str = 'm',
-    names: Sequence[str] = ('a', 'b'), takes: int = 2,
+    at: int, rows: Sequence[str], holders: Told, before: Told, now: Told, member: str = 'm', takes: int = 2
 ) -> Acts:  # fmt: skip
     """A snapshot that is read and reported, and takes so long."""
     found = {'epoch': 1, 'is_paused': False, 'rows': rows, 'holders': holders, 'revision': at}
     step, asks, gave = asked(at, 'snapshot', {'epoch': 1, 'offset': before['end']}, found, before, member)
-    leases = {str(names.index(name) + 1): lease for name, lease in holders.items()}
+    leases = {str('ab'.index(name) + 1): lease for name, lease in holders.items()}
+    offset, done = before['end'], at + takes
     return [
-        step, asks, gave._replace(at=at + takes),
-        act(at + takes + 1, 'learned', member, epoch=1, offset=before['end'], rows=rows, **{**before, 'end': now['end']}),
-        act(at + takes + 2, 'shown', member, now=at + takes + 1, epoch=1, leases=leases, **now),
+        step, asks, gave._replace(at=done),
+        act(done + 1, 'learned', member, epoch=1, offset=offset, rows=rows, **{**before, 'end': now['end']}),
+        act(done + 2, 'shown', member, now=done + 1, epoch=1, leases=leases, **now),
     ]  # fmt: skip
 
 
@@ -67,6 +69,9 @@ def started(at: int, member: str, process: int, name: str, node: int) -> Act:
 SESSION = [7, 1]
 OWN = [*SESSION, 1, 0, []]
 KNOWN = {'affected': ['a'], 'holders': {'a': OWN}, 'revision': 40}
+APPEND = {'epoch': 1, 'offset': 0, 'rows': ROWS, 'known': KNOWN}
+PROMISE = {'name': 'a', 'session': SESSION, 'epoch': 1, 'offset': 2, 'works': [0, 1]}
+CLOSE = {'epoch': 1, 'offset': 2, 'names': ['b', 'a'], 'known': {'affected': [], 'holders': {}, 'revision': 60}}
 LEARNED, NEXT = state(end=2), {'epoch': 2, 'header': 'H', 'is_cooperative': True, 'node': 2}
 LAWFUL: Acts = [
     *(act(0, 'kept', '', **opening, rows=ROWS if epoch == 1 else []) for epoch, opening in OPENINGS.items()),
@@ -75,28 +80,29 @@ LAWFUL: Acts = [
     *asked(30, 'acquire', {'name': 'a', 'session': SESSION, 'epoch': 1, 'offset': 0}, True, state(live=None)),
     answered(33, state()),
     *snapshot(40, [], {'a': OWN}, state(), state()),
-    *asked(50, 'append', {'epoch': 1, 'offset': 0, 'rows': ROWS, 'known': KNOWN}, True, state(), rows=ROWS, affected=[1], is_ending=False),
+    *asked(50, 'append', APPEND, True, state(), rows=ROWS, affected=[1], is_ending=False),
     answered(53, state()),
     *snapshot(60, ROWS, {'a': OWN}, state(), LEARNED),
     act(70, 'steps', now=69, step='Begin', token=TOKEN, owned=[0, 1], **LEARNED),
     act(80, 'runs', process=501, until=1000, token=TOKEN, partitions=[0, 1]),
     act(90, 'unit', partition=0, token=TOKEN, begun=85),
-    *asked(100, 'promise', {'name': 'a', 'session': SESSION, 'epoch': 1, 'offset': 2, 'works': [0, 1]}, True, LEARNED),
+    *asked(100, 'promise', PROMISE, True, LEARNED),
     answered(103, LEARNED),
     act(110, 'says', word='stopped', process=501, there=[]),
     act(111, 'stopped_on', partition=1, there=[], **LEARNED),
     act(112, 'stopped', there=[], **LEARNED),
-    *asked(120, 'roll_over', {'epoch': 1, 'offset': 2, 'names': ['b', 'a'], 'known': {'affected': [], 'holders': {}, 'revision': 60}}, True, LEARNED, affected=[], is_ending=False),
+    *asked(120, 'roll_over', CLOSE, True, LEARNED, affected=[], is_ending=False),
     answered(123, LEARNED),
     *asked(130, 'opening', {}, OPENINGS[2], LEARNED),
     act(133, 'followed', now=133, opening=NEXT, **state(epoch=2)),
 ]  # fmt: skip
 
 # One for b whose snapshot takes long, and one that comes for a while that isn't free.
-SLOW: Acts = [started(11, 'n', 8, 'b', 2), *snapshot(48, [], {'a': OWN}, state(live=None), state(live=None), 'n', takes=60)]
+COMES = state(live=None)
+SLOW: Acts = [started(11, 'n', 8, 'b', 2), *snapshot(48, [], {'a': OWN}, COMES, COMES, 'n', takes=60)]
 OTHER: Acts = [
     started(12, 'o', 9, 'a', 1),
-    *asked(54, 'acquire', {'name': 'a', 'session': [9, 1], 'epoch': 1, 'offset': 0}, True, state(live=None), 'o'),
+    *asked(54, 'acquire', {'name': 'a', 'session': [9, 1], 'epoch': 1, 'offset': 0}, True, COMES, 'o'),
 ]  # fmt: skip
 
 # A worker that talks works on another partition, too, and then only on this one.
@@ -133,7 +139,8 @@ def at_another(at: int, to: int) -> Acts:
     return [each._replace(at=to) if each.at == at else each for each in LAWFUL]
 
 
-TWICE = [ROWS[1], ROWS[1]]
+TWICE, NEWER = [ROWS[1], ROWS[1]], [*SESSION, 1, 2, [0, 1]]
+RENEW: Told = {'call': 'renew', 'name': 'a', 'session': SESSION}
 BROKEN: dict[str, dict[str, Acts]] = {
     'IsEpochOf': {
         'another number': other({10: {'node': 2}}), 'another header': other({10: {'header': 'X'}}),
@@ -144,7 +151,9 @@ BROKEN: dict[str, dict[str, Acts]] = {
     'IsWhole': {
         'no row is learned': other({62: given(62, rows=[]), 63: {'rows': []}, 64: {'end': 0}}),
         'an append is learned in part': other({64: {'end': 1}}),
-        'a promise is shown that is newer': [*LAWFUL, *other({108: given(42, holders={'a': [7, 1, 1, 2, [0, 1]]}), 110: {'leases': {'1': [7, 1, 1, 2, [0, 1]]}}}, SLOW)],
+        'a promise is shown that is newer': [
+            *LAWFUL, *other({108: given(42, holders={'a': NEWER}), 110: {'leases': {'1': NEWER}}}, SLOW)
+        ],
     },
     'NumbersLast': {'a number is left out': other({30: {'session': [7, 2]}, 31: {'session': [7, 2]}})},
     'WritesAsKnown': {
@@ -159,16 +168,18 @@ BROKEN: dict[str, dict[str, Acts]] = {
         'who is affected is spared': other({120: {'affected': [1]}}),
     },
     'BeginsWhileSure': {
-        'a worker starts late': other({80: {'until': 80}}), 'the watchdog has a later moment': other({80: {'until': 5000}}),
-        'the lease is not sure': other({70: {'sure': 69}}), 'another session acquires the lease': [*LAWFUL, *OTHER],
+        'a worker starts late': other({80: {'until': 80}}), 'a later moment': other({80: {'until': 5000}}),
+        'the lease is not sure': other({70: {'sure': 69}}), 'another session acquires it': [*LAWFUL, *OTHER],
         'the lease is gone': other({62: given(62, holders={}), 64: {'leases': {}}}),
     },
     'MayStart': {
-        'on one partition more': other({80: {'partitions': [0, 1, 2]}}), 'by another token': other({80: {'token': TOKEN + 1}}),
+        'on one partition more': other({80: {'partitions': [0, 1, 2]}}),
+        'by another token': other({80: {'token': TOKEN + 1}}),
         'before the rules say so': at_another(80, 65), 'a unit elsewhere': other({90: {'partition': 5}}),
     },
     'HasEnded': {
-        'what a worker has started is left': other({110: {'there': [502]}}), 'the worker is there': other({112: {'there': [501]}}, without(110)),
+        'what a worker has started is left': other({110: {'there': [502]}}),
+        'the worker is there': other({112: {'there': [501]}}, without(110)),
         'a unit after that': [*LAWFUL, act(115, 'unit', partition=0, token=TOKEN, begun=114)],
     },
     'HasEndedOn': {
@@ -179,7 +190,7 @@ BROKEN: dict[str, dict[str, Acts]] = {
     'Starts': {'a number of another process': [*LAWFUL, started(11, 'n', 7, 'b', 2)]},
     'sent_by': {
         'a promise that keeps less': other({101: {'works': [0]}}),
-        'what was not asked for': [*LAWFUL, act(104, 'asks', call='renew', name='a', session=SESSION), act(105, 'gave', call='renew', result=True)],
+        'what was not asked for': [*LAWFUL, act(104, 'asks', **RENEW), act(105, 'gave', call='renew', result=True)],
     },
     'IsAnswer': {
         'the end of an epoch that was refused is done': other({122: {'result': False}}),
