@@ -324,7 +324,7 @@ class Judge:
 def judge(acts: Iterable[Act]) -> Verdict:
     """Judges these acts."""
     ordered = sorted(acts, key=lambda act: act.at)
-    it = Judge(Store(ordered))
+    monitor = Judge(Store(ordered))
     for act in ordered:
-        it.see(act)
-    return it.end()
+        monitor.see(act)
+    return monitor.end()
