@@ -188,6 +188,27 @@ is_counted : (test : Lease → Bool) (leases : List Lease) → counted test leas
 unfolding counted
 is_counted test leases = is_count_by (counted test) test refl (λ p ps. refl) leases
 
+some_counted : (test : Lease → Bool) (leases : List Lease) (p : Lease) → Contains leases p → test p ≡ true → 0 < counted test leases
+unfolding counted
+some_counted test [] p (i, low, at) passes = absurd (omega (arith, low))
+some_counted test (q ∷ qs) p (zero, low, at) passes =
+    let same : q ≡ p = cc at in
+    subst (λ b. 0 < cond b (1 + counted test qs) (counted test qs)) (sym (ap test same ∙ passes)) (omega arith)
+some_counted test (q ∷ qs) p (suc i, low, at) passes = by_test (test q) (some_counted test qs p (i, omega (arith, low), at) passes)
+  where
+    by_test : (b : Bool) → 0 < counted test qs → 0 < cond b (1 + counted test qs) (counted test qs)
+    by_test true some = omega arith
+    by_test false some = some
+
+pub some_above : (m : MemberState) (p : Lease) → Contains m.leases p → m.terms.node < p.node → 0 < above m
+some_above m p has higher =
+    let some : 0 < counted (λ (q : Lease). nat_lt m.terms.node q.node) m.leases = some_counted (λ (q : Lease). nat_lt m.terms.node q.node) m.leases p has (grind (arith, nat_tests, higher)) in
+    let same : counted (λ (q : Lease). nat_lt m.terms.node q.node) m.leases ≡ count_by (λ (q : Lease). nat_lt m.terms.node q.node) m.leases = is_counted (λ (q : Lease). nat_lt m.terms.node q.node) m.leases in
+    at_most _ (subst (λ n. 0 < n) same some)
+  where
+    at_most : (n : ℕ) → 0 < n → 0 < min n NODES_MAX
+    at_most n some = omega (arith, some)
+
 none_above : (m : MemberState) → ((p : Lease) → Contains m.leases p → p.node ≤ m.terms.node) → above m ≡ 0
 none_above m low = ap (λ k. min k NODES_MAX) (sym (is_counted (λ p. nat_lt m.terms.node p.node) m.leases) ∙ none_counted (λ p. nat_lt m.terms.node p.node) m.leases (λ p has. not_below m.terms.node p.node (low p has)))
   where

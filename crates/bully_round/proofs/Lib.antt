@@ -3,6 +3,7 @@ pub mod TurnLemmas
 pub mod FreshLemmas
 pub mod OwnLemmas
 pub mod GroupLemmas
+pub mod PatienceLemmas
 pub mod RoundLemmas
 pub mod AgainLemmas
 pub mod SomeTurns

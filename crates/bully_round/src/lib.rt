@@ -3,7 +3,8 @@
 //! It builds on bully_run.
 #![tactic(auto)]
 
-ghost use Rattle.std.specs.Prelude.{◌≡◌, ◌≢◌, ◌<◌, ◌≤◌, ◌↔◌, ◌*◌, ℕ, [], Contains, List, false, length, map, true};
+ghost use Rattle.std.specs.Prelude.{◌≡◌, ◌≢◌, ◌<◌, ◌≤◌, ◌↔◌, ◌-◌, ◌*◌, ◌/◌, ℕ, [], Contains, List};
+ghost use Rattle.std.specs.Prelude.{false, length, map, true};
 ghost use Rattle.bully_calls.specs.declared.event.Event.{Event};
 ghost use Rattle.bully_member.specs.Activities.{works_at};
 ghost use Rattle.bully_member.specs.Due.{Sees, due, is_outdated};
@@ -16,10 +17,10 @@ ghost use Rattle.bully_member.specs.declared.values.SessionId.{SessionId};
 ghost use Rattle.bully_member.specs.declared.values.SessionState.{SessionState};
 ghost use Rattle.bully_member.specs.declared.values.Sight.{Sight};
 ghost use Rattle.bully_member.specs.declared.values.Step.{Step};
-ghost use Rattle.bully_round.specs.Group.{Appends, HasLearnedOf, HaveLooked, HaveOneView, IsAtRest, IsRound, Look};
-ghost use Rattle.bully_round.specs.Group.{LooksAgain, Passage, after_in, all_turns, table_of};
-ghost use Rattle.bully_round.specs.Progress.{DoesTasks, IsCalm, Owns, TakesTurn, Turn, change_of, is_task, step_at_rest};
-ghost use Rattle.bully_round.specs.Progress.{to_do};
+ghost use Rattle.bully_round.specs.Group.{Appends, HasLearnedOf, HaveLooked, HaveOneView, IsAlert, IsAtRest, IsRound};
+ghost use Rattle.bully_round.specs.Group.{Look, LooksAgain, Passage, after_in, all_turns, table_of};
+ghost use Rattle.bully_round.specs.Progress.{DoesTasks, IsCalm, Owns, ShowsChange, TakesTurn, Turn, change_of};
+ghost use Rattle.bully_round.specs.Progress.{changes_log, is_task, step_at_rest, to_do};
 ghost use Rattle.bully_work.specs.Working.{GivesTo};
 
 /// The law of one member's progress. A member is *calm* if it has its lease, goes on in its epoch, and nothing is under
@@ -34,6 +35,8 @@ ghost use Rattle.bully_work.specs.Working.{GivesTo};
 /// - `bounded`: so after at most 4 such turns nothing is left. It doesn't read snapshots, promise or begin for ever.
 /// - `exactly`: if nothing is left in a stable group, it works on exactly what its node owns.
 /// - `fresh`: once it has read a snapshot, and still has its lease, none is due at that moment.
+/// - `patient`: if a snapshot shows it a change, it doesn't change the log before its turn: a fifth of the ttl for each
+///   higher live node, counted from then.
 /// - `some`: there are such turns. A member that works before it has read a snapshot stops, reads one and promises.
 pub fn progress_of_one()
     ensures acts { (m : MemberState) (now : ℕ) (s : Sight) → IsCalm m now → Sees m now s → 0 < to_do m s
@@ -49,6 +52,11 @@ pub fn progress_of_one()
     ensures fresh { (m after : MemberState) (now at : ℕ) (session : SessionId) (since : ℕ)
         → TakesTurn m now at (Step.Ask Request.Snapshot) after
         → after.session ≡ SessionState.Live session since → is_outdated after at ≡ false }
+    ensures patient { (m after : MemberState) (now at later : ℕ) (s : Sight)
+        → (turn : TakesTurn m now at (Step.Ask Request.Snapshot) after)
+        → ShowsChange turn.reported.behind turn.reported.leases turn.reported.has_request
+        → IsCalm after later → Sees after later s → later - at < after.ttl / 5 * above after
+        → changes_log (due after later s) ≡ false }
     ensures some { (m after : MemberState) × (turns : List Turn) × DoesTasks m turns after × (length turns ≡ 3) }
 {}
 
@@ -65,6 +73,8 @@ pub fn progress_of_one()
 /// - `ready`: all are ready for the change, as far as each of them knows. So no two wait for each other.
 /// - `changes`: each whose turn has come changes the log.
 /// - `somebody`: the turn of one of them, the one with the highest node, has come.
+/// - `alone`: of those to whom a snapshot showed a change less than a fifth of the ttl ago only one changes the log
+///   (`IsAlert`), the one with the highest node. So no two compete.
 ///
 /// After the rebalance, which one of them appends (`Appends`):
 ///
@@ -80,8 +90,9 @@ pub fn progress_of_one()
 /// - `one`: no two nodes work on one partition.
 /// - `served`: each partition is worked on.
 ///
-/// There are such members: two that have promised and look again (`look`), two of one view (`some`), and those that have
-/// learned a rebalance (`after`).
+/// There are such members: two that have promised and look again (`look`), two of one view (`some`), two to whom a
+/// snapshot showed a change, of whom the higher one changes the log (`alert`), and those that have learned a rebalance
+/// (`after`).
 pub fn round_becomes_stable()
     ensures again { (leases : List Lease) (m after : MemberState) (later : ℕ) (t : Sight) → LooksAgain leases m after
         → IsCalm after later → Sees after later t → t.is_stable ≡ false → to_do after t ≡ 0 }
@@ -92,6 +103,9 @@ pub fn round_becomes_stable()
         → due m now s ≡ change_of m }
     ensures somebody { (ms : List MemberState) → HaveOneView ms → ms ≢ [] → (m : MemberState) × Contains ms m
         × ((now : ℕ) (s : Sight) → IsAtRest m now false → Sees m now s → due m now s ≡ change_of m) }
+    ensures alone { (leases : List Lease) (m n : MemberState) (now later : ℕ) (s t : Sight)
+        → IsAlert leases m now s → IsAlert leases n later t
+        → changes_log (due m now s) ≡ true → changes_log (due n later t) ≡ true → m.terms.node ≡ n.terms.node }
     ensures stable { (w n : MemberState) (log more : List Event) → Appends w log more → HasLearnedOf w log more n
         → SeesStable n }
     ensures works { (w n : MemberState) (log more : List Event) (now k : ℕ) (s : Sight)
@@ -115,6 +129,9 @@ pub fn round_becomes_stable()
         → (x : Passage) × Contains xs x × (works_at x.last.works k ≡ true) }
     ensures look { (leases : List Lease) × (xs : List Look) × HaveLooked leases xs × (length xs ≡ 2) }
     ensures some { (ms : List MemberState) × HaveOneView ms × (length ms ≡ 2) }
+    ensures alert { (leases : List Lease) × (m n : MemberState) × (now : ℕ) × (s : Sight)
+        × IsAlert leases m now s × IsAlert leases n now s
+        × (m.terms.node < n.terms.node) × (changes_log (due n now s) ≡ true) }
     ensures after { (w : MemberState) × (log more : List Event) × Appends w log more
         × ((i : ℕ) → Contains (rebalanced_nodes w) i → (n : MemberState) × (now : ℕ) × (n.terms.node ≡ i)
         × HasLearnedOf w log more n × IsAtRest n now true) }

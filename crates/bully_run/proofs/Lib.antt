@@ -1,4 +1,6 @@
+pub mod AnswerLemmas
 pub mod CallLemmas
+pub mod LeaseLemmas
 pub mod BusyLemmas
 pub mod SeenLemmas
 pub mod FrameLemmas
