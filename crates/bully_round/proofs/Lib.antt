@@ -8,4 +8,7 @@ pub mod RoundLemmas
 pub mod AgainLemmas
 pub mod SomeTurns
 pub mod SomeView
+pub mod SomePassage
+pub mod SomeRows
 pub mod SomeRound
+pub mod SomeWhole

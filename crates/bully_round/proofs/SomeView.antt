@@ -12,19 +12,20 @@ use Rattle.bully_member.specs.declared.values.Request.{Request}
 use Rattle.bully_member.specs.declared.values.Sight.{Sight}
 use Rattle.bully_member.specs.declared.values.Step.{Step}
 use Rattle.bully_member.specs.declared.values.SessionState.{SessionState}
-use Rattle.bully_round.proofs.SomeTurns.{all_down, free_sight, header, idle, learned, lease, no_more, not_stable, session, terms}
+use Rattle.bully_replica.proofs.RowReplicaLemmas.{follows_none}
+use Rattle.bully_round.proofs.SomeTurns.{all_down, free_sight, header, idle, learned, lease, not_stable, session, terms}
 use Rattle.bully_round.specs.Group.{HasSameView, HaveLooked, HaveOneView, IsAlert, IsAtRest, IsLeaseOf, Look, LooksAgain}
 use Rattle.bully_round.specs.Progress.{IsCalm, TakesTurn, changes_log}
 
 -- its session was seen now
-abbrev seen_at : ℕ → Arrival
+abbrev pub seen_at : ℕ → Arrival
 seen_at node = record { session = Some (session node); at = 1; stay = 10 }
 
 -- their leases, before either has promised, and after both have
 abbrev first_leases : List Lease
 first_leases = lease 1 0 ∷ lease 2 0 ∷ []
 
-abbrev all_leases : List Lease
+abbrev pub all_leases : List Lease
 all_leases = lease 1 1 ∷ lease 2 1 ∷ []
 
 abbrev knowing : List Lease → ℕ → MemberState
@@ -37,6 +38,8 @@ knowing leases node = record (new_member header (terms node) node 1000) {
   arrivals = seen_at 1 ∷ seen_at 2 ∷ [];
   affected = 2 ∷ 1 ∷ [];
   needs_snapshot = false;
+  last_change = record { at = 1; offset = 0 };
+  is_asked_exact = true;
 }
 
 abbrev pub one : ℕ → MemberState
@@ -78,7 +81,7 @@ owner m p known has = by_place p (subst (λ (xs : List Lease). Contains xs p) kn
     by_place p (suc zero, low, is) = let same : lease 2 1 ≡ p = cc is in (one 2, (1, omega arith, refl), subst (IsLeaseOf (one 2)) same (record { node = refl; promise = refl; kept = λ exact. refl }))
     by_place p (suc (suc i), low, is) = absurd (omega (arith, low))
 
-view : HaveOneView both
+pub view : HaveOneView both
 view = record {
   rest = each (λ m. (now : ℕ) × IsAtRest m now false) (1, rests_one) (1, rests_two);
   old = each (λ m. is_newcomer m ≡ false) refl refl;
@@ -92,7 +95,7 @@ some_view_lem = (both, view, refl)
 
 -- Each of them looks again, and sees the same. That shows it the other's promise.
 
-both_live : (i : ℕ) → Contains (2 ∷ 1 ∷ []) i ↔ Contains (live_of all_leases) i
+pub both_live : (i : ℕ) → Contains (2 ∷ 1 ∷ []) i ↔ Contains (live_of all_leases) i
 both_live i = ((λ has. has), (λ has. has))
 
 abbrev woken_one : MemberState
@@ -137,7 +140,7 @@ turn_one = record {
     records = [];
     taken = Ok tt;
     behind = behind_one;
-    learns = record { left = []; follows = no_more mid_one.learned; rest = refl };
+    learns = record { left = []; follows = follows_none [] mid_one.learned; rest = refl };
     leases = all_leases;
     has_unknown = false;
     has_request = false;
@@ -227,7 +230,7 @@ turn_two = record {
     records = [];
     taken = Ok tt;
     behind = behind_two;
-    learns = record { left = []; follows = no_more mid_two.learned; rest = refl };
+    learns = record { left = []; follows = follows_none [] mid_two.learned; rest = refl };
     leases = all_leases;
     has_unknown = false;
     has_request = false;

@@ -17,6 +17,7 @@ ghost use Rattle.bully_member.specs.declared.values.SessionId.{SessionId};
 ghost use Rattle.bully_member.specs.declared.values.SessionState.{SessionState};
 ghost use Rattle.bully_member.specs.declared.values.Sight.{Sight};
 ghost use Rattle.bully_member.specs.declared.values.Step.{Step};
+ghost use Rattle.bully_replica.specs.Replica.{IsLogOf};
 ghost use Rattle.bully_round.specs.Group.{Appends, HasLearnedOf, HaveLooked, HaveOneView, IsAlert, IsAtRest, IsRound};
 ghost use Rattle.bully_round.specs.Group.{Look, LooksAgain, Passage, after_in, all_turns, table_of};
 ghost use Rattle.bully_round.specs.Progress.{DoesTasks, IsCalm, Owns, ShowsChange, TakesTurn, Turn, change_of};
@@ -92,7 +93,8 @@ pub fn progress_of_one()
 ///
 /// There are such members: two that have promised and look again (`look`), two of one view (`some`), two to whom a
 /// snapshot showed a change, of whom the higher one changes the log (`alert`), and those that have learned a rebalance
-/// (`after`).
+/// (`after`). There is such a round (`whole`): of two members, after a log that they have learned. So both read the rows
+/// of its rebalance.
 pub fn round_becomes_stable()
     ensures again { (leases : List Lease) (m after : MemberState) (later : ℕ) (t : Sight) → LooksAgain leases m after
         → IsCalm after later → Sees after later t → t.is_stable ≡ false → to_do after t ≡ 0 }
@@ -135,4 +137,6 @@ pub fn round_becomes_stable()
     ensures after { (w : MemberState) × (log more : List Event) × Appends w log more
         × ((i : ℕ) → Contains (rebalanced_nodes w) i → (n : MemberState) × (now : ℕ) × (n.terms.node ≡ i)
         × HasLearnedOf w log more n × IsAtRest n now true) }
+    ensures whole { (xs : List Passage) × (w : MemberState) × (log more : List Event) × IsRound xs w log more
+        × IsLogOf (replica_of w) log × (length xs ≡ 2) }
 {}

@@ -1,6 +1,6 @@
 use Rattle.bully_round.proofs.FreshLemmas.{fresh_lem}
 use Rattle.bully_round.proofs.DueLemmas.{acts_lem, rests_lem}
-use Rattle.bully_round.proofs.SomeTurns.{some_lem}
+use Rattle.bully_round.proofs.SomePassage.{some_turns_lem}
 use Rattle.bully_round.proofs.OwnLemmas.{exactly_lem}
 use Rattle.bully_round.proofs.PatienceLemmas.{patient_lem}
 use Rattle.bully_round.proofs.TurnLemmas.{bounded_lem, falls_lem}
@@ -22,7 +22,7 @@ pub returns-clause-exactly : goal.returns-clause-exactly
 returns-clause-exactly c = exactly_lem
 
 pub returns-clause-some : goal.returns-clause-some
-returns-clause-some c = some_lem
+returns-clause-some c = some_turns_lem
 
 pub returns-clause-patient : goal.returns-clause-patient
 returns-clause-patient c = patient_lem

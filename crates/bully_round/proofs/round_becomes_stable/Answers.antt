@@ -4,6 +4,7 @@ use Rattle.bully_round.proofs.PatienceLemmas.{alone_lem}
 use Rattle.bully_round.proofs.RoundLemmas.{ends_stable_lem, one_works_lem, some_works_lem, stable_for, turns_lem, waits_lem, works_in_round, works_lem}
 use Rattle.bully_round.proofs.SomeRound.{some_rest_lem}
 use Rattle.bully_round.proofs.SomeView.{some_alert_lem, some_look_lem, some_view_lem}
+use Rattle.bully_round.proofs.SomeWhole.{some_whole_lem}
 use Rattle.bully_round.proofs.round_becomes_stable.Goals as goal
 
 pub returns-clause-ready : goal.returns-clause-ready
@@ -59,3 +60,6 @@ returns-clause-look c = some_look_lem
 
 pub returns-clause-alert : goal.returns-clause-alert
 returns-clause-alert c = some_alert_lem
+
+pub returns-clause-whole : goal.returns-clause-whole
+returns-clause-whole c = some_whole_lem
