@@ -8,5 +8,4 @@ pub mod LinkLemmas
 pub mod ActLemmas
 pub mod RunLemmas
 pub mod BeginLemmas
-pub mod SightLemmas
 pub mod SomeRun

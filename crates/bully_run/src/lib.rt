@@ -23,9 +23,7 @@ ghost use Rattle.bully_agree.specs.Fencing.{Planned};
 ghost use Rattle.bully_rows.specs.Headers.{Record};
 ghost use Rattle.bully_work.specs.Store.{Act, AllAsked, HasWork, IsLive, IsReached, KeepsNothing, OwnsNow, Piece};
 
-use bully_base::NodeSet;
 use bully_member::{Member, Step};
-use bully_rebalance::is_stable;
 use bully_replica::LearnFault;
 use bully_rows::RowReader;
 use std::alloc::Global;
@@ -44,7 +42,8 @@ use std::io::Read;
 /// - `asks`: it asks for a promise only for that session, and for no lower offset than it has promised; and then it has
 ///   promised that.
 /// - `starts`: a new session has promised nothing before, and then the offset at which its lease is asked for.
-/// - `counts`: if it has its lease, that counts from a call at which it asked for it, or to renew it: not from the answer.
+/// - `counts`: if it has its lease, that counts from a call at which it asked for it, or to renew it, and not from the
+///   answer.
 ///
 /// The one premise is that no number of a session is used twice (`NumbersLast`): a process has 2^64 of them.
 pub fn forgets_no_promise()
@@ -128,13 +127,10 @@ pub fn members_apart()
 {}
 
 /// What a member does next, as [`Member::next`] gives it: a call of a run. So such calls are possible wherever there is
-/// a member (`GoesNext` has a witness of what the member sees).
+/// a member.
 pub fn next(member: &mut Member, now: u64) -> Step
     ensures { GoesNext member.old now result member.new }
 {
-    let is_stable_now = member.is_stable();
-    let are_down_now = is_stable(member.replica(), &NodeSet::new(), 0);
-    let _tests = (is_stable_now, are_down_now);
     member.next(now)
 }
 
