@@ -11,17 +11,18 @@ from collections.abc import Sequence
 from pathlib import Path
 from typing import Any
 
-TESTS = Path(__file__).resolve().parents[1]
-alone = types.ModuleType('bully')  # as in the watchdog itself
-alone.__path__ = [str(TESTS.parent / 'bindings' / 'python' / 'bully')]
-sys.modules['bully'] = alone
-sys.path.append(str(TESTS))
+if __name__ == '__main__':  # `bully` without its __init__, as in the watchdog itself
+    TESTS = Path(__file__).resolve().parents[1]
+    alone = types.ModuleType('bully')
+    alone.__path__ = [str(TESTS.parent / 'bindings' / 'python' / 'bully')]
+    sys.modules['bully'] = alone
+    sys.path.append(str(TESTS))
 
 from bully import watchdog
 
 from members.acted import Pen, living_below, moment
 
-pen = Pen()
+pen: Pen  # of this process, once it runs
 keepers: list[ActedKeeper] = []  # the last one is that of this process, if it is one
 
 
@@ -72,6 +73,8 @@ class ActedKeeper(watchdog.Keeper):
         super().say(word, *more, name=name)
 
 
-watchdog.Worker, watchdog.Keeper = ActedWorker, ActedKeeper  # type: ignore[misc]
 if __name__ == '__main__':
+    pen = Pen()
+    setattr(watchdog, 'Worker', ActedWorker)
+    setattr(watchdog, 'Keeper', ActedKeeper)
     watchdog.main()

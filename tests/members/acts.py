@@ -136,16 +136,17 @@ class Store:
         self.promised: dict[str, int] = {}  # when a lease with this promise was first requested
         self.rolled: dict[int, int] = {}  # when the end of this epoch was first requested
         appends: dict[int, list[Append]] = defaultdict(list)
-        asked: dict[str, Act] = {}  # the last call of a member
+        under_way: dict[str, Act] = {}  # the append of a member
         for act in acts:
             if act.kind == 'asks':
-                asked[act.member] = act
                 self._see(act)
-            elif act.kind == 'gave' and act.more['call'] == 'append':
-                self._see_append(appends, asked.pop(act.member), act)
-        for act in asked.values():
-            if act.more['call'] == 'append':
-                self._see_append(appends, act, None)  # its process was killed meanwhile
+            if act.kind in ('asks', 'gave') and act.more['call'] == 'append':
+                if act.kind == 'asks':
+                    under_way[act.member] = act
+                elif act.member in under_way:
+                    self._see_append(appends, under_way.pop(act.member), act)
+        for act in under_way.values():
+            self._see_append(appends, act, None)  # its process was killed meanwhile
         self.lengths = {epoch: Lengths(appends[epoch]) for epoch in self.epochs}
 
     def _see(self, act: Act) -> None:

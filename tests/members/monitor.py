@@ -66,6 +66,10 @@ class Course:
     def name(self) -> str:
         return str(self.start['name'])
 
+    def named(self, node: int) -> str:
+        """The name of a node in its epoch."""
+        return self.names[node - 1] if node <= len(self.names) else str(node)
+
 
 class Judge:
     """Judges acts, in the order of their moments."""
@@ -87,6 +91,9 @@ class Judge:
         """The next act."""
         self.kinds[act.kind] += 1
         course = self.courses[act.member]
+        if act.kind in RULES - {'starts'} and not course.start:
+            self.hold('Starts', False, act, 'it has not started')
+            return
         if act.kind in RULES and 'now' in act.more:
             is_now = course.last <= act.more['now'] <= act.at
             self.hold('IsNow', is_now, act, f'it was called at {course.last} before')
@@ -129,6 +136,8 @@ class Judge:
 
     def _steps(self, course: Course, act: Act) -> None:
         if act.more['step'] == 'Ask':
+            if course.step is not None:
+                self._see_answer(course, act, False)  # nothing was reported of the one before
             course.step, course.asks, course.gave, course.learned = act, None, None, []
             if act.more['request'] == 'release':
                 course.released = act.more['session'][1]
@@ -166,7 +175,7 @@ class Judge:
         if asks is None or gave is None or not isinstance(found, dict):
             self._see_answer(course, act, False)
             return
-        leases = {course.names[int(node) - 1]: lease for node, lease in act.more['leases'].items()}
+        leases = {course.named(int(node)): lease for node, lease in act.more['leases'].items()}
         there = {name: lease for name, lease in found['holders'].items() if name in course.names}
         is_same = (found['epoch'], found['rows']) == (act.more['epoch'], course.learned)
         self._see_answer(course, act, is_same and (found['is_paused'] or leases == there))
@@ -256,7 +265,7 @@ class Judge:
         """What a change names of leases is what the member was shown, and its own last promise."""
         known, given, wanted = act.more['known'], None, None
         if course.is_cooperative and not step.more['is_ending']:
-            affected = sorted(course.names[node - 1] for node in step.more['affected'])
+            affected = sorted(map(course.named, step.more['affected']))
             leases = {**course.leases, **({course.name: course.own} if course.own is not None else {})}
             wanted = affected, {name: leases.get(name) for name in affected}, course.revision
         if known is not None:
@@ -267,7 +276,9 @@ class Judge:
 
     def _gave(self, course: Course, act: Act) -> None:
         asks, call, result = course.call, act.more['call'], act.more['result']
-        assert asks is not None
+        if asks is None or asks.more['call'] != call:
+            self.hold('IsAnswer', False, act, 'nothing was requested')
+            return
         if asks is course.asks:
             course.gave = act
         if call == 'snapshot' and isinstance(result, dict):
@@ -324,7 +335,7 @@ class Judge:
 def judge(acts: Iterable[Act]) -> Verdict:
     """Judges these acts."""
     ordered = sorted(acts, key=lambda act: act.at)
-    it = Judge(Store(ordered))
+    monitor = Judge(Store(ordered))
     for act in ordered:
-        it.see(act)
-    return it.end()
+        monitor.see(act)
+    return monitor.end()

@@ -32,7 +32,7 @@ from .monitor import judge
 from .soaking import Recorded
 
 NODES, PARTITIONS = 3, 6
-SOON = 10.0  # seconds that anything may take here: with a bug it may never come
+SOON = 15.0  # seconds that anything may take here: with a bug it may never come
 
 
 def words() -> argparse.Namespace:

@@ -105,6 +105,16 @@ class Laws(Tests):
         log.release('a', A)
         self.assertEqual(live(log), {'a': Holder(B, EMPTY)})
 
+    def test_another_session(self) -> None:
+        """A snapshot shows the session that holds a lease then, also if the one before, which the same process saw, had
+        promised the same; with all promises or with that of another node alone."""
+        for alone in (None, 'b'):
+            log, other = self.pair()
+            for session in (A, B, C):
+                self.assertTrue(other.acquire('a', session, EMPTY, self.LONG))
+                self.assertEqual(log.snapshot(*where(EMPTY), alone).sessions, {'a': session})
+                other.release('a', session)
+
     def test_a_shorter_renewal(self) -> None:
         """Others see the end of a lease that was renewed for a shorter time than before."""
         log, other = self.pair()

@@ -174,6 +174,13 @@ class Values(unittest.TestCase):
                 leaving, expected = frozenset('a' * is_leaving), Lease(numbers['a'], A, WORKS, (), is_leaving)
                 self.assertEqual(leases.of(holders, numbers, leaving), (expected,))
 
+    def test_leases_of_other_sessions(self) -> None:
+        """A lease is that of the session that holds it now, with what that has promised, whatever is the same as
+        before."""
+        leases = adapter.Leases()
+        for holder in (Holder(A, WORKS), Holder(B, WORKS), Holder(B, IDLE), Holder(B, IDLE, (3,)), Holder(A, IDLE, (3,))):
+            self.assertEqual(leases.of({'a': holder}, {'a': 1}), (Lease(1, *holder),))
+
     def test_waits(self) -> None:
         """An unknown process must go before all can be idle, so nobody waits until all are; and a member that needs no
         promises waits for none."""

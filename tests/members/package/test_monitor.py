@@ -187,7 +187,10 @@ BROKEN: dict[str, dict[str, Acts]] = {
         'a unit goes on': [*LAWFUL, act(116, 'unit', partition=1, token=TOKEN, begun=105)],
         'a stop that is not answered': [*LAWFUL, *(each for each in TALK if each.at not in (105, 109))],
     },
-    'Starts': {'a number of another process': [*LAWFUL, started(11, 'n', 7, 'b', 2)]},
+    'Starts': {
+        'a number of another process': [*LAWFUL, started(11, 'n', 7, 'b', 2)],
+        'a call before that': [*LAWFUL, act(9, 'stopped', 'n', there=[], **COMES)],
+    },
     'sent_by': {
         'a promise that keeps less': other({101: {'works': [0]}}),
         'what was not asked for': [*LAWFUL, act(104, 'asks', **RENEW), act(105, 'gave', call='renew', result=True)],
@@ -196,7 +199,7 @@ BROKEN: dict[str, dict[str, Acts]] = {
         'the end of an epoch that was refused is done': other({122: {'result': False}}),
         'a promise that was not answered is done': other({102: {'result': 'unanswered'}}),
         'a lease is left out': other({64: {'leases': {}}}),
-        'another epoch': other({132: given(132, epoch=3)}),
+        'another epoch': other({132: given(132, epoch=3)}), 'nothing is reported': without(103),
     },
     'IsNow': {'it goes back': other({70: {'now': 60}}), 'it is ahead': other({70: {'now': 71}})},
 }  # fmt: skip
