@@ -5,12 +5,11 @@ use Rattle.std.proofs.lemmas.List.Recursion.{is_count_by}
 use Rattle.std.specs.Prelude.{count_by}
 use Rattle.std.specs.List.{list_all}
 use Rattle.bully_base.specs.declared.TheConstants.{NODES_MAX}
-use Rattle.bully_member.proofs.KeepLemmas.{sights_same}
-use Rattle.bully_member.specs.Activities.{any_stopping, busy, busy_from, works_at}
+use Rattle.bully_member.proofs.KeepLemmas.{left_all, sights_same}
+use Rattle.bully_member.specs.Activities.{busy}
 use Rattle.bully_member.specs.Due.{Sees, due, goes_on, goes_on_by, is_newcomer, last_table, token_now}
 use Rattle.bully_member.specs.Member.{MemberState, above, all_ready, has_promised, here, is_affected, is_ready, is_ready_itself, replica_of, same_promise}
 use Rattle.bully_member.specs.Times.{turn_left}
-use Rattle.bully_member.specs.declared.values.Activity.{Activity}
 use Rattle.bully_member.specs.declared.values.Lease.{Lease}
 use Rattle.bully_member.specs.declared.values.Promise.{Promise}
 use Rattle.bully_member.specs.declared.values.Sight.{Sight}
@@ -43,19 +42,6 @@ ready_of false false may has old is = refl
 ready_of false true true true old is = refl
 ready_of false true true false old is = absurd (omega (arith, is))
 ready_of false true false has old is = absurd (omega (arith, is))
-
--- a test of all on which it works, if it was asked to stop nothing
-left_all : (works : List Activity) (from : ℕ) (test : ℕ → Bool) → ((d : ℕ) → works_at works d ≡ true → test (from + d) ≡ true) → any_stopping works ≡ false → list_all test (busy_from from works) ≡ true
-left_all [] from test all free = refl
-left_all (Activity.Idle ∷ works) from test all free = left_all works (suc from) test (λ d is. subst (λ k. test k ≡ true) (omega arith) (all (suc d) is)) free
-left_all (Activity.Working ∷ works) from test all free =
-    and_then (test from) (list_all test (busy_from (suc from) works)) (subst (λ k. test k ≡ true) (omega arith) (all 0 refl)) (left_all works (suc from) test (λ d is. subst (λ k. test k ≡ true) (omega arith) (all (suc d) is)) free)
-  where
-    and_then : (a b : Bool) → a ≡ true → b ≡ true → a && b ≡ true
-    and_then true true one other = refl
-    and_then true false one other = absurd (cc other)
-    and_then false b one other = absurd (cc one)
-left_all (Activity.Stopping ∷ works) from test all free = absurd (cc free)
 
 to_coming : (goes by : Bool) (last coming : Option (List ℕ)) (node k : ℕ) → is_left (table_if goes false by last coming) node k ≡ true → is_left coming node k ≡ true
 to_coming true by last coming node k left = left
