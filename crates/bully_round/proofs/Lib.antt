@@ -1,5 +1,7 @@
 pub mod DueLemmas
 pub mod TurnLemmas
+pub mod MapLemmas
+pub mod KeptLemmas
 pub mod FreshLemmas
 pub mod OwnLemmas
 pub mod GroupLemmas
@@ -8,3 +10,8 @@ pub mod AgainLemmas
 pub mod SomeTurns
 pub mod SomeView
 pub mod SomeRound
+pub mod SizedLemmas
+pub mod CalledLemmas
+pub mod FromLemmas
+pub mod FromRound
+pub mod AcceptedLemmas

@@ -55,7 +55,7 @@ pub rests_two : IsAtRest (one 2) 1 false
 rests_two = record { sight = free_sight; calm = calm 2; sees = sees 2; stable = refl; none = refl }
 
 alike : (a b : ℕ) → HasSameView (one a) (one b)
-alike a b = record { replica = refl; epoch = refl; coming = refl; affected = refl }
+alike a b = record { offset = refl; epoch = refl; coming = refl; affected = λ i. refl }
 
 owner : (m : MemberState) (p : Lease) → m.leases ≡ lease 1 1 ∷ lease 2 1 ∷ [] → Contains m.leases p → (n : MemberState) × Contains both n × IsLeaseOf n p
 owner m p known has = by_place p (subst (λ (xs : List Lease). Contains xs p) known has)
