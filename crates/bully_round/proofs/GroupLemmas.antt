@@ -15,8 +15,6 @@ use Rattle.bully_member.specs.declared.values.Promise.{Promise}
 use Rattle.bully_member.specs.declared.values.Sight.{Sight}
 use Rattle.bully_member.specs.declared.values.Step.{Step}
 use Rattle.bully_rebalance.specs.Leaving.{is_left}
-use Rattle.bully_rebalance.specs.Rebalancing.{is_member}
-use Rattle.bully_replica.specs.Replica.{ReplicaState}
 use Rattle.bully_round.proofs.DueLemmas.{rests_lem}
 use Rattle.bully_round.proofs.TurnLemmas.{is_true, table_if}
 use Rattle.bully_round.specs.Group.{HaveOneView, IsAtRest, IsLeaseOf}
@@ -72,11 +70,11 @@ ready_by false true promised left do_so = let (one, other) = do_so refl in both_
     both_true true false one other = absurd (cc other)
     both_true false b one other = absurd (cc one)
 
-has_of : (affected has : Bool) → not affected || has ≡ true → affected ≡ true → has ≡ true
+pub has_of : (affected has : Bool) → not affected || has ≡ true → affected ≡ true → has ≡ true
 has_of true has is affected = is
 has_of false has is affected = absurd (cc affected)
 
-two_of : (a b : Bool) → a && b ≡ true → (a ≡ true) × (b ≡ true)
+pub two_of : (a b : Bool) → a && b ≡ true → (a ≡ true) × (b ≡ true)
 two_of true true is = (refl, refl)
 two_of true false is = absurd (cc is)
 two_of false b is = absurd (cc is)
@@ -104,12 +102,12 @@ module _ (ms : List MemberState) (view : HaveOneView ms) (m : MemberState) (has 
       by_owner (n, one, of) = ready_by (p.node == m.terms.node) (is_affected m p.node) (same_promise p.promise (here m)) (list_all (is_left m.coming p.node) p.kept) (λ affected.
           let alike = view.alike m n has one in
           let rest = view.rest n one in
-          let too : is_affected n n.terms.node ≡ true = sym (ap (λ (nodes : List ℕ). is_member nodes p.node) alike.affected ∙ ap (is_member n.affected) of.node) ∙ affected in
+          let too : is_affected n n.terms.node ≡ true = sym (alike.affected p.node ∙ ap (is_affected n) of.node) ∙ affected in
           let promised : has_promised n ≡ true = has_of (is_affected n n.terms.node) (has_promised n) (ready_itself n rest.0 rest.1 (view.old n one)) too in
           let (same, exact) = two_of (same_promise n.own (here n)) n.is_exact promised in
           let at : same_promise p.promise (here m) ≡ same_promise n.own (here n) =
           ap (λ (x : Promise). same_promise x (here m)) of.promise ∙ ap (λ e. same_promise n.own (record { epoch = e; offset = (replica_of m).world.events })) alike.epoch
-          ∙ ap (λ (r : ReplicaState). same_promise n.own (record { epoch = n.terms.epoch; offset = r.world.events })) alike.replica in
+          ∙ ap (λ o. same_promise n.own (record { epoch = n.terms.epoch; offset = o })) alike.offset in
           let left : list_all (is_left m.coming p.node) p.kept ≡ list_all (is_left n.coming n.terms.node) (busy n.works) =
           ap (λ (t : Option (List ℕ)). list_all (is_left t p.node) p.kept) alike.coming ∙ ap (λ i. list_all (is_left n.coming i) p.kept) of.node ∙ ap (list_all (is_left n.coming n.terms.node)) (of.kept exact) in
           (at ∙ same, left ∙ is_left_all n rest.0 rest.1 (view.old n one)))

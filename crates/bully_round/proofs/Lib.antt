@@ -1,5 +1,7 @@
 pub mod DueLemmas
 pub mod TurnLemmas
+pub mod MapLemmas
+pub mod KeptLemmas
 pub mod FreshLemmas
 pub mod OwnLemmas
 pub mod GroupLemmas
@@ -12,3 +14,8 @@ pub mod SomePassage
 pub mod SomeRows
 pub mod SomeRound
 pub mod SomeWhole
+pub mod SizedLemmas
+pub mod CalledLemmas
+pub mod FromLemmas
+pub mod FromRound
+pub mod AcceptedLemmas

@@ -71,7 +71,7 @@ rests_two : IsAtRest (one 2) 1 false
 rests_two = record { sight = free_sight; calm = calm all_leases 2 refl; sees = sees all_leases 2; stable = refl; none = refl }
 
 alike : (leases : List Lease) (a b : ℕ) → HasSameView (knowing leases a) (knowing leases b)
-alike leases a b = record { replica = refl; epoch = refl; coming = refl; affected = refl }
+alike leases a b = record { offset = refl; epoch = refl; coming = refl; affected = λ i. refl }
 
 owner : (m : MemberState) (p : Lease) → m.leases ≡ all_leases → Contains m.leases p → (n : MemberState) × Contains both n × IsLeaseOf n p
 owner m p known has = by_place p (subst (λ (xs : List Lease). Contains xs p) known has)

@@ -87,10 +87,10 @@ left_last false by last coming node k left = absurd (cc left)
 
 -- Work that ends.
 
-record Ended (m after : MemberState) : Type 0 where
-  same : after ≡ record m { works = after.works; is_exact = after.is_exact; is_lost = after.is_lost; is_asked_exact = after.is_asked_exact }
-  fewer : (k : ℕ) → works_at after.works k ≡ true → works_at m.works k ≡ true
-  lost : m.is_lost ≡ false → after.is_lost ≡ false
+pub record Ended (m after : MemberState) : Type 0 where
+  pub same : after ≡ record m { works = after.works; is_exact = after.is_exact; is_lost = after.is_lost; is_asked_exact = after.is_asked_exact }
+  pub fewer : (k : ℕ) → works_at after.works k ≡ true → works_at m.works k ≡ true
+  pub lost : m.is_lost ≡ false → after.is_lost ≡ false
 
 ended_none : (works : List Activity) (j k : ℕ) → works_at (changed_from end_at j works) k ≡ true → ⊥
 ended_none [] j k is = absurd (cc is)
@@ -129,7 +129,7 @@ ended_both m mid after one more = record {
   lost = λ none. more.lost (one.lost none);
 }
 
-all_ended : (calls : List Call) (m after : MemberState) → AreEnds m calls after → Ended m after
+pub all_ended : (calls : List Call) (m after : MemberState) → AreEnds m calls after → Ended m after
 all_ended [] m after is = subst (Ended m) (sym is) (record { same = refl; fewer = λ k works. works; lost = λ none. none })
 all_ended (call ∷ calls) m after (mid, is, takes, more) = ended_both m mid after (one_ended m mid call is takes) (all_ended calls mid after more)
 

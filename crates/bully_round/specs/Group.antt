@@ -5,7 +5,7 @@ use Rattle.bully_base.specs.Setup.{IsNode}
 use Rattle.bully_calls.specs.declared.event.Event.{Event}
 use Rattle.bully_member.specs.Activities.{busy}
 use Rattle.bully_member.specs.Due.{Sees, is_newcomer}
-use Rattle.bully_member.specs.Member.{MemberState, is_closing, lease_of, offset_in, replica_of}
+use Rattle.bully_member.specs.Member.{MemberState, is_affected, is_closing, lease_of, offset_in, offset_of, replica_of}
 use Rattle.bully_member.specs.Rebalance.{rebalanced_nodes}
 use Rattle.bully_member.specs.Told.{to_snapshot}
 use Rattle.bully_member.specs.declared.values.Lease.{Lease}
@@ -25,12 +25,12 @@ pub record IsAtRest (m : MemberState) (now : ℕ) (is_stable : Bool) : Type 0 wh
   pub stable : sight.is_stable ≡ is_stable
   pub none : to_do m sight ≡ 0
 
--- both have learned the same of one epoch, and foresee the same change
+-- both have learned as much of one epoch, and foresee the same change
 pub record HasSameView (m n : MemberState) : Type 0 where
-  pub replica : replica_of m ≡ replica_of n
+  pub offset : offset_of m ≡ offset_of n
   pub epoch : m.terms.epoch ≡ n.terms.epoch
   pub coming : m.coming ≡ n.coming
-  pub affected : m.affected ≡ n.affected
+  pub affected : (i : ℕ) → is_affected m i ≡ is_affected n i
 
 -- this is the lease of member n, as its last promise that was done left it
 pub record IsLeaseOf (n : MemberState) (p : Lease) : Type 0 where

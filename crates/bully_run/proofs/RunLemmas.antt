@@ -71,12 +71,12 @@ told_ran s i m (StoppedOn k) after none linked takes may = subst (IsRan s s i m.
 -- What was sent.
 
 -- a writer has learned a prefix of its epoch's log, by which it may append, or roll the epoch over
-record Writes (s : Store) (m : MemberState) (offset : ℕ) (silent : ℕ → Bool) (seen : ℕ → Option Held) (events : List Event) : Type 0 where
-  name : ℕ
-  place : IsPlaced s name (replica_of m) m.terms.epoch m.terms.node
-  asks : AppendsAt m offset
-  names : Names m (record s { epoch = m.terms.epoch }) silent seen
-  rebalances : (log : List Event) → IsLogOf (replica_of m) log → Rebalances (replica_of m).world.setup log (table_before (replica_of m).last m.terms.old) (rebalanced_nodes m) events
+pub record Writes (s : Store) (m : MemberState) (offset : ℕ) (silent : ℕ → Bool) (seen : ℕ → Option Held) (events : List Event) : Type 0 where
+  pub name : ℕ
+  pub place : IsPlaced s name (replica_of m) m.terms.epoch m.terms.node
+  pub asks : AppendsAt m offset
+  pub names : Names m (record s { epoch = m.terms.epoch }) silent seen
+  pub rebalances : (log : List Event) → IsLogOf (replica_of m) log → Rebalances (replica_of m).world.setup log (table_before (replica_of m).last m.terms.old) (rebalanced_nodes m) events
 
 record Closes (s : Store) (m : MemberState) (offset : ℕ) (silent : ℕ → Bool) (number : ℕ → ℕ) : Type 0 where
   name : ℕ
@@ -581,6 +581,13 @@ first_linked setup number = record {
 
 has_run : (happenings : List Happening) (R : Run) (run : HasRun happenings R) → IsRunOf happenings (first_run run.setup run.number) R
 has_run happenings R run = runs_on happenings (first_run run.setup run.number) R (first_linked run.setup run.number) run.runs
+
+pub linked_of : (happenings : List Happening) (R : Run) (p : ℕ) (q : Process) → HasRun happenings R → R.processes p ≡ Some q → Linked R.store q.name q.member
+linked_of happenings R p q run there = ((has_run happenings R run).linked.members p q there).linked
+
+-- what was sent to append, was sent by a writer that may
+pub writes_of : (happenings : List Happening) (R : Run) (m : MemberState) (offset : ℕ) (silent : ℕ → Bool) (seen : ℕ → Option Held) (events : List Event) → HasRun happenings R → Contains R.sent (SentAppend m offset silent seen events) → Writes R.store m offset silent seen events
+writes_of happenings R m offset silent seen events run has = (has_run happenings R run).linked.sent (SentAppend m offset silent seen events) has
 
 pub process_is : (happenings : List Happening) (R : Run) (p : ℕ) (q : Process) → HasRun happenings R → R.processes p ≡ Some q → q.member.process ≡ p
 process_is happenings R p q run there = ((has_run happenings R run).linked.members p q there).same
