@@ -1,5 +1,5 @@
 -- A member that has promised, and looks again, has nothing left to do.
-use Rattle.std.proofs.Common.{◌≡◌, ◌&&◌, ◌||◌, ◌==◌, ◌+◌, ◌∷◌, [], not, if◌then◌else◌, ℕ, zero, suc, Bool, true, false, List, Option, Some, None, Contains, map, bytes_eq, arith, refl, sym, ap, subst, ◌∙◌}
+use Rattle.std.proofs.Common.{◌≡◌, ◌&&◌, ◌||◌, ◌==◌, ◌+◌, not, if◌then◌else◌, ℕ, Bool, true, false, List, Option, Some, None, Contains, map, bytes_eq, arith, refl, sym, ap, subst, ◌∙◌}
 use Rattle.std.proofs.lemmas.Slice.Eq.{bytes_eq-Decides}
 use Rattle.bully_member.specs.Activities.{busy, works_at}
 use Rattle.bully_member.specs.Due.{Sees, asked_for, goes_on, goes_on_by, is_newcomer, last_table, token_now}
