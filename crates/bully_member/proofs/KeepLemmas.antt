@@ -57,7 +57,7 @@ keeps_if m now true x y then_x else_y = then_x refl
 keeps_if m now false x y then_x else_y = else_y refl
 
 -- a lease that isn't due to be renewed is sure
-sure_before : (ttl now since : ℕ) → renewal_left (SessionState.Live (record { process = 0; number = 0 }) since) ttl now == 0 ≡ false → nat_lt (now - since) (ttl - ttl / 5) ≡ true
+pub sure_before : (ttl now since : ℕ) → renewal_left (SessionState.Live (record { process = 0; number = 0 }) since) ttl now == 0 ≡ false → nat_lt (now - since) (ttl - ttl / 5) ≡ true
 sure_before ttl now since is = grind (arith, nat_tests, is)
 
 -- a process that isn't to work on anything, and was asked to stop nothing, works on nothing
@@ -68,7 +68,7 @@ works_idle (Activity.Working ∷ works) none free = absurd (none 0 refl)
 works_idle (Activity.Stopping ∷ works) none free = absurd (cc free)
 
 -- a test of all on which it works, if it was asked to stop nothing
-left_all : (works : List Activity) (from : ℕ) (test : ℕ → Bool) → ((d : ℕ) → works_at works d ≡ true → test (from + d) ≡ true) → any_stopping works ≡ false → list_all test (busy_from from works) ≡ true
+pub left_all : (works : List Activity) (from : ℕ) (test : ℕ → Bool) → ((d : ℕ) → works_at works d ≡ true → test (from + d) ≡ true) → any_stopping works ≡ false → list_all test (busy_from from works) ≡ true
 left_all [] from test all free = refl
 left_all (Activity.Idle ∷ works) from test all free = left_all works (suc from) test (λ d is. subst (λ k. test k ≡ true) (omega arith) (all (suc d) is)) free
 left_all (Activity.Working ∷ works) from test all free =

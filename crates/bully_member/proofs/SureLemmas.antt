@@ -41,7 +41,7 @@ may_if_goes m now goes =
 
 -- What isn't stopped is what the table leaves.
 
-stop_from : (works : List Activity) (table : Option (List ℕ)) (node j k : ℕ) → works_at (changed_from (stop_at table node) j works) k ≡ true → is_left table node (j + k) ≡ true
+pub stop_from : (works : List Activity) (table : Option (List ℕ)) (node j k : ℕ) → works_at (changed_from (stop_at table node) j works) k ≡ true → is_left table node (j + k) ≡ true
 stop_from [] table node j k is = absurd (cc is)
 stop_from (Activity.Idle ∷ works) table node j zero is = absurd (cc is)
 stop_from (Activity.Working ∷ works) table node j zero is = subst (λ i. is_left table node i ≡ true) (omega arith) (by_left (is_left table node j) refl is)

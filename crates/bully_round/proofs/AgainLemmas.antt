@@ -1,5 +1,5 @@
 -- A member that has promised, and looks again, has nothing left to do.
-use Rattle.std.proofs.Common.{◌≡◌, ◌&&◌, ◌||◌, ◌==◌, ◌+◌, ◌∷◌, [], not, if◌then◌else◌, ℕ, zero, suc, Bool, true, false, List, Option, Some, None, Contains, map, bytes_eq, arith, refl, sym, ap, subst, ◌∙◌}
+use Rattle.std.proofs.Common.{◌≡◌, ◌&&◌, ◌||◌, ◌==◌, ◌+◌, not, if◌then◌else◌, ℕ, Bool, true, false, List, Option, Some, None, Contains, map, bytes_eq, arith, refl, sym, ap, subst, ◌∙◌}
 use Rattle.std.proofs.lemmas.Slice.Eq.{bytes_eq-Decides}
 use Rattle.bully_member.specs.Activities.{busy, works_at}
 use Rattle.bully_member.specs.Due.{Sees, asked_for, goes_on, goes_on_by, is_newcomer, last_table, token_now}
@@ -17,6 +17,7 @@ use Rattle.bully_member.specs.declared.values.Sight.{Sight}
 use Rattle.bully_rebalance.specs.Leaving.{is_left}
 use Rattle.bully_rebalance.specs.Rebalancing.{is_member}
 use Rattle.bully_replica.specs.Replica.{ReplicaState}
+use Rattle.bully_round.proofs.MapLemmas.{has_mapped, mapped_has}
 use Rattle.bully_round.proofs.TurnLemmas.{goes_is, is_true, look_is, same_num, table_if, true_is}
 use Rattle.bully_round.specs.Group.{HasSameView, HaveLooked, HaveOneView, IsAtRest, IsLeaseOf, Look, LooksAgain, after_in}
 use Rattle.bully_round.specs.Progress.{HasLooked, IsCalm, to_begin, to_do, to_do_seen, to_do_then, to_promise, unless}
@@ -194,22 +195,12 @@ again_lem leases m after later t looks then_calm then_sees still = nothing_left 
 
 -- All of them.
 
-of_after : (xs : List Look) (m : MemberState) → Contains (map after_in xs) m → (x : Look) × Contains xs x × (m ≡ x.after)
-of_after [] m (i, low, at) = absurd (omega (arith, low))
-of_after (x ∷ xs) m (zero, low, at) = (x, (0, omega arith, refl), cc at)
-of_after (x ∷ xs) m (suc i, low, at) = let (y, has, same) = of_after xs m (i, omega (arith, low), at) in (y, (suc has.0, omega (arith, has.1), has.2), same)
-
-after_of : (xs : List Look) (x : Look) → Contains xs x → Contains (map after_in xs) x.after
-after_of [] x (i, low, at) = absurd (omega (arith, low))
-after_of (y ∷ xs) x (zero, low, at) = let same : y ≡ x = cc at in (0, omega arith, ap (λ (z : Look). z.after) same)
-after_of (y ∷ xs) x (suc i, low, at) = let has = after_of xs x (i, omega (arith, low), at) in (suc has.0, omega (arith, has.1), has.2)
-
 one_lease : (o : Option Lease) (a b : Lease) → o ≡ Some a → o ≡ Some b → a ≡ b
 one_lease o a b one other = cc (one, other)
 
 module _ (leases : List Lease) (xs : List Look) (looked : HaveLooked leases xs) where
   each : (P : MemberState → Type 0) → ((x : Look) → Contains xs x → P x.after) → (m : MemberState) → Contains (map after_in xs) m → P m
-  each P holds m has = let (x, there, same) = of_after xs m has in subst P (sym same) (holds x there)
+  each P holds m has = let (x, there, same) = has_mapped after_in xs m has in subst P (sym same) (holds x there)
 
   same_view : (x y : Look) (one : Contains xs x) (other : Contains xs y) → HasSameView x.after y.after
   same_view x y one other =
@@ -217,18 +208,18 @@ module _ (leases : List Lease) (xs : List Look) (looked : HaveLooked leases xs) 
       let a = looked.looks x one in
       let b = looked.looks y other in
       record {
-        replica = a.replica ∙ was.replica ∙ sym b.replica;
+        offset = ap (λ (r : ReplicaState). r.world.events) a.replica ∙ was.offset ∙ sym (ap (λ (r : ReplicaState). r.world.events) b.replica);
         epoch = epoch_then leases x.before x.after x.later x.sight a (looked.calm x one) (looked.sees x one) (looked.unstable x one) ∙ was.epoch
             ∙ sym (epoch_then leases y.before y.after y.later y.sight b (looked.calm y other) (looked.sees y other) (looked.unstable y other));
         coming = a.coming ∙ was.coming ∙ sym b.coming;
-        affected = a.affected ∙ was.affected ∙ sym b.affected;
+        affected = λ i. ap (λ (nodes : List ℕ). is_member nodes i) a.affected ∙ was.affected i ∙ sym (ap (λ (nodes : List ℕ). is_member nodes i) b.affected);
       }
 
   owner_of : (p : Lease) → Contains leases p → (n : MemberState) × Contains (map after_in xs) n × IsLeaseOf n p
   owner_of p has =
       let (x, there, same) = looked.owners p has in
       let own : (looked.looks x there).own ≡ p = one_lease (lease_of x.before.terms.node leases) (looked.looks x there).own p (looked.looks x there).there same in
-      (x.after, after_of xs x there, subst (IsLeaseOf x.after) own (lease_then leases x.before x.after x.later x.sight (looked.looks x there) (looked.calm x there) (looked.sees x there) (looked.unstable x there)))
+      (x.after, mapped_has after_in xs x there, subst (IsLeaseOf x.after) own (lease_then leases x.before x.after x.later x.sight (looked.looks x there) (looked.calm x there) (looked.sees x there) (looked.unstable x there)))
 
   leases_of : (x : Look) (there : Contains xs x) (p : Lease) → Contains x.after.leases p → (n : MemberState) × Contains (map after_in xs) n × IsLeaseOf n p
   leases_of x there p has = owner_of p (subst (λ (ls : List Lease). Contains ls p) (leases_then leases x.before x.after x.later x.sight (looked.looks x there) (looked.calm x there) (looked.sees x there) (looked.unstable x there)) has)

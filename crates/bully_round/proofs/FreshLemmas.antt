@@ -1,13 +1,12 @@
 -- Once it has read a snapshot, none is due.
-use Rattle.std.proofs.Common.{◌≡◌, ◌⊎◌, inl, inr, ◌&&◌, ◌||◌, ◌==◌, not, if◌then◌else◌, ℕ, suc, zero, Bool, true, false, List, [], ◌∷◌, Option, Some, None, Contains, fold, arith, refl, sym, ap, ◌∙◌}
+use Rattle.std.proofs.Common.{◌≡◌, ◌⊎◌, inl, inr, ◌&&◌, ◌||◌, ◌==◌, not, if◌then◌else◌, ℕ, suc, zero, Bool, true, false, List, [], ◌∷◌, Option, Some, Contains, fold, arith, refl, sym, ap, ◌∙◌}
 use Rattle.std.specs.List.{list_any}
 use Rattle.bully_base.proofs.NodeSetLemmas.{Contains-from, Has-from, with_node-members}
 use Rattle.bully_base.specs.NodeSet.{with_node}
 use Rattle.bully_member.specs.Due.{is_admitted_since, is_outdated}
 use Rattle.bully_member.specs.Member.{MemberState, admitted_among, is_admitted, is_down, lease_of, stay_left, with_admitted}
-use Rattle.bully_member.specs.Told.{found, own_by, own_by_promise, own_promise, with_arrivals}
+use Rattle.bully_member.specs.Told.{found, own_by, with_arrivals}
 use Rattle.bully_member.specs.declared.values.Lease.{Lease}
-use Rattle.bully_member.specs.declared.values.Promise.{Promise}
 use Rattle.bully_member.specs.declared.values.Request.{Request}
 use Rattle.bully_member.specs.declared.values.SessionId.{SessionId}
 use Rattle.bully_member.specs.declared.values.SessionState.{SessionState}
@@ -16,6 +15,7 @@ use Rattle.bully_rebalance.proofs.Preparing.{has_is_member, is_member_has}
 use Rattle.bully_rebalance.specs.Rebalancing.{is_member}
 use Rattle.bully_round.proofs.TurnLemmas.{by_fresh, look_is}
 use Rattle.bully_round.specs.Progress.{HasLooked, TakesTurn}
+use Rattle.bully_run.proofs.AnswerLemmas.{own_reported}
 
 -- Each lease that is admitted is that of a node of the group.
 
@@ -65,13 +65,7 @@ none_since m now leases u r coming affected = any_not (is_admitted_since (found 
 
 -- what the member finds of its own lease changes nothing of that
 same_since : (f : MemberState) (now : ℕ) (state : SessionState) (here : Option Lease) → list_any (is_admitted_since (own_by f state here) now) (own_by f state here).leases ≡ list_any (is_admitted_since f now) f.leases
-same_since f now SessionState.Absent here = refl
-same_since f now (SessionState.Unknown session) here = refl
-same_since f now (SessionState.Live session at) here = by_own (own_promise f session here)
-  where
-    by_own : (own : Option (Promise × Bool)) → list_any (is_admitted_since (own_by_promise f own) now) (own_by_promise f own).leases ≡ list_any (is_admitted_since f now) f.leases
-    by_own None = refl
-    by_own (Some own) = refl
+same_since f now state here = ap (λ (x : MemberState). list_any (is_admitted_since x now) x.leases) (own_reported f state here)
 
 neither : (a b : Bool) → a ≡ false → b ≡ false → a || b ≡ false
 neither true b one other = absurd (cc one)

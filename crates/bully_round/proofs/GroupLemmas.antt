@@ -5,19 +5,16 @@ use Rattle.std.proofs.lemmas.List.Recursion.{is_count_by}
 use Rattle.std.specs.Prelude.{count_by}
 use Rattle.std.specs.List.{list_all}
 use Rattle.bully_base.specs.declared.TheConstants.{NODES_MAX}
-use Rattle.bully_member.proofs.KeepLemmas.{sights_same}
-use Rattle.bully_member.specs.Activities.{any_stopping, busy, busy_from, works_at}
+use Rattle.bully_member.proofs.KeepLemmas.{left_all, sights_same}
+use Rattle.bully_member.specs.Activities.{busy}
 use Rattle.bully_member.specs.Due.{Sees, due, goes_on, goes_on_by, is_newcomer, last_table, token_now}
 use Rattle.bully_member.specs.Member.{MemberState, above, all_ready, has_promised, here, is_affected, is_ready, is_ready_itself, replica_of, same_promise}
 use Rattle.bully_member.specs.Times.{turn_left}
-use Rattle.bully_member.specs.declared.values.Activity.{Activity}
 use Rattle.bully_member.specs.declared.values.Lease.{Lease}
 use Rattle.bully_member.specs.declared.values.Promise.{Promise}
 use Rattle.bully_member.specs.declared.values.Sight.{Sight}
 use Rattle.bully_member.specs.declared.values.Step.{Step}
 use Rattle.bully_rebalance.specs.Leaving.{is_left}
-use Rattle.bully_rebalance.specs.Rebalancing.{is_member}
-use Rattle.bully_replica.specs.Replica.{ReplicaState}
 use Rattle.bully_round.proofs.DueLemmas.{rests_lem}
 use Rattle.bully_round.proofs.TurnLemmas.{is_true, table_if}
 use Rattle.bully_round.specs.Group.{HaveOneView, IsAtRest, IsLeaseOf}
@@ -43,19 +40,6 @@ ready_of false false may has old is = refl
 ready_of false true true true old is = refl
 ready_of false true true false old is = absurd (omega (arith, is))
 ready_of false true false has old is = absurd (omega (arith, is))
-
--- a test of all on which it works, if it was asked to stop nothing
-left_all : (works : List Activity) (from : ℕ) (test : ℕ → Bool) → ((d : ℕ) → works_at works d ≡ true → test (from + d) ≡ true) → any_stopping works ≡ false → list_all test (busy_from from works) ≡ true
-left_all [] from test all free = refl
-left_all (Activity.Idle ∷ works) from test all free = left_all works (suc from) test (λ d is. subst (λ k. test k ≡ true) (omega arith) (all (suc d) is)) free
-left_all (Activity.Working ∷ works) from test all free =
-    and_then (test from) (list_all test (busy_from (suc from) works)) (subst (λ k. test k ≡ true) (omega arith) (all 0 refl)) (left_all works (suc from) test (λ d is. subst (λ k. test k ≡ true) (omega arith) (all (suc d) is)) free)
-  where
-    and_then : (a b : Bool) → a ≡ true → b ≡ true → a && b ≡ true
-    and_then true true one other = refl
-    and_then true false one other = absurd (cc other)
-    and_then false b one other = absurd (cc one)
-left_all (Activity.Stopping ∷ works) from test all free = absurd (cc free)
 
 to_coming : (goes by : Bool) (last coming : Option (List ℕ)) (node k : ℕ) → is_left (table_if goes false by last coming) node k ≡ true → is_left coming node k ≡ true
 to_coming true by last coming node k left = left
@@ -86,11 +70,11 @@ ready_by false true promised left do_so = let (one, other) = do_so refl in both_
     both_true true false one other = absurd (cc other)
     both_true false b one other = absurd (cc one)
 
-has_of : (affected has : Bool) → not affected || has ≡ true → affected ≡ true → has ≡ true
+pub has_of : (affected has : Bool) → not affected || has ≡ true → affected ≡ true → has ≡ true
 has_of true has is affected = is
 has_of false has is affected = absurd (cc affected)
 
-two_of : (a b : Bool) → a && b ≡ true → (a ≡ true) × (b ≡ true)
+pub two_of : (a b : Bool) → a && b ≡ true → (a ≡ true) × (b ≡ true)
 two_of true true is = (refl, refl)
 two_of true false is = absurd (cc is)
 two_of false b is = absurd (cc is)
@@ -118,12 +102,12 @@ module _ (ms : List MemberState) (view : HaveOneView ms) (m : MemberState) (has 
       by_owner (n, one, of) = ready_by (p.node == m.terms.node) (is_affected m p.node) (same_promise p.promise (here m)) (list_all (is_left m.coming p.node) p.kept) (λ affected.
           let alike = view.alike m n has one in
           let rest = view.rest n one in
-          let too : is_affected n n.terms.node ≡ true = sym (ap (λ (nodes : List ℕ). is_member nodes p.node) alike.affected ∙ ap (is_member n.affected) of.node) ∙ affected in
+          let too : is_affected n n.terms.node ≡ true = sym (alike.affected p.node ∙ ap (is_affected n) of.node) ∙ affected in
           let promised : has_promised n ≡ true = has_of (is_affected n n.terms.node) (has_promised n) (ready_itself n rest.0 rest.1 (view.old n one)) too in
           let (same, exact) = two_of (same_promise n.own (here n)) n.is_exact promised in
           let at : same_promise p.promise (here m) ≡ same_promise n.own (here n) =
           ap (λ (x : Promise). same_promise x (here m)) of.promise ∙ ap (λ e. same_promise n.own (record { epoch = e; offset = (replica_of m).world.events })) alike.epoch
-          ∙ ap (λ (r : ReplicaState). same_promise n.own (record { epoch = n.terms.epoch; offset = r.world.events })) alike.replica in
+          ∙ ap (λ o. same_promise n.own (record { epoch = n.terms.epoch; offset = o })) alike.offset in
           let left : list_all (is_left m.coming p.node) p.kept ≡ list_all (is_left n.coming n.terms.node) (busy n.works) =
           ap (λ (t : Option (List ℕ)). list_all (is_left t p.node) p.kept) alike.coming ∙ ap (λ i. list_all (is_left n.coming i) p.kept) of.node ∙ ap (list_all (is_left n.coming n.terms.node)) (of.kept exact) in
           (at ∙ same, left ∙ is_left_all n rest.0 rest.1 (view.old n one)))
@@ -187,6 +171,27 @@ none_counted test (p ∷ ps) none = ap (λ b. cond b (1 + counted test ps) (coun
 is_counted : (test : Lease → Bool) (leases : List Lease) → counted test leases ≡ count_by test leases
 unfolding counted
 is_counted test leases = is_count_by (counted test) test refl (λ p ps. refl) leases
+
+some_counted : (test : Lease → Bool) (leases : List Lease) (p : Lease) → Contains leases p → test p ≡ true → 0 < counted test leases
+unfolding counted
+some_counted test [] p (i, low, at) passes = absurd (omega (arith, low))
+some_counted test (q ∷ qs) p (zero, low, at) passes =
+    let same : q ≡ p = cc at in
+    subst (λ b. 0 < cond b (1 + counted test qs) (counted test qs)) (sym (ap test same ∙ passes)) (omega arith)
+some_counted test (q ∷ qs) p (suc i, low, at) passes = by_test (test q) (some_counted test qs p (i, omega (arith, low), at) passes)
+  where
+    by_test : (b : Bool) → 0 < counted test qs → 0 < cond b (1 + counted test qs) (counted test qs)
+    by_test true some = omega arith
+    by_test false some = some
+
+pub some_above : (m : MemberState) (p : Lease) → Contains m.leases p → m.terms.node < p.node → 0 < above m
+some_above m p has higher =
+    let some : 0 < counted (λ (q : Lease). nat_lt m.terms.node q.node) m.leases = some_counted (λ (q : Lease). nat_lt m.terms.node q.node) m.leases p has (grind (arith, nat_tests, higher)) in
+    let same : counted (λ (q : Lease). nat_lt m.terms.node q.node) m.leases ≡ count_by (λ (q : Lease). nat_lt m.terms.node q.node) m.leases = is_counted (λ (q : Lease). nat_lt m.terms.node q.node) m.leases in
+    at_most _ (subst (λ n. 0 < n) same some)
+  where
+    at_most : (n : ℕ) → 0 < n → 0 < min n NODES_MAX
+    at_most n some = omega (arith, some)
 
 none_above : (m : MemberState) → ((p : Lease) → Contains m.leases p → p.node ≤ m.terms.node) → above m ≡ 0
 none_above m low = ap (λ k. min k NODES_MAX) (sym (is_counted (λ p. nat_lt m.terms.node p.node) m.leases) ∙ none_counted (λ p. nat_lt m.terms.node p.node) m.leases (λ p has. not_below m.terms.node p.node (low p has)))

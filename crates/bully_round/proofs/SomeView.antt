@@ -1,33 +1,49 @@
--- There are members of one view: two of an eager group, who have promised the end of an empty log.
-use Rattle.std.proofs.Common.{◌≡◌, ◌↔◌, ◌∷◌, [], ℕ, zero, suc, true, false, List, Some, None, Ok, Contains, length, arith, refl, ap, subst}
-use Rattle.bully_member.specs.Due.{Sees, is_newcomer, noted}
+-- There are members of one view: two of an eager group, who have promised the end of an empty log. To each a snapshot
+-- shows the other's promise.
+use Rattle.std.proofs.Common.{◌≡◌, ◌↔◌, ◌<◌, inl, inr, ◌∷◌, [], ℕ, zero, suc, true, false, List, Some, None, Ok, Contains, length, arith, refl, ap, subst}
+use Rattle.std.specs.List.{list_any}
+use Rattle.bully_member.specs.Due.{Sees, due, is_admitted_since, is_newcomer, noted}
 use Rattle.bully_member.specs.Learned.{after_learning}
 use Rattle.bully_member.specs.Member.{MemberState, lease_of, live_of, new_member, replica_of}
 use Rattle.bully_member.specs.Told.{snapshot_read, to_snapshot}
 use Rattle.bully_member.specs.declared.values.Arrival.{Arrival}
 use Rattle.bully_member.specs.declared.values.Lease.{Lease}
 use Rattle.bully_member.specs.declared.values.Request.{Request}
+use Rattle.bully_member.specs.declared.values.Sight.{Sight}
 use Rattle.bully_member.specs.declared.values.Step.{Step}
 use Rattle.bully_member.specs.declared.values.SessionState.{SessionState}
-use Rattle.bully_round.proofs.SomeTurns.{all_down, free_sight, header, idle, learned, lease, no_more, not_stable, session, terms}
-use Rattle.bully_round.specs.Group.{HasSameView, HaveLooked, HaveOneView, IsAtRest, IsLeaseOf, Look, LooksAgain}
-use Rattle.bully_round.specs.Progress.{IsCalm}
+use Rattle.bully_replica.proofs.RowReplicaLemmas.{follows_none}
+use Rattle.bully_round.proofs.SomeTurns.{all_down, free_sight, header, idle, learned, lease, not_stable, session, terms}
+use Rattle.bully_round.specs.Group.{HasSameView, HaveLooked, HaveOneView, IsAlert, IsAtRest, IsLeaseOf, Look, LooksAgain}
+use Rattle.bully_round.specs.Progress.{IsCalm, TakesTurn, changes_log}
 
 -- its session was seen now
-abbrev seen_at : ℕ → Arrival
+abbrev pub seen_at : ℕ → Arrival
 seen_at node = record { session = Some (session node); at = 1; stay = 10 }
 
-abbrev pub one : ℕ → MemberState
-one node = record (new_member header (terms node) node 1000) {
+-- their leases, before either has promised, and after both have
+abbrev first_leases : List Lease
+first_leases = lease 1 0 ∷ lease 2 0 ∷ []
+
+abbrev pub all_leases : List Lease
+all_leases = lease 1 1 ∷ lease 2 1 ∷ []
+
+abbrev knowing : List Lease → ℕ → MemberState
+knowing leases node = record (new_member header (terms node) node 1000) {
   session = SessionState.Live (session node) 0;
   tries = 1;
   own = record { epoch = 1; offset = 0 };
   is_exact = true;
-  leases = lease 1 1 ∷ lease 2 1 ∷ [];
+  leases = leases;
   arrivals = seen_at 1 ∷ seen_at 2 ∷ [];
   affected = 2 ∷ 1 ∷ [];
   needs_snapshot = false;
+  last_change = record { at = 1; offset = 0 };
+  is_asked_exact = true;
 }
+
+abbrev pub one : ℕ → MemberState
+one node = knowing all_leases node
 
 abbrev pub both : List MemberState
 both = one 1 ∷ one 2 ∷ []
@@ -37,56 +53,53 @@ each P first second m (zero, low, is) = let same : one 1 ≡ m = cc is in subst 
 each P first second m (suc zero, low, is) = let same : one 2 ≡ m = cc is in subst P same second
 each P first second m (suc (suc i), low, is) = absurd (omega (arith, low))
 
-sees : (node : ℕ) → Sees (one node) 1 free_sight
-sees node = record {
-  stable = ((λ is. absurd (cc is)), (λ stable. absurd (not_stable (one node) refl stable)));
-  down = ((λ is. all_down (replica_of (one node)) refl), (λ is. refl));
+sees : (leases : List Lease) (node : ℕ) → Sees (knowing leases node) 1 free_sight
+sees leases node = record {
+  stable = ((λ is. absurd (cc is)), (λ stable. absurd (not_stable (knowing leases node) refl stable)));
+  down = ((λ is. all_down (replica_of (knowing leases node)) refl), (λ is. refl));
   stays = ((λ is k busy. absurd (idle k busy)), (λ is. refl));
   all = ((λ is. tt), (λ is. refl));
 }
 
-calm : (node : ℕ) → IsCalm (one node) 1
-calm node = record { session = session node; since = 0; live = refl; early = refl; going = refl; within = refl; answered = refl; rested = refl; free = refl; quiet = refl; learned = learned; sized = λ p is. absurd (cc is) }
+calm : (leases : List Lease) (node : ℕ) → list_any (is_admitted_since (knowing leases node) 1) leases ≡ false → IsCalm (knowing leases node) 1
+calm leases node quiet = record { session = session node; since = 0; live = refl; early = refl; going = refl; within = refl; answered = refl; rested = refl; free = refl; quiet = quiet; learned = learned; sized = λ p is. absurd (cc is) }
 
-pub rests_one : IsAtRest (one 1) 1 false
-rests_one = record { sight = free_sight; calm = calm 1; sees = sees 1; stable = refl; none = refl }
+rests_one : IsAtRest (one 1) 1 false
+rests_one = record { sight = free_sight; calm = calm all_leases 1 refl; sees = sees all_leases 1; stable = refl; none = refl }
 
-pub rests_two : IsAtRest (one 2) 1 false
-rests_two = record { sight = free_sight; calm = calm 2; sees = sees 2; stable = refl; none = refl }
+rests_two : IsAtRest (one 2) 1 false
+rests_two = record { sight = free_sight; calm = calm all_leases 2 refl; sees = sees all_leases 2; stable = refl; none = refl }
 
-alike : (a b : ℕ) → HasSameView (one a) (one b)
-alike a b = record { replica = refl; epoch = refl; coming = refl; affected = refl }
+alike : (leases : List Lease) (a b : ℕ) → HasSameView (knowing leases a) (knowing leases b)
+alike leases a b = record { offset = refl; epoch = refl; coming = refl; affected = λ i. refl }
 
-owner : (m : MemberState) (p : Lease) → m.leases ≡ lease 1 1 ∷ lease 2 1 ∷ [] → Contains m.leases p → (n : MemberState) × Contains both n × IsLeaseOf n p
+owner : (m : MemberState) (p : Lease) → m.leases ≡ all_leases → Contains m.leases p → (n : MemberState) × Contains both n × IsLeaseOf n p
 owner m p known has = by_place p (subst (λ (xs : List Lease). Contains xs p) known has)
   where
-    by_place : (p : Lease) → Contains (lease 1 1 ∷ lease 2 1 ∷ []) p → (n : MemberState) × Contains both n × IsLeaseOf n p
+    by_place : (p : Lease) → Contains all_leases p → (n : MemberState) × Contains both n × IsLeaseOf n p
     by_place p (zero, low, is) = let same : lease 1 1 ≡ p = cc is in (one 1, (0, omega arith, refl), subst (IsLeaseOf (one 1)) same (record { node = refl; promise = refl; kept = λ exact. refl }))
     by_place p (suc zero, low, is) = let same : lease 2 1 ≡ p = cc is in (one 2, (1, omega arith, refl), subst (IsLeaseOf (one 2)) same (record { node = refl; promise = refl; kept = λ exact. refl }))
     by_place p (suc (suc i), low, is) = absurd (omega (arith, low))
 
-view : HaveOneView both
+pub view : HaveOneView both
 view = record {
   rest = each (λ m. (now : ℕ) × IsAtRest m now false) (1, rests_one) (1, rests_two);
   old = each (λ m. is_newcomer m ≡ false) refl refl;
-  alike = λ m n first second. each (λ m. HasSameView m n) (each (HasSameView (one 1)) (alike 1 1) (alike 1 2) n second) (each (HasSameView (one 2)) (alike 2 1) (alike 2 2) n second) m first;
-  leases = λ m p one_of there. owner m p (each (λ (x : MemberState). x.leases ≡ lease 1 1 ∷ lease 2 1 ∷ []) refl refl m one_of) there;
+  alike = λ m n first second. each (λ m. HasSameView m n) (each (HasSameView (one 1)) (alike all_leases 1 1) (alike all_leases 1 2) n second) (each (HasSameView (one 2)) (alike all_leases 2 1) (alike all_leases 2 2) n second) m first;
+  leases = λ m p one_of there. owner m p (each (λ (x : MemberState). x.leases ≡ all_leases) refl refl m one_of) there;
   known = each (λ m. m.has_unknown ≡ false) refl refl;
 }
 
 pub some_view_lem : (ms : List MemberState) × HaveOneView ms × (length ms ≡ 2)
 some_view_lem = (both, view, refl)
 
--- Each of them looks again, and sees the same.
+-- Each of them looks again, and sees the same. That shows it the other's promise.
 
-both_live : (i : ℕ) → Contains (2 ∷ 1 ∷ []) i ↔ Contains (live_of (lease 1 1 ∷ lease 2 1 ∷ [])) i
+pub both_live : (i : ℕ) → Contains (2 ∷ 1 ∷ []) i ↔ Contains (live_of all_leases) i
 both_live i = ((λ has. has), (λ has. has))
 
-abbrev all_leases : List Lease
-all_leases = lease 1 1 ∷ lease 2 1 ∷ []
-
 abbrev woken_one : MemberState
-woken_one = to_snapshot (one 1)
+woken_one = to_snapshot (knowing first_leases 1)
 
 abbrev mid_one : MemberState
 mid_one = noted woken_one 1 false (Step.Ask Request.Snapshot)
@@ -116,28 +129,34 @@ then_sees_one = record {
 then_calm_one : IsCalm again_one 1
 then_calm_one = record { session = session 1; since = 0; live = refl; early = refl; going = refl; within = refl; answered = refl; rested = refl; free = refl; quiet = refl; learned = learned; sized = λ p is. absurd (cc is) }
 
-looks_one : LooksAgain all_leases (one 1) again_one
-unfolding rests_one calm
+rests_first_one : IsAtRest (knowing first_leases 1) 1 false
+rests_first_one = record { sight = free_sight; calm = calm first_leases 1 refl; sees = sees first_leases 1; stable = refl; none = refl }
+
+turn_one : TakesTurn woken_one 1 1 (Step.Ask Request.Snapshot) again_one
+turn_one = record {
+  mid = mid_one;
+  goes = record { sight = free_sight; sees = sees_one; due = refl; noted = refl; keeps = tt; awaits = refl; stops = λ k busy. absurd (idle k busy) };
+  reported = record {
+    records = [];
+    taken = Ok tt;
+    behind = behind_one;
+    learns = record { left = []; follows = follows_none [] mid_one.learned; rest = refl };
+    leases = all_leases;
+    has_unknown = false;
+    has_request = false;
+    reads = refl;
+    foresees = record { falling = tt; live = (omega arith, omega arith, (omega arith, omega arith, tt)); comes = refl; affects = both_live };
+  };
+}
+
+looks_one : LooksAgain all_leases (knowing first_leases 1) again_one
+unfolding rests_first_one calm turn_one
 looks_one = record {
   before = 1;
-  rest = rests_one;
+  rest = rests_first_one;
   now = 1;
   at = 1;
-  turn = record {
-    mid = mid_one;
-    goes = record { sight = free_sight; sees = sees_one; due = refl; noted = refl; keeps = tt; awaits = refl; stops = λ k busy. absurd (idle k busy) };
-    reported = record {
-      records = [];
-      taken = Ok tt;
-      behind = behind_one;
-      learns = record { left = []; follows = no_more mid_one.learned; rest = refl };
-      leases = all_leases;
-      has_unknown = false;
-      has_request = false;
-      reads = refl;
-      foresees = record { falling = tt; live = (omega arith, omega arith, (omega arith, omega arith, tt)); comes = refl; affects = both_live };
-    };
-  };
+  turn = turn_one;
   seen = refl;
   replica = refl;
   group = refl;
@@ -149,11 +168,28 @@ looks_one = record {
   its = record { node = refl; promise = refl; kept = λ exact. refl };
 }
 
+alert_one : IsAlert all_leases again_one 1 free_sight
+unfolding turn_one
+alert_one = record {
+  before = woken_one;
+  asked = 1;
+  at = 1;
+  turn = turn_one;
+  seen = refl;
+  change = inr (inl refl);
+  own = lease 1 1;
+  there = (0, omega arith, refl);
+  its = refl;
+  calm = then_calm_one;
+  sees = then_sees_one;
+  soon = omega arith;
+}
+
 abbrev look_one : Look
-look_one = record { before = one 1; after = again_one; later = 1; sight = free_sight }
+look_one = record { before = knowing first_leases 1; after = again_one; later = 1; sight = free_sight }
 
 abbrev woken_two : MemberState
-woken_two = to_snapshot (one 2)
+woken_two = to_snapshot (knowing first_leases 2)
 
 abbrev mid_two : MemberState
 mid_two = noted woken_two 1 false (Step.Ask Request.Snapshot)
@@ -183,28 +219,34 @@ then_sees_two = record {
 then_calm_two : IsCalm again_two 1
 then_calm_two = record { session = session 2; since = 0; live = refl; early = refl; going = refl; within = refl; answered = refl; rested = refl; free = refl; quiet = refl; learned = learned; sized = λ p is. absurd (cc is) }
 
-looks_two : LooksAgain all_leases (one 2) again_two
-unfolding rests_two calm
+rests_first_two : IsAtRest (knowing first_leases 2) 1 false
+rests_first_two = record { sight = free_sight; calm = calm first_leases 2 refl; sees = sees first_leases 2; stable = refl; none = refl }
+
+turn_two : TakesTurn woken_two 1 1 (Step.Ask Request.Snapshot) again_two
+turn_two = record {
+  mid = mid_two;
+  goes = record { sight = free_sight; sees = sees_two; due = refl; noted = refl; keeps = tt; awaits = refl; stops = λ k busy. absurd (idle k busy) };
+  reported = record {
+    records = [];
+    taken = Ok tt;
+    behind = behind_two;
+    learns = record { left = []; follows = follows_none [] mid_two.learned; rest = refl };
+    leases = all_leases;
+    has_unknown = false;
+    has_request = false;
+    reads = refl;
+    foresees = record { falling = tt; live = (omega arith, omega arith, (omega arith, omega arith, tt)); comes = refl; affects = both_live };
+  };
+}
+
+looks_two : LooksAgain all_leases (knowing first_leases 2) again_two
+unfolding rests_first_two calm turn_two
 looks_two = record {
   before = 1;
-  rest = rests_two;
+  rest = rests_first_two;
   now = 1;
   at = 1;
-  turn = record {
-    mid = mid_two;
-    goes = record { sight = free_sight; sees = sees_two; due = refl; noted = refl; keeps = tt; awaits = refl; stops = λ k busy. absurd (idle k busy) };
-    reported = record {
-      records = [];
-      taken = Ok tt;
-      behind = behind_two;
-      learns = record { left = []; follows = no_more mid_two.learned; rest = refl };
-      leases = all_leases;
-      has_unknown = false;
-      has_request = false;
-      reads = refl;
-      foresees = record { falling = tt; live = (omega arith, omega arith, (omega arith, omega arith, tt)); comes = refl; affects = both_live };
-    };
-  };
+  turn = turn_two;
   seen = refl;
   replica = refl;
   group = refl;
@@ -216,8 +258,25 @@ looks_two = record {
   its = record { node = refl; promise = refl; kept = λ exact. refl };
 }
 
+alert_two : IsAlert all_leases again_two 1 free_sight
+unfolding turn_two
+alert_two = record {
+  before = woken_two;
+  asked = 1;
+  at = 1;
+  turn = turn_two;
+  seen = refl;
+  change = inr (inl refl);
+  own = lease 2 1;
+  there = (1, omega arith, refl);
+  its = refl;
+  calm = then_calm_two;
+  sees = then_sees_two;
+  soon = omega arith;
+}
+
 abbrev look_two : Look
-look_two = record { before = one 2; after = again_two; later = 1; sight = free_sight }
+look_two = record { before = knowing first_leases 2; after = again_two; later = 1; sight = free_sight }
 
 abbrev both_look : List Look
 both_look = look_one ∷ look_two ∷ []
@@ -233,7 +292,9 @@ looked = record {
   calm = each_look (λ x. IsCalm x.after x.later) then_calm_one then_calm_two;
   sees = each_look (λ x. Sees x.after x.later x.sight) then_sees_one then_sees_two;
   unstable = each_look (λ x. x.sight.is_stable ≡ false) refl refl;
-  alike = λ x y first second. each_look (λ a. HasSameView a.before y.before) (each_look (λ b. HasSameView (one 1) b.before) (alike 1 1) (alike 1 2) y second) (each_look (λ b. HasSameView (one 2) b.before) (alike 2 1) (alike 2 2) y second) x first;
+  alike = λ x y first second. each_look (λ a. HasSameView a.before y.before)
+      (each_look (λ b. HasSameView (knowing first_leases 1) b.before) (alike first_leases 1 1) (alike first_leases 1 2) y second)
+      (each_look (λ b. HasSameView (knowing first_leases 2) b.before) (alike first_leases 2 1) (alike first_leases 2 2) y second) x first;
   old = each_look (λ x. is_newcomer x.before ≡ false) refl refl;
   owners = owners;
   known = each_look (λ x. x.after.has_unknown ≡ false) refl refl;
@@ -246,3 +307,6 @@ looked = record {
 
 pub some_look_lem : (leases : List Lease) × (xs : List Look) × HaveLooked leases xs × (length xs ≡ 2)
 some_look_lem = (all_leases, both_look, looked, refl)
+
+pub some_alert_lem : (leases : List Lease) × (m n : MemberState) × (now : ℕ) × (s : Sight) × IsAlert leases m now s × IsAlert leases n now s × (m.terms.node < n.terms.node) × (changes_log (due n now s) ≡ true)
+some_alert_lem = (all_leases, again_one, again_two, 1, free_sight, alert_one, alert_two, omega arith, refl)

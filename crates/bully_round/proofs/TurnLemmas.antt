@@ -1,13 +1,14 @@
 -- A turn of a calm member.
-use Rattle.std.proofs.Common.{rules, ◌≡◌, ◌↔◌, ◌<◌, ◌≤◌, ◌+◌, ◌-◌, ◌/◌, ◌&&◌, ◌||◌, ◌==◌, ◌⊎◌, inl, inr, not, if◌then◌else◌, ℕ, zero, suc, Bool, true, false, List, [], ◌∷◌, Option, Some, None, nat_lt, length, arith, refl, sym, ap, subst, ◌∙◌}
+use Rattle.std.proofs.Common.{rules, ◌≡◌, ◌↔◌, ◌<◌, ◌≤◌, ◌+◌, ◌&&◌, ◌||◌, ◌==◌, ◌⊎◌, inl, inr, not, if◌then◌else◌, ℕ, zero, suc, Bool, true, false, List, [], ◌∷◌, Option, Some, None, nat_lt, length, arith, refl, sym, ap, subst, ◌∙◌}
 use Rattle.std.proofs.lemmas.Bool.Decides.{nat_tests}
 use Rattle.std.specs.Prelude.{IsTrue}
 use Rattle.std.specs.Option.{option_map, option_map_or}
 use Rattle.bully_agree.proofs.PlanLemmas.{token_within}
 use Rattle.bully_agree.specs.Fencing.{IsLast, Planned}
 use Rattle.bully_calls.specs.declared.event.Event.{Event}
-use Rattle.bully_member.proofs.KeepLemmas.{sights_same, twice}
-use Rattle.bully_member.specs.Activities.{begin_at, changed_from, end_at, ended_at, is_working, stop_at, works_at}
+use Rattle.bully_member.proofs.KeepLemmas.{sights_same, sure_before, twice}
+use Rattle.bully_member.proofs.SureLemmas.{stop_from}
+use Rattle.bully_member.specs.Activities.{begin_at, changed_from, end_at, ended_at, is_working, works_at}
 use Rattle.bully_member.specs.Due.{HasAllOf, Sees, admission_wait, begun, change_step, due, goes_on, goes_on_by, is_newcomer, is_none_of, last_table, noted, stable_step, table_ahead, table_by, token_now, turn_step, unstable_step}
 use Rattle.bully_member.specs.Member.{MemberState, SeesStable, above, admitted_among, all_ready, has_promised, is_affected, is_closing, is_ready_itself, lease_of, offset_of, replica_of}
 use Rattle.bully_member.specs.Times.{renewal_left, sure, turn_left}
@@ -57,9 +58,6 @@ unless_most false = omega arith
 
 -- It goes on as long as its work didn't end by itself.
 
-sure_before : (ttl now since : ℕ) → renewal_left (SessionState.Live (record { process = 0; number = 0 }) since) ttl now == 0 ≡ false → nat_lt (now - since) (ttl - ttl / 5) ≡ true
-sure_before ttl now since is = grind (arith, nat_tests, is)
-
 pub calm_sure : (m : MemberState) (now : ℕ) → IsCalm m now → sure m.session m.ttl now ≡ true
 calm_sure m now calm =
     let same : renewal_left m.session m.ttl now ≡ renewal_left (SessionState.Live calm.session calm.since) m.ttl now = ap (λ l. renewal_left l m.ttl now) calm.live in
@@ -89,10 +87,10 @@ left_last false by last coming node k left = absurd (cc left)
 
 -- Work that ends.
 
-record Ended (m after : MemberState) : Type 0 where
-  same : after ≡ record m { works = after.works; is_exact = after.is_exact; is_lost = after.is_lost; is_asked_exact = after.is_asked_exact }
-  fewer : (k : ℕ) → works_at after.works k ≡ true → works_at m.works k ≡ true
-  lost : m.is_lost ≡ false → after.is_lost ≡ false
+pub record Ended (m after : MemberState) : Type 0 where
+  pub same : after ≡ record m { works = after.works; is_exact = after.is_exact; is_lost = after.is_lost; is_asked_exact = after.is_asked_exact }
+  pub fewer : (k : ℕ) → works_at after.works k ≡ true → works_at m.works k ≡ true
+  pub lost : m.is_lost ≡ false → after.is_lost ≡ false
 
 ended_none : (works : List Activity) (j k : ℕ) → works_at (changed_from end_at j works) k ≡ true → ⊥
 ended_none [] j k is = absurd (cc is)
@@ -131,21 +129,9 @@ ended_both m mid after one more = record {
   lost = λ none. more.lost (one.lost none);
 }
 
-all_ended : (calls : List Call) (m after : MemberState) → AreEnds m calls after → Ended m after
+pub all_ended : (calls : List Call) (m after : MemberState) → AreEnds m calls after → Ended m after
 all_ended [] m after is = subst (Ended m) (sym is) (record { same = refl; fewer = λ k works. works; lost = λ none. none })
 all_ended (call ∷ calls) m after (mid, is, takes, more) = ended_both m mid after (one_ended m mid call is takes) (all_ended calls mid after more)
-
--- what isn't stopped is what the table leaves
-stop_from : (works : List Activity) (table : Option (List ℕ)) (node j k : ℕ) → works_at (changed_from (stop_at table node) j works) k ≡ true → is_left table node (j + k) ≡ true
-stop_from [] table node j k is = absurd (cc is)
-stop_from (Activity.Idle ∷ works) table node j zero is = absurd (cc is)
-stop_from (Activity.Working ∷ works) table node j zero is = subst (λ i. is_left table node i ≡ true) (omega arith) (by_left (is_left table node j) refl is)
-  where
-    by_left : (b : Bool) → is_left table node j ≡ b → is_working (if b then Activity.Working else Activity.Stopping) ≡ true → is_left table node j ≡ true
-    by_left true same is = same
-    by_left false same is = absurd (cc is)
-stop_from (Activity.Stopping ∷ works) table node j zero is = absurd (cc is)
-stop_from (a ∷ works) table node j (suc k) is = subst (λ i. is_left table node i ≡ true) (omega arith) (stop_from works table node (suc j) k is)
 
 -- A member whose work changed sees the same group.
 

@@ -1,10 +1,11 @@
 -- The members of a group who all have one view of the store, and what a rebalance makes of it.
-use Rattle.std.specs.Prelude.{◌≡◌, ◌≤◌, ◌+◌, ◌++◌, ℕ, Bool, true, false, List, [], ◌∷◌, Contains, Some, length, map}
+use Rattle.std.specs.Prelude.{◌≡◌, ◌<◌, ◌≤◌, ◌+◌, ◌-◌, ◌/◌, ◌++◌, ℕ, Bool, true, false, List, [], ◌∷◌, Contains}
+use Rattle.std.specs.Prelude.{Some, length, map}
 use Rattle.bully_base.specs.Setup.{IsNode}
 use Rattle.bully_calls.specs.declared.event.Event.{Event}
 use Rattle.bully_member.specs.Activities.{busy}
 use Rattle.bully_member.specs.Due.{Sees, is_newcomer}
-use Rattle.bully_member.specs.Member.{MemberState, is_closing, lease_of, offset_in, replica_of}
+use Rattle.bully_member.specs.Member.{MemberState, is_affected, is_closing, lease_of, offset_in, offset_of, replica_of}
 use Rattle.bully_member.specs.Rebalance.{rebalanced_nodes}
 use Rattle.bully_member.specs.Told.{to_snapshot}
 use Rattle.bully_member.specs.declared.values.Lease.{Lease}
@@ -13,7 +14,7 @@ use Rattle.bully_member.specs.declared.values.Sight.{Sight}
 use Rattle.bully_member.specs.declared.values.Step.{Step}
 use Rattle.bully_rebalance.specs.Rebalancing.{Rebalances, table_before}
 use Rattle.bully_replica.specs.Replica.{IsLogOf}
-use Rattle.bully_round.specs.Progress.{DoesTasks, IsCalm, TakesTurn, Turn, to_do}
+use Rattle.bully_round.specs.Progress.{DoesTasks, IsCalm, ShowsChange, TakesTurn, Turn, to_do}
 use Rattle.bully_table.specs.Planning.{planned}
 
 -- at this moment the member is calm, and has nothing left to do by itself, in a group that is stable for it or isn't
@@ -24,12 +25,12 @@ pub record IsAtRest (m : MemberState) (now : ℕ) (is_stable : Bool) : Type 0 wh
   pub stable : sight.is_stable ≡ is_stable
   pub none : to_do m sight ≡ 0
 
--- both have learned the same of one epoch, and foresee the same change
+-- both have learned as much of one epoch, and foresee the same change
 pub record HasSameView (m n : MemberState) : Type 0 where
-  pub replica : replica_of m ≡ replica_of n
+  pub offset : offset_of m ≡ offset_of n
   pub epoch : m.terms.epoch ≡ n.terms.epoch
   pub coming : m.coming ≡ n.coming
-  pub affected : m.affected ≡ n.affected
+  pub affected : (i : ℕ) → is_affected m i ≡ is_affected n i
 
 -- this is the lease of member n, as its last promise that was done left it
 pub record IsLeaseOf (n : MemberState) (p : Lease) : Type 0 where
@@ -155,3 +156,20 @@ pub record HaveLooked (leases : List Lease) (xs : List Look) : Type 0 where
   pub owners : (p : Lease) → Contains leases p
       → (x : Look) × Contains xs x × (lease_of x.before.terms.node leases ≡ Some p)
   pub known : (x : Look) → Contains xs x → x.after.has_unknown ≡ false
+
+-- Members that were shown a change.
+
+-- by this snapshot, in which its node has a lease; that was less than a fifth of the ttl ago
+pub record IsAlert (leases : List Lease) (m : MemberState) (now : ℕ) (s : Sight) : Type 0 where
+  pub before : MemberState
+  pub asked : ℕ
+  pub at : ℕ
+  pub turn : TakesTurn before asked at (Step.Ask Request.Snapshot) m
+  pub seen : turn.reported.leases ≡ leases
+  pub change : ShowsChange turn.reported.behind leases turn.reported.has_request
+  pub own : Lease
+  pub there : Contains leases own
+  pub its : own.node ≡ m.terms.node
+  pub calm : IsCalm m now
+  pub sees : Sees m now s
+  pub soon : now - at < m.ttl / 5

@@ -1,2 +1,3 @@
 pub mod Progress
 pub mod Group
+pub mod From

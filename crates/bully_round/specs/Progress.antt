@@ -1,5 +1,6 @@
 -- One member's progress: what it still has to do by itself until it waits or changes the log, and its turns.
-use Rattle.std.specs.Prelude.{◌≡◌, ◌≤◌, ◌+◌, ◌==◌, ◌&&◌, ◌||◌, not, if◌then◌else◌, ℕ, Bool, true, false, List, [], ◌∷◌}
+use Rattle.std.specs.Prelude.{◌≡◌, ◌≢◌, ◌⊎◌, ◌≤◌, ◌+◌, ◌==◌, ◌&&◌, ◌||◌, not, if◌then◌else◌, ℕ, Bool, true, false, List}
+use Rattle.std.specs.Prelude.{[], ◌∷◌}
 use Rattle.std.specs.Prelude.{Contains, Option, Some, None, Result, length, min, nat_lt}
 use Rattle.std.specs.List.{list_any}
 use Rattle.bully_agree.specs.Fencing.{Planned}
@@ -8,7 +9,7 @@ use Rattle.bully_member.specs.Due.{admission_wait, is_admitted_since, is_newcome
 use Rattle.bully_member.specs.Member.{MemberState, above, all_ready, has_promised, is_affected}
 use Rattle.bully_member.specs.Member.{is_closing, offset_of, replica_of}
 use Rattle.bully_member.specs.Times.{pause_left, renewal_left, turn_left}
-use Rattle.bully_member.specs.Told.{SeesIfFound}
+use Rattle.bully_member.specs.Told.{SeesIfFound, same_bool, same_leases}
 use Rattle.bully_member.specs.declared.values.Lease.{Lease}
 use Rattle.bully_member.specs.declared.values.Reason.{Reason}
 use Rattle.bully_member.specs.declared.values.Request.{Request}
@@ -79,6 +80,12 @@ is_task (Step.Ask Request.Snapshot) = true
 is_task (Step.Ask (Request.Promise session offset)) = true
 is_task _ = false
 
+-- the steps that change the log
+abbrev pub changes_log : Step → Bool
+changes_log (Step.Ask (Request.Append offset)) = true
+changes_log (Step.Ask (Request.RollOver offset)) = true
+changes_log _ = false
+
 -- the change of the log that is due: to roll the epoch over, or to rebalance the group
 abbrev pub change_of : MemberState → Step
 change_of m = if is_closing m then Step.Ask (Request.RollOver (offset_of m)) else Step.Ask (Request.Append (offset_of m))
@@ -117,6 +124,14 @@ pub record HasLooked (m : MemberState) (at : ℕ) (after : MemberState) : Type 0
   pub has_request : Bool
   pub reads : Takes behind (SnapshotRead at m.terms.epoch leases has_unknown has_request) after
   pub foresees : SeesIfFound after
+
+-- to a member that has learned all rows of a snapshot, that shows a change: more rows than at the last change before;
+-- other leases, or in an eager group other promises; or that other settings are requested, or no more
+abbrev pub ShowsChange : (behind : MemberState) → List Lease → (has_request : Bool) → Type 0
+ShowsChange behind leases has_request =
+    (offset_of behind ≢ behind.last_change.offset)
+    ⊎ (same_leases behind.terms.is_cooperative behind.leases leases ≡ false)
+    ⊎ (same_bool behind.has_request has_request ≡ false)
 
 -- requests are done, and what was to be stopped ends
 abbrev pub IsReported : MemberState → (at : ℕ) → Step → (after : MemberState) → Type 0

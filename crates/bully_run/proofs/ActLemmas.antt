@@ -11,10 +11,9 @@ use Rattle.bully_member.specs.Due.{begun, last_table, noted, stopping, table_ahe
 use Rattle.bully_member.specs.Keeping.{AcquiresAt, HasSession, IsNextSession, Keeps, PromisesAt}
 use Rattle.bully_member.specs.Learned.{followed, in_epoch, is_following}
 use Rattle.bully_member.specs.Member.{MemberState, admitted_among, new_member, offset_of, replica_of}
-use Rattle.bully_member.specs.Told.{awaits_snapshot, found, found_here, to_pause, own_by, own_by_promise, own_promise, snapshot_read, with_arrivals}
+use Rattle.bully_member.specs.Told.{awaits_snapshot, found, found_here, to_pause, snapshot_read, with_arrivals}
 use Rattle.bully_member.specs.declared.opening.Terms.{Terms}
 use Rattle.bully_member.specs.declared.values.Lease.{Lease}
-use Rattle.bully_member.specs.declared.values.Promise.{Promise}
 use Rattle.bully_member.specs.declared.values.Request.{Request}
 use Rattle.bully_member.specs.declared.values.SessionId.{SessionId}
 use Rattle.bully_member.specs.declared.values.SessionState.{SessionState}
@@ -25,6 +24,7 @@ use Rattle.bully_rebalance.specs.Owning.{OwnsBy, owned_by, token_in}
 use Rattle.bully_rebalance.specs.declared.holding.Owned.{Owned}
 use Rattle.bully_replica.specs.Replica.{first_replica}
 use Rattle.bully_rows.specs.declared.header.Header.{Header}
+use Rattle.bully_run.proofs.AnswerLemmas.{own_reported}
 use Rattle.bully_run.proofs.BusyLemmas.{begun_busy, busy_at, busy_contains, idle_works, stopping_busy, working_busy}
 use Rattle.bully_run.proofs.CallLemmas.{IsOwnRequest, IsOwnSession, nothing_learned, own_session}
 use Rattle.bully_run.proofs.FrameLemmas.{HadNone, IsPlaced, Leads, id_by, leads_grows, leads_more, leads_none, leads_one, no_session, placed, written}
@@ -58,16 +58,6 @@ zero_or (suc e) offset = inl (omega arith)
 
 first_learns : (s : Store) (i n e offset : ℕ) → s.sessions i n ≡ no_session → MayLearn s i n e offset
 first_learns s i n e offset fresh = subst (λ (x : Session). (x.epoch < e) ⊎ ((x.epoch ≡ e) × (x.learned ≤ offset))) (sym fresh) (zero_or e offset)
-
--- its process stays the same
-own_process : (m : MemberState) (state : SessionState) (here : Option Lease) → (own_by m state here).process ≡ m.process
-own_process m SessionState.Absent here = refl
-own_process m (SessionState.Unknown session) here = refl
-own_process m (SessionState.Live session at) here = by_own (own_promise m session here)
-  where
-    by_own : (own : Option (Promise × Bool)) → (own_by_promise m own).process ≡ m.process
-    by_own None = refl
-    by_own (Some own) = refl
 
 -- A process starts.
 
@@ -114,7 +104,7 @@ module _ (s : Store) (i : ℕ) (m : MemberState) (linked : Linked s i m) where
   snapshot_by now epoch leases has_unknown has_request coming affected true false awaits same whole =
       ran_none s i m.process (record m { is_past = true; asked = None }) refl (passed_linked s i m linked)
   snapshot_by now epoch leases has_unknown has_request coming affected true true awaits same whole = record {
-    same = own_process (found (with_arrivals m now leases) now leases has_unknown has_request (admitted_among (with_arrivals m now leases) now leases) coming affected) m.session _;
+    same = ap (λ (x : MemberState). x.process) (own_reported (found (with_arrivals m now leases) now leases has_unknown has_request (admitted_among (with_arrivals m now leases) now leases) coming affected) m.session _);
     number = m.tries;
     low = low_tries s i m linked;
     acts = Learn i (id_by m.process m.tries) m.terms.epoch (offset_of m) ∷ [];

@@ -1,7 +1,7 @@
 -- What a member knows of its promises stays so, whatever call comes.
 use Rattle.std.proofs.Common.{◌||◌, ◌≡◌, ◌≤◌, ◌<◌, ◌+◌, ◌-◌, ◌^◌, ◌==◌, ◌&&◌, ◌++◌, ◌∷◌, [], ℕ, Bool, true, false, not, List, Option, Some, None, if◌then◌else◌, nat_lt, nat_le, min, Contains, length, arith, refl, sym, ap, subst, ◌∙◌, ◌⊎◌, inl, inr, length-append, Result}
 use Rattle.std.proofs.lemmas.Bool.Decides.{nat_tests}
-use Rattle.std.proofs.lemmas.List.Elements.{Contains-push_cases}
+use Rattle.std.proofs.lemmas.List.Elements.{Contains-push, Contains-push_cases}
 use Rattle.std.specs.Option.{option_map}
 use Rattle.bully_agree.specs.Fencing.{Planned}
 use Rattle.bully_member.specs.Asking.{promise_of}
@@ -11,12 +11,11 @@ use Rattle.bully_member.specs.Learned.{after_learning, followed, in_epoch, is_fo
 use Rattle.bully_member.specs.Activities.{all_idle}
 use Rattle.bully_member.specs.Member.{MemberState, new_member, replica_of}
 use Rattle.bully_member.specs.Times.{sure}
-use Rattle.bully_member.specs.Told.{acquired_by, answered, answered_by, awaits_snapshot, end_for, lost, own_by, own_by_promise, own_promise, renewed_by, snapshot_read, when_acquired, when_answered, when_renewed}
+use Rattle.bully_member.specs.Told.{answered, awaits_snapshot, end_for, lost, own_by, snapshot_read}
 use Rattle.bully_member.specs.declared.opening.Terms.{Terms}
 use Rattle.bully_member.specs.declared.values.Asked.{Asked}
 use Rattle.bully_member.specs.declared.values.Ending.{Ending}
 use Rattle.bully_member.specs.declared.values.Lease.{Lease}
-use Rattle.bully_member.specs.declared.values.Promise.{Promise}
 use Rattle.bully_member.specs.declared.values.Request.{Request}
 use Rattle.bully_member.specs.declared.values.SessionId.{SessionId}
 use Rattle.bully_member.specs.declared.values.SessionState.{SessionState}
@@ -30,7 +29,8 @@ use Rattle.bully_replica.specs.declared.row_replica.LearnFault.{LearnFault}
 use Rattle.bully_rows.specs.Headers.{Record}
 use Rattle.bully_rows.specs.declared.header.Header.{Header}
 use Rattle.bully_rows.specs.declared.trace.Row.{Row}
-use Rattle.bully_run.specs.Calls.{Call, Next, Answered, Learn, SnapshotRead, SnapshotLost, Followed, NotThere, Passed, Woke, Leave, Broken, Lost, Stopped, StoppedOn, GoesNext, GoesOnLearning, HasLived, IsBehind, IsSameTime, Lives, Made, NumbersLast, Takes, made_by, made_in, session_now, with_made}
+use Rattle.bully_run.proofs.AnswerLemmas.{Awaited, Counts, IsTold, answered_told, if_is, own_told}
+use Rattle.bully_run.specs.Calls.{Call, Next, Answered, Learn, SnapshotRead, SnapshotLost, Followed, NotThere, Passed, Woke, Leave, Broken, Lost, Stopped, StoppedOn, GoesNext, GoesOnLearning, HasLived, IsBehind, IsMadeFor, IsSameTime, Lives, Made, NumbersLast, Takes, made_by, made_in, session_now, with_made}
 use Rattle.bully_trace.specs.Verdict.{IsJudged, events_of}
 use Rattle.bully_trace.proofs.JudgeLemmas.{events-append}
 use Rattle.bully_work.specs.Store.{Promised, nothing_in}
@@ -41,8 +41,7 @@ use Rattle.bully_world.specs.World.{World}
 
 -- if it has its lease, then by this session
 abbrev pub IsOwnSession : SessionId → SessionState → Type 0
-IsOwnSession own (SessionState.Live session since) = session ≡ own
-IsOwnSession own state = Unit {0}
+IsOwnSession own state = Counts (λ session since. session ≡ own) state
 
 -- if it asks for a lease, a renewal or a promise, then for this session
 abbrev pub IsOwnRequest : SessionId → Request → Type 0
@@ -52,8 +51,17 @@ IsOwnRequest own (Request.Promise session offset) = session ≡ own
 IsOwnRequest own request = Unit {0}
 
 abbrev pub AsksOwn : SessionId → Option Asked → Type 0
-AsksOwn own None = Unit {0}
-AsksOwn own (Some asked) = IsOwnRequest own asked.request
+AsksOwn own asked = Awaited (λ request at. IsOwnRequest own request) asked
+
+-- by an answer, and by what a snapshot shows of its lease
+abbrev pub IsOwnTold : SessionId → (m after : MemberState) → Type 0
+IsOwnTold own m after = IsTold (λ session since. session ≡ own) (λ request at. IsOwnRequest own request) m after
+
+pub answered_own : (own : SessionId) (m : MemberState) (now : ℕ) (answer : StoreAnswer) → IsOwnSession own m.session → AsksOwn own m.asked → IsOwnTold own m (answered m now answer)
+answered_own own m now answer = answered_told (λ session since. session ≡ own) (λ request at. IsOwnRequest own request) (λ session offset at is. is) (λ session at is. is) m now answer
+
+pub shown_own : (own : SessionId) (m : MemberState) (state : SessionState) (here : Option Lease) → IsOwnSession own m.session → AsksOwn own m.asked → IsOwnTold own m (own_by m state here)
+shown_own own m state here = own_told (λ session since. session ≡ own) (λ request at. IsOwnRequest own request) (λ session offset at is. is) (λ session at is. is) m state here
 
 abbrev pub session_by : (process tries : ℕ) → SessionId
 session_by process tries = record { process = process; number = tries }
@@ -70,6 +78,7 @@ pub record Sounds (since least : ℕ) (r : ReplicaState) (epoch promised process
   pub tops : tries ≤ 2 ^ 64 - 1
   pub reached : tries < 2 ^ 64 - 1 → (p : Made) → Contains made p → p.session ≡ session_by process tries
       → IsReachedBy p.promised epoch promised
+  pub only : (promised ≡ 0) ⊎ ((p : Made) × Contains made p × IsMadeFor (session_by process tries) epoch promised p)
   pub rises : epoch ≡ since → least ≤ promised
   pub later : since ≤ epoch
 
@@ -90,6 +99,7 @@ changes since least r epoch promised process tries session next asked more made 
   numbered = sound.numbered;
   tops = sound.tops;
   reached = sound.reached;
+  only = sound.only;
   rises = sound.rises;
   later = sound.later;
 }
@@ -121,6 +131,7 @@ starts_sound header terms process ttl = record {
   numbered = λ p has. absurd (none_in p has);
   tops = omega arith;
   reached = λ last p has same. absurd (none_in p has);
+  only = inl refl;
   rises = λ same. omega arith;
   later = omega arith;
 }
@@ -139,6 +150,7 @@ from_now since least m made sound = record {
   numbered = sound.numbered;
   tops = sound.tops;
   reached = sound.reached;
+  only = sound.only;
   rises = λ same. omega arith;
   later = omega arith;
 }
@@ -162,90 +174,39 @@ module _ (since least : ℕ) (made : List Made) where
   abbrev own_of : MemberState → SessionId
   own_of m = session_by m.process m.tries
 
-  if_sound : (b : Bool) (x y : MemberState) → Is x → Is y → Is (if b then x else y)
-  if_sound true x y x_is y_is = x_is
-  if_sound false x y x_is y_is = y_is
-
   -- only its session and its request change, as far as this is concerned
   with_parts : (m : MemberState) → Is m → (next : SessionState) (more : Option Asked) → IsOwnSession (own_of m) next → AsksOwn (own_of m) more
       → Sounds since least (replica_of m) m.terms.epoch m.promised m.process m.tries next more made
   with_parts m sound next more own asks = changes since least (replica_of m) m.terms.epoch m.promised m.process m.tries m.session next m.asked more made sound own asks
 
-  -- Answers.
+  -- Answers and snapshots.
 
-  acquired_sound : (m : MemberState) (now : ℕ) (answer : StoreAnswer) (session : SessionId) (offset at : ℕ) → Is m → session ≡ own_of m → Is (when_acquired m now answer session offset at)
-  acquired_sound m now StoreAnswer.Done session offset at sound own = with_parts m sound (SessionState.Live session at) m.asked own sound.asks
-  acquired_sound m now StoreAnswer.Refused session offset at sound own = sound
-  acquired_sound m now StoreAnswer.Unanswered session offset at sound own = with_parts m sound (SessionState.Unknown session) m.asked tt sound.asks
-
-  renewed_sound : (m : MemberState) (now : ℕ) (answer : StoreAnswer) (session : SessionId) (at : ℕ) → Is m → session ≡ own_of m → Is (when_renewed m now answer session at)
-  renewed_sound m now StoreAnswer.Done session at sound own = with_parts m sound (SessionState.Live session at) m.asked own sound.asks
-  renewed_sound m now StoreAnswer.Refused session at sound own = with_parts m sound SessionState.Absent m.asked tt sound.asks
-  renewed_sound m now StoreAnswer.Unanswered session at sound own = sound
-
-  acquired_if : (state : SessionState) (m after : MemberState) → Is m → Is after → Is (acquired_by state m after)
-  acquired_if SessionState.Absent m after is becomes = becomes
-  acquired_if (SessionState.Unknown session) m after is becomes = is
-  acquired_if (SessionState.Live session at) m after is becomes = is
-
-  renewed_if : (state : SessionState) (m after : MemberState) → Is m → Is after → Is (renewed_by state m after)
-  renewed_if SessionState.Absent m after is becomes = is
-  renewed_if (SessionState.Unknown session) m after is becomes = is
-  renewed_if (SessionState.Live session at) m after is becomes = becomes
-
-  when_sound : (m : MemberState) (now : ℕ) (answer : StoreAnswer) (request : Request) (at : ℕ) → Is m → IsOwnRequest (own_of m) request → Is (when_answered m now answer request at)
-  when_sound m now answer (Request.Acquire session offset) at sound own = acquired_if m.session m _ sound (acquired_sound m now answer session offset at sound own)
-  when_sound m now answer (Request.Renew session) at sound own = renewed_if m.session m _ sound (renewed_sound m now answer session at sound own)
-  when_sound m now StoreAnswer.Done (Request.Release session) at sound own = with_parts m sound SessionState.Absent m.asked tt sound.asks
-  when_sound m now StoreAnswer.Refused (Request.Release session) at sound own = with_parts m sound SessionState.Absent m.asked tt sound.asks
-  when_sound m now StoreAnswer.Unanswered (Request.Release session) at sound own = with_parts m sound SessionState.Absent m.asked tt sound.asks
-  when_sound m now answer Request.Snapshot at sound own = sound
-  when_sound m now StoreAnswer.Done (Request.Promise session offset) at sound own = sound
-  when_sound m now StoreAnswer.Refused (Request.Promise session offset) at sound own = sound
-  when_sound m now StoreAnswer.Unanswered (Request.Promise session offset) at sound own = sound
-  when_sound m now StoreAnswer.Done (Request.Append offset) at sound own = sound
-  when_sound m now StoreAnswer.Refused (Request.Append offset) at sound own = sound
-  when_sound m now StoreAnswer.Unanswered (Request.Append offset) at sound own = sound
-  when_sound m now StoreAnswer.Done (Request.RollOver offset) at sound own = sound
-  when_sound m now StoreAnswer.Refused (Request.RollOver offset) at sound own = sound
-  when_sound m now StoreAnswer.Unanswered (Request.RollOver offset) at sound own = sound
-  when_sound m now answer Request.Follow at sound own = sound
-
-  answered_by_sound : (m : MemberState) (now : ℕ) (answer : StoreAnswer) (asked : Option Asked) → Is m → AsksOwn (own_of m) asked → Is (answered_by m now answer asked)
-  answered_by_sound m now answer None sound own = sound
-  answered_by_sound m now answer (Some asked) sound own = when_sound (record m { asked = None }) now answer asked.request asked.at (with_parts m sound m.session None sound.own tt) own
+  told_sound : (m after : MemberState) → Is m → IsOwnTold (own_of m) m after → Is after
+  told_sound m after sound told = subst Is (sym told.0) (with_parts m sound after.session after.asked told.2 told.3)
 
   pub answered_sound : (m : MemberState) (now : ℕ) (answer : StoreAnswer) → Is m → Is (answered m now answer)
-  answered_sound m now answer sound = answered_by_sound m now answer m.asked sound sound.asks
-
-  -- Snapshots.
-
-  own_by_sound : (m : MemberState) (own : Option (Promise × Bool)) → Is m → Is (own_by_promise m own)
-  own_by_sound m None sound = with_parts m sound SessionState.Absent m.asked tt sound.asks
-  own_by_sound m (Some own) sound = sound
+  answered_sound m now answer sound = told_sound m (answered m now answer) sound (answered_own (own_of m) m now answer sound.own sound.asks)
 
   own_sound : (m : MemberState) (state : SessionState) (here : Option Lease) → Is m → Is (own_by m state here)
-  own_sound m SessionState.Absent here sound = sound
-  own_sound m (SessionState.Unknown session) here sound = sound
-  own_sound m (SessionState.Live session at) here sound = own_by_sound m (own_promise m session here) sound
+  own_sound m state here sound = told_sound m (own_by m state here) sound (shown_own (own_of m) m state here sound.own sound.asks)
 
   pub snapshot_sound : (m : MemberState) (now epoch : ℕ) (leases : List Lease) (has_unknown has_request : Bool) (coming : Option (List ℕ)) (affected : List ℕ) → Is m
       → Is (snapshot_read m now epoch leases has_unknown has_request coming affected)
   snapshot_sound m now epoch leases has_unknown has_request coming affected sound =
-      if_sound (not (awaits_snapshot m.asked)) _ _ sound (if_sound (not (epoch == m.terms.epoch)) _ _ asks_nothing (own_sound _ m.session _ asks_nothing))
+      if_is Is (not (awaits_snapshot m.asked)) _ _ sound (if_is Is (not (epoch == m.terms.epoch)) _ _ asks_nothing (own_sound _ m.session _ asks_nothing))
     where
       asks_nothing : Sounds since least (replica_of m) m.terms.epoch m.promised m.process m.tries m.session None made
       asks_nothing = with_parts m sound m.session None sound.own tt
 
   pub lost_sound : (m : MemberState) (token : ℕ) → Is m → Is (lost m token)
-  lost_sound m token sound = if_sound _ _ _ sound sound
+  lost_sound m token sound = if_is Is _ _ _ sound sound
 
   end_sound : (m : MemberState) (why : Ending) (ending : Option Ending) → Is m → Is (end_for m why ending)
   end_sound m why None sound = sound
   end_sound m why (Some ending) sound = sound
 
   pub not_there_sound : (m : MemberState) → Is m → Is (not_there m)
-  not_there_sound m sound = if_sound (is_following m.asked) _ _ (end_sound _ Ending.NotThere m.ending (with_parts m sound m.session None sound.own tt)) sound
+  not_there_sound m sound = if_is Is (is_following m.asked) _ _ (end_sound _ Ending.NotThere m.ending (with_parts m sound m.session None sound.own tt)) sound
 
   -- A new epoch.
 
@@ -258,7 +219,7 @@ module _ (since least : ℕ) (made : List Made) where
   neither false b is = refl
 
   pub followed_sound : (m : MemberState) (now : ℕ) (header : Header) (terms : Terms) → Is m → Is (followed m now header terms)
-  followed_sound m now header terms sound = if_sound (not (is_following m.asked)) _ _ sound (if_epoch _ _ _ (λ stays. with_parts m sound m.session None sound.own tt) (λ goes. goes_on (later goes)))
+  followed_sound m now header terms sound = if_is Is (not (is_following m.asked)) _ _ sound (if_epoch _ _ _ (λ stays. with_parts m sound m.session None sound.own tt) (λ goes. goes_on (later goes)))
     where
       later : nat_le terms.epoch m.terms.epoch || not (all_idle m.works) ≡ false → m.terms.epoch < terms.epoch
       later goes = by_test (nat_le terms.epoch m.terms.epoch) (not (all_idle m.works)) refl goes
@@ -277,6 +238,7 @@ module _ (since least : ℕ) (made : List Made) where
         numbered = sound.numbered;
         tops = sound.tops;
         reached = λ last p has same. inl (below (p.promised) (sound.reached last p has same));
+        only = inl refl;
         rises = λ same. let old = sound.later in absurd (omega (arith, same, old, low));
         later = let old = sound.later in omega (arith, old, low);
       }
@@ -309,6 +271,7 @@ module _ (since least : ℕ) (made : List Made) where
         numbered = sound.numbered;
         tops = sound.tops;
         reached = sound.reached;
+        only = sound.only;
         rises = sound.rises;
         later = sound.later;
       }
@@ -345,6 +308,7 @@ module _ (since least : ℕ) (made : List Made) (m : MemberState) (now : ℕ) (s
     numbered = λ p is. numbered p (Contains-push_cases made new p is);
     tops = sound.tops;
     reached = λ last p is same. reached last p same (Contains-push_cases made new p is);
+    only = inr (new, Contains-push made new, record { own = own_is session has; within = refl; end = refl });
     rises = λ same. let end = promises.end in let low = sound.within in let old = sound.rises same in omega (arith, end, low, old);
     later = sound.later;
   }
@@ -375,6 +339,7 @@ module _ (since least : ℕ) (made : List Made) (m : MemberState) (now : ℕ) (s
     numbered = λ p is. numbered p (Contains-push_cases made new p is);
     tops = let top = sound.tops in omega (arith, number, top);
     reached = λ last p is same. reached last p same (Contains-push_cases made new p is);
+    only = inr (new, Contains-push made new, record { own = next ∙ ap (session_by m.process) (sym number); within = refl; end = refl });
     rises = λ same. let end = acquires.end in let low = sound.within in let old = sound.rises same in omega (arith, end, low, old);
     later = sound.later;
   }
@@ -466,6 +431,9 @@ behind_token true last i promised token is = by_test (nat_lt promised (token_of 
 
 pub kept_lem : (calls : List Call) (m : MemberState) (made : List Made) (p : Made) → HasLived calls m made → NumbersLast m → Contains made p → p.session ≡ session_now m → IsReachedBy p.promised m.terms.epoch m.promised
 kept_lem calls m made p lived last has same = (lived_sound calls m made lived).reached last p has same
+
+pub only_lem : (calls : List Call) (m : MemberState) (made : List Made) → HasLived calls m made → (m.promised ≡ 0) ⊎ ((p : Made) × Contains made p × IsMadeFor (session_now m) m.terms.epoch m.promised p)
+only_lem calls m made lived = (lived_sound calls m made lived).only
 
 pub begins_lem : (calls : List Call) (m after : MemberState) (made : List Made) (p : Made) (now token : ℕ) → HasLived calls m made → NumbersLast m → GoesNext m now (Step.Begin token) after → Contains made p → p.session ≡ session_now m
     → IsBehind p.promised m.terms.epoch token

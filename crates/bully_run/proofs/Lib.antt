@@ -1,4 +1,6 @@
+pub mod AnswerLemmas
 pub mod CallLemmas
+pub mod LeaseLemmas
 pub mod BusyLemmas
 pub mod SeenLemmas
 pub mod FrameLemmas
@@ -6,5 +8,4 @@ pub mod LinkLemmas
 pub mod ActLemmas
 pub mod RunLemmas
 pub mod BeginLemmas
-pub mod SightLemmas
 pub mod SomeRun

@@ -1,17 +1,15 @@
 -- A member knows its session, whatever call comes: each is acts of the model.
-use Rattle.std.proofs.Common.{◌≡◌, ◌≤◌, ◌<◌, ◌+◌, ◌-◌, ◌^◌, ◌++◌, ℕ, Bool, true, false, List, Option, Some, None, if◌then◌else◌, Contains, length, take, arith, sym, ap, subst, ◌∙◌, Result, drop, length-append, length-drop}
+use Rattle.std.proofs.Common.{◌≡◌, ◌≤◌, ◌<◌, ◌+◌, ◌-◌, ◌^◌, ◌++◌, ℕ, Bool, true, false, List, Option, Some, None, Contains, length, take, arith, sym, ap, subst, ◌∙◌, Result, drop, length-append, length-drop}
 use Rattle.std.proofs.Math.Seq.{take-add}
 use Rattle.std.proofs.lemmas.List.{length-take}
 use Rattle.bully_calls.specs.declared.event.Event.{Event}
 use Rattle.bully_member.specs.Learned.{is_following, not_there}
 use Rattle.bully_member.specs.Member.{MemberState, offset_of, replica_of}
-use Rattle.bully_member.specs.Told.{acquired_by, answered, answered_by, end_for, lost, own_by, own_by_promise, own_promise, renewed_by, snapshot_lost, stopped, stopped_on, when_acquired, when_answered, when_renewed}
+use Rattle.bully_member.specs.Told.{answered, end_for, lost, own_by, snapshot_lost, stopped, stopped_on}
 use Rattle.bully_member.specs.declared.values.Activity.{Activity}
 use Rattle.bully_member.specs.declared.values.Asked.{Asked}
 use Rattle.bully_member.specs.declared.values.Ending.{Ending}
 use Rattle.bully_member.specs.declared.values.Lease.{Lease}
-use Rattle.bully_member.specs.declared.values.Promise.{Promise}
-use Rattle.bully_member.specs.declared.values.Request.{Request}
 use Rattle.bully_member.specs.declared.values.SessionId.{SessionId}
 use Rattle.bully_member.specs.declared.values.SessionState.{SessionState}
 use Rattle.bully_member.specs.declared.values.StoreAnswer.{StoreAnswer}
@@ -22,8 +20,9 @@ use Rattle.bully_rows.specs.Headers.{Record}
 use Rattle.bully_rows.specs.declared.trace.Row.{Row}
 use Rattle.bully_trace.proofs.JudgeLemmas.{events-append}
 use Rattle.bully_trace.specs.Verdict.{events_of}
+use Rattle.bully_run.proofs.AnswerLemmas.{if_is}
 use Rattle.bully_run.proofs.BusyLemmas.{busy_at, ended_busy}
-use Rattle.bully_run.proofs.CallLemmas.{AsksOwn, IsOwnRequest, IsOwnSession}
+use Rattle.bully_run.proofs.CallLemmas.{AsksOwn, IsOwnSession, IsOwnTold, answered_own, shown_own}
 use Rattle.bully_run.proofs.FrameLemmas.{Grows, IsPlaced, Leads, id_by, leads_grows, no_session, placed}
 use Rattle.bully_run.specs.Calls.{GoesOnLearning}
 use Rattle.bully_run.specs.Run.{HasEnded, HasEndedOn, AreRowsOf, session_by}
@@ -126,10 +125,6 @@ module _ (s : Store) (i : ℕ) where
   abbrev own_of : MemberState → SessionId
   own_of m = session_by m.process m.tries
 
-  if_linked : (b : Bool) (x y : MemberState) → Is x → Is y → Is (if b then x else y)
-  if_linked true x y x_is y_is = x_is
-  if_linked false x y x_is y_is = y_is
-
   with_parts : (m : MemberState) → Is m → (next : SessionState) (more : Option Asked) (needs : Bool) → IsOwnSession (own_of m) next → AsksOwn (own_of m) more → (needs ≡ false → m.needs_snapshot ≡ false)
       → Links s i m.process (replica_of m) m.terms.epoch m.terms.node m.promised m.tries next more needs m.works
   with_parts m linked next more needs own asks seen = relink s i m.process (replica_of m) m.terms.epoch m.terms.node m.promised m.tries m.session next m.asked more m.needs_snapshot needs m.works linked own asks seen
@@ -141,78 +136,30 @@ module _ (s : Store) (i : ℕ) where
   pub due_again : (m : MemberState) → Is m → Links s i m.process (replica_of m) m.terms.epoch m.terms.node m.promised m.tries m.session m.asked true m.works
   due_again m linked = with_parts m linked m.session m.asked true linked.holds.own linked.holds.asks (never m.needs_snapshot)
 
-  over : (m : MemberState) → Is m → Links s i m.process (replica_of m) m.terms.epoch m.terms.node m.promised m.tries SessionState.Absent m.asked true m.works
-  over m linked = with_parts m linked SessionState.Absent m.asked true tt linked.holds.asks (never m.needs_snapshot)
-
-  acquired_linked : (m : MemberState) (now : ℕ) (answer : StoreAnswer) (session : SessionId) (offset at : ℕ) → Is m → session ≡ own_of m → Is (when_acquired m now answer session offset at)
-  acquired_linked m now StoreAnswer.Done session offset at linked own = with_parts m linked (SessionState.Live session at) m.asked true own linked.holds.asks (never m.needs_snapshot)
-  acquired_linked m now StoreAnswer.Refused session offset at linked own = due_again m linked
-  acquired_linked m now StoreAnswer.Unanswered session offset at linked own = with_parts m linked (SessionState.Unknown session) m.asked true tt linked.holds.asks (never m.needs_snapshot)
-
-  renewed_linked : (m : MemberState) (now : ℕ) (answer : StoreAnswer) (session : SessionId) (at : ℕ) → Is m → session ≡ own_of m → Is (when_renewed m now answer session at)
-  renewed_linked m now StoreAnswer.Done session at linked own = with_parts m linked (SessionState.Live session at) m.asked m.needs_snapshot own linked.holds.asks (λ none. none)
-  renewed_linked m now StoreAnswer.Refused session at linked own = over m linked
-  renewed_linked m now StoreAnswer.Unanswered session at linked own = linked
-
-  acquired_if : (state : SessionState) (m after : MemberState) → Is m → Is after → Is (acquired_by state m after)
-  acquired_if SessionState.Absent m after is becomes = becomes
-  acquired_if (SessionState.Unknown session) m after is becomes = is
-  acquired_if (SessionState.Live session at) m after is becomes = is
-
-  renewed_if : (state : SessionState) (m after : MemberState) → Is m → Is after → Is (renewed_by state m after)
-  renewed_if SessionState.Absent m after is becomes = is
-  renewed_if (SessionState.Unknown session) m after is becomes = is
-  renewed_if (SessionState.Live session at) m after is becomes = becomes
-
-  when_linked : (m : MemberState) (now : ℕ) (answer : StoreAnswer) (request : Request) (at : ℕ) → Is m → IsOwnRequest (own_of m) request → Is (when_answered m now answer request at)
-  when_linked m now answer (Request.Acquire session offset) at linked own = acquired_if m.session m _ linked (acquired_linked m now answer session offset at linked own)
-  when_linked m now answer (Request.Renew session) at linked own = renewed_if m.session m _ linked (renewed_linked m now answer session at linked own)
-  when_linked m now StoreAnswer.Done (Request.Release session) at linked own = over m linked
-  when_linked m now StoreAnswer.Refused (Request.Release session) at linked own = over m linked
-  when_linked m now StoreAnswer.Unanswered (Request.Release session) at linked own = over m linked
-  when_linked m now answer Request.Snapshot at linked own = linked
-  when_linked m now StoreAnswer.Done (Request.Promise session offset) at linked own = linked
-  when_linked m now StoreAnswer.Refused (Request.Promise session offset) at linked own = due_again m linked
-  when_linked m now StoreAnswer.Unanswered (Request.Promise session offset) at linked own = due_again m linked
-  when_linked m now StoreAnswer.Done (Request.Append offset) at linked own = due_again m linked
-  when_linked m now StoreAnswer.Refused (Request.Append offset) at linked own = due_again m linked
-  when_linked m now StoreAnswer.Unanswered (Request.Append offset) at linked own = due_again m linked
-  when_linked m now StoreAnswer.Done (Request.RollOver offset) at linked own = linked
-  when_linked m now StoreAnswer.Refused (Request.RollOver offset) at linked own = due_again m linked
-  when_linked m now StoreAnswer.Unanswered (Request.RollOver offset) at linked own = due_again m linked
-  when_linked m now answer Request.Follow at linked own = linked
-
   asks_nothing : (m : MemberState) → Is m → Links s i m.process (replica_of m) m.terms.epoch m.terms.node m.promised m.tries m.session None m.needs_snapshot m.works
   asks_nothing m linked = with_parts m linked m.session None m.needs_snapshot linked.holds.own tt (λ none. none)
 
-  answered_by_linked : (m : MemberState) (now : ℕ) (answer : StoreAnswer) (asked : Option Asked) → Is m → AsksOwn (own_of m) asked → Is (answered_by m now answer asked)
-  answered_by_linked m now answer None linked own = linked
-  answered_by_linked m now answer (Some asked) linked own = when_linked (record m { asked = None }) now answer asked.request asked.at (asks_nothing m linked) own
+  told_linked : (m after : MemberState) → Is m → IsOwnTold (own_of m) m after → Is after
+  told_linked m after linked told = subst Is (sym told.0) (with_parts m linked after.session after.asked after.needs_snapshot told.2 told.3 told.1)
 
   pub answered_linked : (m : MemberState) (now : ℕ) (answer : StoreAnswer) → Is m → Is (answered m now answer)
-  answered_linked m now answer linked = answered_by_linked m now answer m.asked linked linked.holds.asks
-
-  own_by_linked : (m : MemberState) (own : Option (Promise × Bool)) → Is m → Is (own_by_promise m own)
-  own_by_linked m None linked = over m linked
-  own_by_linked m (Some own) linked = linked
+  answered_linked m now answer linked = told_linked m (answered m now answer) linked (answered_own (own_of m) m now answer linked.holds.own linked.holds.asks)
 
   pub own_linked : (m : MemberState) (state : SessionState) (here : Option Lease) → Is m → Is (own_by m state here)
-  own_linked m SessionState.Absent here linked = linked
-  own_linked m (SessionState.Unknown session) here linked = linked
-  own_linked m (SessionState.Live session at) here linked = own_by_linked m (own_promise m session here) linked
+  own_linked m state here linked = told_linked m (own_by m state here) linked (shown_own (own_of m) m state here linked.holds.own linked.holds.asks)
 
   pub snapshot_lost_linked : (m : MemberState) (now : ℕ) (leases : List Lease) → Is m → Is (snapshot_lost m now leases)
   snapshot_lost_linked m now leases linked = with_parts m linked m.session None true linked.holds.own tt (never m.needs_snapshot)
 
   pub lost_linked : (m : MemberState) (token : ℕ) → Is m → Is (lost m token)
-  lost_linked m token linked = if_linked _ _ _ linked linked
+  lost_linked m token linked = if_is Is _ _ _ linked linked
 
   pub end_linked : (m : MemberState) (why : Ending) (ending : Option Ending) → Is m → Is (end_for m why ending)
   end_linked m why None linked = linked
   end_linked m why (Some ending) linked = linked
 
   pub not_there_linked : (m : MemberState) → Is m → Is (not_there m)
-  not_there_linked m linked = if_linked (is_following m.asked) _ _ (end_linked _ Ending.NotThere m.ending (asks_nothing m linked)) linked
+  not_there_linked m linked = if_is Is (is_following m.asked) _ _ (end_linked _ Ending.NotThere m.ending (asks_nothing m linked)) linked
 
   pub passed_linked : (m : MemberState) → Is m → Is (record m { is_past = true; asked = None })
   passed_linked m linked = asks_nothing m linked

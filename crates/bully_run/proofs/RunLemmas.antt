@@ -13,14 +13,11 @@ use Rattle.bully_member.specs.Keeping.{AppendsAt, Keeps, RollsOverAt}
 use Rattle.bully_member.specs.Learned.{in_epoch, is_following, not_there}
 use Rattle.bully_member.specs.Member.{MemberState, admitted_among, lease_of, new_member, offset_of, replica_of}
 use Rattle.bully_member.specs.Rebalance.{rebalanced_nodes}
-use Rattle.bully_member.specs.Told.{acquired_by, answered, answered_by, awaits_snapshot, end_for, found, found_here, lost, own_by, own_by_promise, own_promise, renewed_by, snapshot_lost, stopped, stopped_on, to_pause, to_snapshot, when_acquired, when_answered, when_renewed, with_arrivals}
+use Rattle.bully_member.specs.Told.{answered, awaits_snapshot, end_for, found, found_here, lost, own_by, snapshot_lost, stopped, stopped_on, to_pause, to_snapshot, with_arrivals}
 use Rattle.bully_member.specs.declared.opening.Terms.{Terms}
-use Rattle.bully_member.specs.declared.values.Asked.{Asked}
 use Rattle.bully_member.specs.declared.values.Ending.{Ending}
 use Rattle.bully_member.specs.declared.values.Lease.{Lease}
-use Rattle.bully_member.specs.declared.values.Promise.{Promise}
 use Rattle.bully_member.specs.declared.values.Request.{Request}
-use Rattle.bully_member.specs.declared.values.SessionId.{SessionId}
 use Rattle.bully_member.specs.declared.values.SessionState.{SessionState}
 use Rattle.bully_member.specs.declared.values.Step.{Step}
 use Rattle.bully_member.specs.declared.values.StoreAnswer.{StoreAnswer}
@@ -29,6 +26,7 @@ use Rattle.bully_rebalance.specs.Rebalancing.{Rebalances, table_before}
 use Rattle.bully_replica.specs.Replica.{IsLogOf, first_replica}
 use Rattle.bully_rows.specs.declared.header.Header.{Header}
 use Rattle.bully_run.proofs.ActLemmas.{IsRan, followed_ran, next_ran, ran_none, snapshot_ran, start_ran}
+use Rattle.bully_run.proofs.AnswerLemmas.{answered_reported, if_is, own_reported}
 use Rattle.bully_run.proofs.BusyLemmas.{busy_at, busy_contains}
 use Rattle.bully_run.proofs.FrameLemmas.{Grows, HadNone, IsPlaced, Leads, asked_more, become_more, grows_none, had_none, id_by, ids_apart, leads_grows, leads_one, longer_grows, no_session, placed, rolled_grows, rolled_none, written}
 use Rattle.bully_run.proofs.LinkLemmas.{Linked, answered_linked, due_again, end_linked, learned_linked, links_stay, links_written, lost_linked, not_there_linked, passed_linked, snapshot_lost_linked, stopped_linked, stopped_on_linked}
@@ -42,51 +40,8 @@ use Rattle.bully_work.specs.Store.{AcceptsAppend, AcceptsRollOver, Acquire, Act,
 abbrev pub who : MemberState → ℕ × Terms
 who m = (m.process, m.terms)
 
-if_same : (p : ℕ × Terms) (b : Bool) (x y : MemberState) → who x ≡ p → who y ≡ p → who (if b then x else y) ≡ p
-if_same p true x y x_is y_is = x_is
-if_same p false x y x_is y_is = y_is
-
-acquired_same : (m : MemberState) (now : ℕ) (answer : StoreAnswer) (session : SessionId) (offset at : ℕ) → who (when_acquired m now answer session offset at) ≡ who m
-acquired_same m now StoreAnswer.Done session offset at = refl
-acquired_same m now StoreAnswer.Refused session offset at = refl
-acquired_same m now StoreAnswer.Unanswered session offset at = refl
-
-renewed_same : (m : MemberState) (now : ℕ) (answer : StoreAnswer) (session : SessionId) (at : ℕ) → who (when_renewed m now answer session at) ≡ who m
-renewed_same m now StoreAnswer.Done session at = refl
-renewed_same m now StoreAnswer.Refused session at = refl
-renewed_same m now StoreAnswer.Unanswered session at = refl
-
-acquired_if : (state : SessionState) (m after : MemberState) → who after ≡ who m → who (acquired_by state m after) ≡ who m
-acquired_if SessionState.Absent m after is = is
-acquired_if (SessionState.Unknown session) m after is = refl
-acquired_if (SessionState.Live session at) m after is = refl
-
-renewed_if : (state : SessionState) (m after : MemberState) → who after ≡ who m → who (renewed_by state m after) ≡ who m
-renewed_if SessionState.Absent m after is = refl
-renewed_if (SessionState.Unknown session) m after is = refl
-renewed_if (SessionState.Live session at) m after is = is
-
-when_same : (m : MemberState) (now : ℕ) (answer : StoreAnswer) (request : Request) (at : ℕ) → who (when_answered m now answer request at) ≡ who m
-when_same m now answer (Request.Acquire session offset) at = acquired_if m.session m _ (acquired_same m now answer session offset at)
-when_same m now answer (Request.Renew session) at = renewed_if m.session m _ (renewed_same m now answer session at)
-when_same m now StoreAnswer.Done (Request.Release session) at = refl
-when_same m now StoreAnswer.Refused (Request.Release session) at = refl
-when_same m now StoreAnswer.Unanswered (Request.Release session) at = refl
-when_same m now answer Request.Snapshot at = refl
-when_same m now StoreAnswer.Done (Request.Promise session offset) at = refl
-when_same m now StoreAnswer.Refused (Request.Promise session offset) at = refl
-when_same m now StoreAnswer.Unanswered (Request.Promise session offset) at = refl
-when_same m now StoreAnswer.Done (Request.Append offset) at = refl
-when_same m now StoreAnswer.Refused (Request.Append offset) at = refl
-when_same m now StoreAnswer.Unanswered (Request.Append offset) at = refl
-when_same m now StoreAnswer.Done (Request.RollOver offset) at = refl
-when_same m now StoreAnswer.Refused (Request.RollOver offset) at = refl
-when_same m now StoreAnswer.Unanswered (Request.RollOver offset) at = refl
-when_same m now answer Request.Follow at = refl
-
-answered_same : (m : MemberState) (now : ℕ) (answer : StoreAnswer) (asked : Option Asked) → who (answered_by m now answer asked) ≡ who m
-answered_same m now answer None = refl
-answered_same m now answer (Some asked) = when_same (record m { asked = None }) now answer asked.request asked.at
+answered_same : (m : MemberState) (now : ℕ) (answer : StoreAnswer) → who (answered m now answer) ≡ who m
+answered_same m now answer = ap who (answered_reported m now answer)
 
 end_same : (m : MemberState) (why : Ending) (ending : Option Ending) → who (end_for m why ending) ≡ who m
 end_same m why None = refl
@@ -96,7 +51,7 @@ end_same m why (Some ending) = refl
 
 pub told_ran : (s : Store) (i : ℕ) (m : MemberState) (call : Call) (after : MemberState) → HadNone s → Linked s i m → Takes m call after → MayTell s i m call after → IsRan s (store_told s i m call) i m.process after
 told_ran s i m (Next now next) after none linked takes may = absurd may
-told_ran s i m (Answered now answer) after none linked takes may = subst (IsRan s s i m.process) (sym takes) (ran_none s i m.process (answered m now answer) (ap (λ (w : ℕ × Terms). w.0) (answered_same m now answer m.asked)) (answered_linked s i m now answer linked))
+told_ran s i m (Answered now answer) after none linked takes may = subst (IsRan s s i m.process) (sym takes) (ran_none s i m.process (answered m now answer) (ap (λ (w : ℕ × Terms). w.0) (answered_same m now answer)) (answered_linked s i m now answer linked))
 told_ran s i m (Learn records taken) after none linked takes may = ran_none s i m.process after (ap (λ (x : MemberState). x.process) takes.rest) (learned_linked s i m records taken after linked takes may)
 told_ran s i m (SnapshotRead now epoch leases has_unknown has_request) after none linked takes may =
     subst (IsRan s (store_told s i m (SnapshotRead now epoch leases has_unknown has_request)) i m.process) (sym takes) (snapshot_ran s i m linked now epoch leases has_unknown has_request after.coming after.affected may)
@@ -104,24 +59,24 @@ told_ran s i m (SnapshotLost now leases) after none linked takes may = subst (Is
 told_ran s i m (Followed now header terms) after none linked takes may =
     subst (IsRan s (store_told s i m (Followed now header terms)) i m.process) (sym takes.1) (followed_ran s i m linked now header terms none may)
 told_ran s i m NotThere after none linked takes may = subst (IsRan s s i m.process) (sym takes)
-    (ran_none s i m.process (not_there m) (ap (λ (w : ℕ × Terms). w.0) (if_same (who m) (is_following m.asked) _ _ (end_same (record m { asked = None }) Ending.NotThere m.ending) refl)) (not_there_linked s i m linked))
+    (ran_none s i m.process (not_there m) (ap (λ (w : ℕ × Terms). w.0) (if_is (λ x. who x ≡ who m) (is_following m.asked) _ _ (end_same (record m { asked = None }) Ending.NotThere m.ending) refl)) (not_there_linked s i m linked))
 told_ran s i m Passed after none linked takes may = subst (IsRan s s i m.process) (sym takes) (ran_none s i m.process (record m { is_past = true; asked = None }) refl (passed_linked s i m linked))
 told_ran s i m Woke after none linked takes may = subst (IsRan s s i m.process) (sym takes) (ran_none s i m.process (to_snapshot m) refl (due_again s i m linked))
 told_ran s i m Leave after none linked takes may = subst (IsRan s s i m.process) (sym takes) (ran_none s i m.process (end_for m Ending.Left m.ending) (ap (λ (w : ℕ × Terms). w.0) (end_same m Ending.Left m.ending)) (end_linked s i m Ending.Left m.ending linked))
 told_ran s i m Broken after none linked takes may = subst (IsRan s s i m.process) (sym takes) (ran_none s i m.process (end_for m Ending.Broken m.ending) (ap (λ (w : ℕ × Terms). w.0) (end_same m Ending.Broken m.ending)) (end_linked s i m Ending.Broken m.ending linked))
-told_ran s i m (Lost token) after none linked takes may = subst (IsRan s s i m.process) (sym takes) (ran_none s i m.process (lost m token) (ap (λ (w : ℕ × Terms). w.0) (if_same (who m) _ _ _ refl refl)) (lost_linked s i m token linked))
+told_ran s i m (Lost token) after none linked takes may = subst (IsRan s s i m.process) (sym takes) (ran_none s i m.process (lost m token) (ap (λ (w : ℕ × Terms). w.0) (if_is (λ x. who x ≡ who m) _ _ _ refl refl)) (lost_linked s i m token linked))
 told_ran s i m Stopped after none linked takes may = subst (IsRan s s i m.process) (sym takes) (ran_none s i m.process (stopped m) refl (stopped_linked s i m linked may))
 told_ran s i m (StoppedOn k) after none linked takes may = subst (IsRan s s i m.process) (sym takes) (ran_none s i m.process (stopped_on m k) refl (stopped_on_linked s i m k linked may))
 
 -- What was sent.
 
 -- a writer has learned a prefix of its epoch's log, by which it may append, or roll the epoch over
-record Writes (s : Store) (m : MemberState) (offset : ℕ) (silent : ℕ → Bool) (seen : ℕ → Option Held) (events : List Event) : Type 0 where
-  name : ℕ
-  place : IsPlaced s name (replica_of m) m.terms.epoch m.terms.node
-  asks : AppendsAt m offset
-  names : Names m (record s { epoch = m.terms.epoch }) silent seen
-  rebalances : (log : List Event) → IsLogOf (replica_of m) log → Rebalances (replica_of m).world.setup log (table_before (replica_of m).last m.terms.old) (rebalanced_nodes m) events
+pub record Writes (s : Store) (m : MemberState) (offset : ℕ) (silent : ℕ → Bool) (seen : ℕ → Option Held) (events : List Event) : Type 0 where
+  pub name : ℕ
+  pub place : IsPlaced s name (replica_of m) m.terms.epoch m.terms.node
+  pub asks : AppendsAt m offset
+  pub names : Names m (record s { epoch = m.terms.epoch }) silent seen
+  pub rebalances : (log : List Event) → IsLogOf (replica_of m) log → Rebalances (replica_of m).world.setup log (table_before (replica_of m).last m.terms.old) (rebalanced_nodes m) events
 
 record Closes (s : Store) (m : MemberState) (offset : ℕ) (silent : ℕ → Bool) (number : ℕ → ℕ) : Type 0 where
   name : ℕ
@@ -502,13 +457,7 @@ by_who : (m after : MemberState) → who after ≡ who m → IsEagerMember m →
 by_who m after same eager = ap (λ (w : ℕ × Terms). w.1.is_cooperative) same ∙ eager
 
 own_eager : (m : MemberState) (state : SessionState) (here : Option Lease) → IsEagerMember m → IsEagerMember (own_by m state here)
-own_eager m SessionState.Absent here eager = eager
-own_eager m (SessionState.Unknown session) here eager = eager
-own_eager m (SessionState.Live session at) here eager = by_own (own_promise m session here)
-  where
-    by_own : (own : Option (Promise × Bool)) → IsEagerMember (own_by_promise m own)
-    by_own None = eager
-    by_own (Some own) = eager
+own_eager m state here = by_who m (own_by m state here) (ap who (own_reported m state here))
 
 snapshot_eager : (m : MemberState) (now : ℕ) (leases : List Lease) (has_unknown has_request : Bool) (coming : Option (List ℕ)) (affected : List ℕ) (a b : Bool) → IsEagerMember m
     → IsEagerMember (if not a then m else if not b then record m { is_past = true; asked = None } else found_here (with_arrivals m now leases) now leases has_unknown has_request coming affected)
@@ -533,7 +482,7 @@ lost_eager m false eager = eager
 
 told_eager : (m : MemberState) (call : Call) (after : MemberState) → IsEagerCall call → IsEagerMember m → Takes m call after → IsEagerMember after
 told_eager m (Next now next) after call eager takes = by_who m after (ap who takes.noted ∙ noted_who m now takes.sight.is_stable next) eager
-told_eager m (Answered now answer) after call eager takes = by_who m after (ap who takes ∙ answered_same m now answer m.asked) eager
+told_eager m (Answered now answer) after call eager takes = by_who m after (ap who takes ∙ answered_same m now answer) eager
 told_eager m (Learn records taken) after call eager takes = subst IsEagerMember (sym takes.rest) eager
 told_eager m (SnapshotRead now epoch leases has_unknown has_request) after call eager takes = subst IsEagerMember (sym takes)
     (snapshot_eager m now leases has_unknown has_request after.coming after.affected (awaits_snapshot m.asked) (epoch == m.terms.epoch) eager)
@@ -632,6 +581,13 @@ first_linked setup number = record {
 
 has_run : (happenings : List Happening) (R : Run) (run : HasRun happenings R) → IsRunOf happenings (first_run run.setup run.number) R
 has_run happenings R run = runs_on happenings (first_run run.setup run.number) R (first_linked run.setup run.number) run.runs
+
+pub linked_of : (happenings : List Happening) (R : Run) (p : ℕ) (q : Process) → HasRun happenings R → R.processes p ≡ Some q → Linked R.store q.name q.member
+linked_of happenings R p q run there = ((has_run happenings R run).linked.members p q there).linked
+
+-- what was sent to append, was sent by a writer that may
+pub writes_of : (happenings : List Happening) (R : Run) (m : MemberState) (offset : ℕ) (silent : ℕ → Bool) (seen : ℕ → Option Held) (events : List Event) → HasRun happenings R → Contains R.sent (SentAppend m offset silent seen events) → Writes R.store m offset silent seen events
+writes_of happenings R m offset silent seen events run has = (has_run happenings R run).linked.sent (SentAppend m offset silent seen events) has
 
 pub process_is : (happenings : List Happening) (R : Run) (p : ℕ) (q : Process) → HasRun happenings R → R.processes p ≡ Some q → q.member.process ≡ p
 process_is happenings R p q run there = ((has_run happenings R run).linked.members p q there).same

@@ -120,6 +120,18 @@ session_now m = record { process = m.process; number = m.tries }
 abbrev pub NumbersLast : MemberState → Type 0
 NumbersLast m = m.tries < 2 ^ 64 - 1
 
+-- the promise was made for this session in this epoch, up to this offset
+pub record IsMadeFor (session : SessionId) (epoch offset : ℕ) (p : Made) : Type 0 where
+  pub own : p.session ≡ session
+  pub within : p.promised.epoch ≡ epoch
+  pub end : p.promised.offset ≡ offset
+
+-- the step asks for the lease of this session, or to renew it
+abbrev pub AsksFor : SessionId → Step → Type 0
+AsksFor session (Step.Ask (Request.Acquire other offset)) = other ≡ session
+AsksFor session (Step.Ask (Request.Renew other)) = other ≡ session
+AsksFor session _ = ⊥
+
 -- the promise reaches less far than the plan of this token of this epoch
 abbrev pub IsBehind : Promised → (epoch token : ℕ) → Type 0
 IsBehind p epoch token = (p.epoch < epoch) ⊎ ((p.epoch ≡ epoch) × (p.offset < token))

@@ -3,7 +3,7 @@
 //! It builds on bully_member. Its laws tie the values that a member's calls give to the model of bully_work.
 #![tactic(auto)]
 
-ghost use Rattle.std.specs.Prelude.{◌≡◌, ◌≤◌, ◌<◌, ℕ, Contains, List, Some, false, length, true};
+ghost use Rattle.std.specs.Prelude.{◌≡◌, ◌≤◌, ◌<◌, ◌⊎◌, ℕ, Contains, List, Some, false, length, true};
 ghost use Rattle.bully_member.specs.Activities.{busy};
 ghost use Rattle.bully_member.specs.Asking.{ActsBy};
 ghost use Rattle.bully_member.specs.Keeping.{HasSession};
@@ -11,10 +11,11 @@ ghost use Rattle.bully_member.specs.Member.{MemberState, replica_of};
 ghost use Rattle.bully_member.specs.Times.{sure};
 ghost use Rattle.bully_member.specs.declared.values.Request.{Request as RequestState};
 ghost use Rattle.bully_member.specs.declared.values.SessionId.{SessionId as SessionIdState};
+ghost use Rattle.bully_member.specs.declared.values.SessionState.{SessionState};
 ghost use Rattle.bully_member.specs.declared.values.Step.{Step as StepState};
 ghost use Rattle.bully_rebalance.specs.Acting.{IsReachedBy};
-ghost use Rattle.bully_run.specs.Calls.{Call, GoesNext, GoesOnLearning, HasLived, IsBehind, IsSameTime, Made};
-ghost use Rattle.bully_run.specs.Calls.{NumbersLast, Takes, session_now};
+ghost use Rattle.bully_run.specs.Calls.{AsksFor, Call, GoesNext, GoesOnLearning, HasLived, IsBehind, IsMadeFor};
+ghost use Rattle.bully_run.specs.Calls.{IsSameTime, Made, Next, NumbersLast, Takes, session_now};
 ghost use Rattle.bully_run.specs.Run.{AllEager, BeginsWhileSure, Deed, Goes, Happening, Happens, HasRun, Process, Run, WorksNow};
 ghost use Rattle.bully_run.specs.Run.{id_of, piece_of, session_by};
 ghost use Rattle.bully_work.specs.Working.{GivesTo};
@@ -22,9 +23,7 @@ ghost use Rattle.bully_agree.specs.Fencing.{Planned};
 ghost use Rattle.bully_rows.specs.Headers.{Record};
 ghost use Rattle.bully_work.specs.Store.{Act, AllAsked, HasWork, IsLive, IsReached, KeepsNothing, OwnsNow, Piece};
 
-use bully_base::NodeSet;
 use bully_member::{Member, Step};
-use bully_rebalance::is_stable;
 use bully_replica::LearnFault;
 use bully_rows::RowReader;
 use std::alloc::Global;
@@ -35,18 +34,25 @@ use std::io::Read;
 ///
 /// - `kept`: no promise that it has asked for, for its session, whether or not the store answered, reaches further than
 ///   the member knows.
+/// - `only`: what it takes for its last promise is one that it has asked for, for its session in its epoch; or it has
+///   promised nothing, as in a new epoch. So no promise of an epoch before keeps it from working by a plan.
 /// - `begins`: it begins to work only by a plan after each of these promises.
 /// - `session`: it begins only while it has its lease by the session that it asked for last.
 /// - `rises`: within a session and an epoch what it knows of its promises doesn't fall.
 /// - `asks`: it asks for a promise only for that session, and for no lower offset than it has promised; and then it has
 ///   promised that.
 /// - `starts`: a new session has promised nothing before, and then the offset at which its lease is asked for.
+/// - `counts`: if it has its lease, that counts from a call at which it asked for it, or to renew it, and not from the
+///   answer.
 ///
 /// The one premise is that no number of a session is used twice (`NumbersLast`): a process has 2^64 of them.
 pub fn forgets_no_promise()
     ensures kept { (calls : List Call) (m : MemberState) (made : List Made) (p : Made)
         → HasLived calls m made → NumbersLast m → Contains made p → p.session ≡ session_now m
         → IsReachedBy p.promised m.terms.epoch m.promised }
+    ensures only { (calls : List Call) (m : MemberState) (made : List Made) → HasLived calls m made
+        → (m.promised ≡ 0)
+        ⊎ ((p : Made) × Contains made p × IsMadeFor (session_now m) m.terms.epoch m.promised p) }
     ensures begins { (calls : List Call) (m after : MemberState) (made : List Made) (p : Made) (now token : ℕ)
         → HasLived calls m made → NumbersLast m → GoesNext m now (StepState.Begin token) after
         → Contains made p → p.session ≡ session_now m → IsBehind p.promised m.terms.epoch token }
@@ -64,6 +70,9 @@ pub fn forgets_no_promise()
         → NumbersLast after
         → (session ≡ session_now after) × (after.promised ≡ offset)
         × ((p : Made) → Contains made p → p.session ≡ session → ⊥) }
+    ensures counts { (calls : List Call) (m : MemberState) (made : List Made) (session : SessionIdState) (since : ℕ)
+        → HasLived calls m made → m.session ≡ SessionState.Live session since
+        → (step : StepState) × Contains calls (Next since step) × AsksFor session step }
 {}
 
 /// The law of members that run. A *run* is a list of what happens to processes with members and to the store that they
@@ -118,13 +127,10 @@ pub fn members_apart()
 {}
 
 /// What a member does next, as [`Member::next`] gives it: a call of a run. So such calls are possible wherever there is
-/// a member (`GoesNext` has a witness of what the member sees).
+/// a member.
 pub fn next(member: &mut Member, now: u64) -> Step
     ensures { GoesNext member.old now result member.new }
 {
-    let is_stable_now = member.is_stable();
-    let are_down_now = is_stable(member.replica(), &NodeSet::new(), 0);
-    let _tests = (is_stable_now, are_down_now);
     member.next(now)
 }
 

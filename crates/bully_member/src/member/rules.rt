@@ -45,6 +45,7 @@ impl Member {
     /// long as its last request isn't answered, it asks for nothing else: if no other call reports the answer,
     /// [`Member::answered`] must.
     pub fn next(&mut self, now: u64) -> Step
+        ensures sees { (s : SightState) × Sees self.old now s }
         ensures due { (s : SightState) → Sees self.old now s → result ≡ due self.old now s }
         ensures noted { (is_stable : Bool) → (IsTrue is_stable ↔ SeesStable self.old)
             → self.new ≡ noted self.old now is_stable result }

@@ -1,7 +1,8 @@
 use Rattle.bully_round.proofs.FreshLemmas.{fresh_lem}
 use Rattle.bully_round.proofs.DueLemmas.{acts_lem, rests_lem}
-use Rattle.bully_round.proofs.SomeTurns.{some_lem}
+use Rattle.bully_round.proofs.SomePassage.{some_turns_lem}
 use Rattle.bully_round.proofs.OwnLemmas.{exactly_lem}
+use Rattle.bully_round.proofs.PatienceLemmas.{patient_lem}
 use Rattle.bully_round.proofs.TurnLemmas.{bounded_lem, falls_lem}
 use Rattle.bully_round.proofs.progress_of_one.Goals as goal
 
@@ -21,7 +22,10 @@ pub returns-clause-exactly : goal.returns-clause-exactly
 returns-clause-exactly c = exactly_lem
 
 pub returns-clause-some : goal.returns-clause-some
-returns-clause-some c = some_lem
+returns-clause-some c = some_turns_lem
+
+pub returns-clause-patient : goal.returns-clause-patient
+returns-clause-patient c = patient_lem
 
 pub returns-clause-fresh : goal.returns-clause-fresh
 returns-clause-fresh c = fresh_lem

@@ -1,8 +1,10 @@
 use Rattle.bully_round.proofs.AgainLemmas.{again_lem, view_lem}
 use Rattle.bully_round.proofs.GroupLemmas.{changes_lem, ready_lem, somebody_lem}
+use Rattle.bully_round.proofs.PatienceLemmas.{alone_lem}
 use Rattle.bully_round.proofs.RoundLemmas.{ends_stable_lem, one_works_lem, some_works_lem, stable_for, turns_lem, waits_lem, works_in_round, works_lem}
 use Rattle.bully_round.proofs.SomeRound.{some_rest_lem}
-use Rattle.bully_round.proofs.SomeView.{some_look_lem, some_view_lem}
+use Rattle.bully_round.proofs.SomeView.{some_alert_lem, some_look_lem, some_view_lem}
+use Rattle.bully_round.proofs.SomeWhole.{some_whole_lem}
 use Rattle.bully_round.proofs.round_becomes_stable.Goals as goal
 
 pub returns-clause-ready : goal.returns-clause-ready
@@ -13,6 +15,9 @@ returns-clause-changes c = changes_lem
 
 pub returns-clause-somebody : goal.returns-clause-somebody
 returns-clause-somebody c = somebody_lem
+
+pub returns-clause-alone : goal.returns-clause-alone
+returns-clause-alone c = alone_lem
 
 pub returns-clause-stable : goal.returns-clause-stable
 returns-clause-stable c = stable_for
@@ -52,3 +57,9 @@ returns-clause-view c = view_lem
 
 pub returns-clause-look : goal.returns-clause-look
 returns-clause-look c = some_look_lem
+
+pub returns-clause-alert : goal.returns-clause-alert
+returns-clause-alert c = some_alert_lem
+
+pub returns-clause-whole : goal.returns-clause-whole
+returns-clause-whole c = some_whole_lem

@@ -1,8 +1,12 @@
-use Rattle.bully_run.proofs.CallLemmas.{asks_lem, begins_lem, kept_lem, rises_lem, session_lem, starts_lem}
+use Rattle.bully_run.proofs.CallLemmas.{asks_lem, begins_lem, kept_lem, only_lem, rises_lem, session_lem, starts_lem}
+use Rattle.bully_run.proofs.LeaseLemmas.{counts_lem}
 use Rattle.bully_run.proofs.forgets_no_promise.Goals as goal
 
 pub returns-clause-kept : goal.returns-clause-kept
 returns-clause-kept c = kept_lem
+
+pub returns-clause-only : goal.returns-clause-only
+returns-clause-only c = only_lem
 
 pub returns-clause-begins : goal.returns-clause-begins
 returns-clause-begins c = begins_lem
@@ -18,3 +22,6 @@ returns-clause-asks c = asks_lem
 
 pub returns-clause-starts : goal.returns-clause-starts
 returns-clause-starts c = starts_lem
+
+pub returns-clause-counts : goal.returns-clause-counts
+returns-clause-counts c = counts_lem

@@ -7,6 +7,9 @@ use Rattle.bully_member.specs.Due.{due}
 use Rattle.bully_member.specs.Keeping.{Keeps}
 use Rattle.bully_member.specs.Waiting.{WaitsFor}
 
+pub returns-clause-sees : goal.returns-clause-sees
+returns-clause-sees c = (c.sight-sight.result, c.sight-sight.ensures.sees)
+
 pub returns-clause-keeps : goal.returns-clause-keeps
 returns-clause-keeps c =
     let m = c.args.self.now in

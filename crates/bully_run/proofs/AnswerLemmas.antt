@@ -1,0 +1,133 @@
+-- What an answer, and what a snapshot shows of the member's own lease, leave as it was, and what they make of its session.
+use Rattle.std.proofs.Common.{◌≡◌, ℕ, Bool, true, false, Option, Some, None, if◌then◌else◌, refl}
+use Rattle.bully_member.specs.Member.{MemberState}
+use Rattle.bully_member.specs.Told.{acquired_by, answered, answered_by, own_by, own_by_promise, own_promise, renewed_by, to_end_session, to_snapshot, when_acquired, when_answered, when_renewed}
+use Rattle.bully_member.specs.declared.values.Asked.{Asked}
+use Rattle.bully_member.specs.declared.values.Lease.{Lease}
+use Rattle.bully_member.specs.declared.values.Promise.{Promise}
+use Rattle.bully_member.specs.declared.values.Request.{Request}
+use Rattle.bully_member.specs.declared.values.SessionId.{SessionId}
+use Rattle.bully_member.specs.declared.values.SessionState.{SessionState}
+use Rattle.bully_member.specs.declared.values.StoreAnswer.{StoreAnswer}
+
+-- Whichever way a test goes, and whether or not an answer counts.
+
+pub if_is : (Is : MemberState → Type 0) (b : Bool) (x y : MemberState) → Is x → Is y → Is (if b then x else y)
+if_is Is true x y x_is y_is = x_is
+if_is Is false x y x_is y_is = y_is
+
+acquired_if : (Is : MemberState → Type 0) (state : SessionState) (m after : MemberState) → Is m → Is after → Is (acquired_by state m after)
+acquired_if Is SessionState.Absent m after is becomes = becomes
+acquired_if Is (SessionState.Unknown session) m after is becomes = is
+acquired_if Is (SessionState.Live session at) m after is becomes = is
+
+renewed_if : (Is : MemberState → Type 0) (state : SessionState) (m after : MemberState) → Is m → Is after → Is (renewed_by state m after)
+renewed_if Is SessionState.Absent m after is becomes = is
+renewed_if Is (SessionState.Unknown session) m after is becomes = is
+renewed_if Is (SessionState.Live session at) m after is becomes = becomes
+
+-- Only this changes.
+
+abbrev pub IsReported : (m after : MemberState) → Type 0
+IsReported m after = after ≡ record m {
+  session = after.session;
+  own = after.own;
+  is_exact = after.is_exact;
+  needs_snapshot = after.needs_snapshot;
+  is_past = after.is_past;
+  paused = after.paused;
+  asked = after.asked;
+}
+
+-- what is said of a lease that it has, by the session and since when it counts; and of a request that it awaits
+abbrev pub Counts : (SessionId → ℕ → Type 0) → SessionState → Type 0
+Counts counts (SessionState.Live session since) = counts session since
+Counts counts state = Unit {0}
+
+abbrev pub Awaited : (Request → ℕ → Type 0) → Option Asked → Type 0
+Awaited asks None = Unit {0}
+Awaited asks (Some asked) = asks asked.request asked.at
+
+abbrev pub IsTold : (SessionId → ℕ → Type 0) → (Request → ℕ → Type 0) → (m after : MemberState) → Type 0
+IsTold counts asks m after = IsReported m after × (after.needs_snapshot ≡ false → m.needs_snapshot ≡ false) × Counts counts after.session × Awaited asks after.asked
+
+-- if a request for a lease says what is said of the lease
+module _ (counts : SessionId → ℕ → Type 0) (asks : Request → ℕ → Type 0) (acquires : (session : SessionId) (offset at : ℕ) → asks (Request.Acquire session offset) at → counts session at)
+    (renews : (session : SessionId) (at : ℕ) → asks (Request.Renew session) at → counts session at) where
+  abbrev Has : MemberState → Type 0
+  Has m = Counts counts m.session × Awaited asks m.asked
+
+  abbrev Is : (m after : MemberState) → Type 0
+  Is m after = IsTold counts asks m after
+
+  never : (b : Bool) → true ≡ false → b ≡ false
+  never b is = absurd (cc is)
+
+  stays : (m : MemberState) → Has m → Is m m
+  stays m has = (refl, (λ fresh. fresh), has.0, has.1)
+
+  again : (m : MemberState) → Has m → Is m (to_snapshot m)
+  again m has = (refl, never m.needs_snapshot, has.0, has.1)
+
+  over : (m : MemberState) → Has m → Is m (to_end_session m)
+  over m has = (refl, never m.needs_snapshot, tt, has.1)
+
+  acquired_told : (m : MemberState) (now : ℕ) (answer : StoreAnswer) (session : SessionId) (offset at : ℕ) → Has m → counts session at → Is m (when_acquired m now answer session offset at)
+  acquired_told m now StoreAnswer.Done session offset at has count = (refl, never m.needs_snapshot, count, has.1)
+  acquired_told m now StoreAnswer.Refused session offset at has count = again m has
+  acquired_told m now StoreAnswer.Unanswered session offset at has count = (refl, never m.needs_snapshot, tt, has.1)
+
+  renewed_told : (m : MemberState) (now : ℕ) (answer : StoreAnswer) (session : SessionId) (at : ℕ) → Has m → counts session at → Is m (when_renewed m now answer session at)
+  renewed_told m now StoreAnswer.Done session at has count = (refl, (λ fresh. fresh), count, has.1)
+  renewed_told m now StoreAnswer.Refused session at has count = over m has
+  renewed_told m now StoreAnswer.Unanswered session at has count = (refl, (λ fresh. fresh), has.0, has.1)
+
+  when_told : (m : MemberState) (now : ℕ) (answer : StoreAnswer) (request : Request) (at : ℕ) → Has m → asks request at → Is m (when_answered m now answer request at)
+  when_told m now answer (Request.Acquire session offset) at has asked = acquired_if (Is m) m.session m _ (stays m has) (acquired_told m now answer session offset at has (acquires session offset at asked))
+  when_told m now answer (Request.Renew session) at has asked = renewed_if (Is m) m.session m _ (stays m has) (renewed_told m now answer session at has (renews session at asked))
+  when_told m now StoreAnswer.Done (Request.Release session) at has asked = over m has
+  when_told m now StoreAnswer.Refused (Request.Release session) at has asked = over m has
+  when_told m now StoreAnswer.Unanswered (Request.Release session) at has asked = (refl, never m.needs_snapshot, tt, has.1)
+  when_told m now answer Request.Snapshot at has asked = (refl, (λ fresh. fresh), has.0, has.1)
+  when_told m now StoreAnswer.Done (Request.Promise session offset) at has asked = (refl, (λ fresh. fresh), has.0, has.1)
+  when_told m now StoreAnswer.Refused (Request.Promise session offset) at has asked = again m has
+  when_told m now StoreAnswer.Unanswered (Request.Promise session offset) at has asked = (refl, never m.needs_snapshot, has.0, has.1)
+  when_told m now StoreAnswer.Done (Request.Append offset) at has asked = again m has
+  when_told m now StoreAnswer.Refused (Request.Append offset) at has asked = again m has
+  when_told m now StoreAnswer.Unanswered (Request.Append offset) at has asked = (refl, never m.needs_snapshot, has.0, has.1)
+  when_told m now StoreAnswer.Done (Request.RollOver offset) at has asked = (refl, (λ fresh. fresh), has.0, has.1)
+  when_told m now StoreAnswer.Refused (Request.RollOver offset) at has asked = again m has
+  when_told m now StoreAnswer.Unanswered (Request.RollOver offset) at has asked = (refl, never m.needs_snapshot, has.0, has.1)
+  when_told m now answer Request.Follow at has asked = (refl, (λ fresh. fresh), has.0, has.1)
+
+  pub answered_told : (m : MemberState) (now : ℕ) (answer : StoreAnswer) → Counts counts m.session → Awaited asks m.asked → IsTold counts asks m (answered m now answer)
+  answered_told m now answer count awaits = by_asked m.asked awaits
+    where
+      by_asked : (asked : Option Asked) → Awaited asks asked → Is m (answered_by m now answer asked)
+      by_asked None asks_it = stays m (count, awaits)
+      by_asked (Some asked) asks_it = when_told (record m { asked = None }) now answer asked.request asked.at (count, tt) asks_it
+
+  pub own_told : (m : MemberState) (state : SessionState) (here : Option Lease) → Counts counts m.session → Awaited asks m.asked → IsTold counts asks m (own_by m state here)
+  own_told m SessionState.Absent here count awaits = stays m (count, awaits)
+  own_told m (SessionState.Unknown session) here count awaits = stays m (count, awaits)
+  own_told m (SessionState.Live session since) here count awaits = by_own (own_promise m session here)
+    where
+      by_own : (own : Option (Promise × Bool)) → Is m (own_by_promise m own)
+      by_own None = over m (count, awaits)
+      by_own (Some own) = (refl, (λ fresh. fresh), count, awaits)
+
+-- whatever is said of these
+any_count : (state : SessionState) → Counts (λ session since. Unit {0}) state
+any_count SessionState.Absent = tt
+any_count (SessionState.Unknown session) = tt
+any_count (SessionState.Live session since) = tt
+
+any_asked : (asked : Option Asked) → Awaited (λ request at. Unit {0}) asked
+any_asked None = tt
+any_asked (Some asked) = tt
+
+pub answered_reported : (m : MemberState) (now : ℕ) (answer : StoreAnswer) → IsReported m (answered m now answer)
+answered_reported m now answer = (answered_told (λ session since. Unit {0}) (λ request at. Unit {0}) (λ session offset at asked. tt) (λ session at asked. tt) m now answer (any_count m.session) (any_asked m.asked)).0
+
+pub own_reported : (m : MemberState) (state : SessionState) (here : Option Lease) → IsReported m (own_by m state here)
+own_reported m state here = (own_told (λ session since. Unit {0}) (λ request at. Unit {0}) (λ session offset at asked. tt) (λ session at asked. tt) m state here (any_count m.session) (any_asked m.asked)).0
