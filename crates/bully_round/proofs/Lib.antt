@@ -19,3 +19,4 @@ pub mod CalledLemmas
 pub mod FromLemmas
 pub mod FromRound
 pub mod AcceptedLemmas
+pub mod SomeReady

@@ -178,6 +178,8 @@ pub fn round_becomes_stable()
 /// - `stable`: in the end the group is stable for each.
 /// - `own`: each works on exactly what the rebalance's table gives its node.
 /// - `only`: whatever process works, and has its lease, is one of theirs, on a partition that the table gives its node.
+///
+/// There is a run in which a member is ready (`some`).
 pub fn round_from_any_run()
     ensures part { (happenings : List Happening) (R : Run) (p : ℕ) (m : MemberState) → HasRun happenings R
         → (at : HasMember R p m) → IsPartOf R at.name m }
@@ -217,4 +219,6 @@ pub fn round_from_any_run()
         → IsRoundFrom start xs w more last → WorksNow last p y
         → (x : Passage) × Contains xs x × HasMember last p x.last
         × GivesTo (table_of w) y.partition x.last.terms.node }
+    ensures some { (happenings : List Happening) × (R : Run) × (ms : List MemberState) × HasRun happenings R
+        × AreReady R ms × (length ms ≡ 1) }
 {}

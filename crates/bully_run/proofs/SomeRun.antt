@@ -39,7 +39,7 @@ terms = record { epoch = 0; node = 1; rows_max = 100; old = None; is_cooperative
 abbrev number : ℕ → ℕ
 number i = suc i
 
-abbrev deed : Deed
+abbrev pub deed : Deed
 deed = record { silent = λ i. false; seen = λ i. None; events = []; setup = setup; number = number; plan = record { planner = 0; table = []; token = 0 }; begun = [] }
 
 -- The member, after each call.
@@ -56,7 +56,7 @@ m2 = snapshot_read m1 1 0 [] false false None []
 abbrev m3 : MemberState
 m3 = noted m2 1 false (Step.Ask (Request.Acquire (session_by 0 1) 0))
 
-abbrev m4 : MemberState
+abbrev pub m4 : MemberState
 m4 = answered m3 2 StoreAnswer.Done
 
 -- The store, after each.
@@ -73,20 +73,20 @@ s2 = store_told s1 0 m1 (SnapshotRead 1 0 [] false false)
 abbrev s3 : Store
 s3 = store_by s2 0 m2 (Step.Ask (Request.Acquire (session_by 0 1) 0)) deed
 
-abbrev s4 : Store
+abbrev pub s4 : Store
 s4 = with_lease s3 0 (Some (record { session = id_of (session_by 0 1); promised = nothing_in 0 0 }))
 
 -- What it sees, as long as it has learned nothing.
 
-abbrev sight : Sight
+abbrev pub sight : Sight
 sight = record { is_stable = false; are_down = true; may_go_on = true; has_all = true }
 
-idle : (k : ℕ) → works_at (Activity.Idle ∷ []) k ≡ true → ⊥
+pub idle : (k : ℕ) → works_at (Activity.Idle ∷ []) k ≡ true → ⊥
 idle zero is = absurd (cc is)
 idle (suc k) is = absurd (cc is)
 
 -- all nodes are Down at first
-all_down : (r : ReplicaState) → r ≡ first_replica header → IsStable r [] 0
+pub all_down : (r : ReplicaState) → r ≡ first_replica header → IsStable r [] 0
 all_down r is = subst (λ x. IsStable x [] 0) (sym is) (record {
   nodes = λ i node. record { normal = λ has. absurd (none has); led = λ has. absurd (none has); down = λ apart. down i };
   plan = λ some. absurd (some refl);
@@ -98,7 +98,7 @@ all_down r is = subst (λ x. IsStable x [] 0) (sym is) (record {
     down : (i : ℕ) → (vector (world_of (first_replica header).world) i).status ≡ Down
     down i = subst (λ (w : World). (vector w i).status ≡ Down) (sym (first_is setup)) (ap (λ (x : NodeState). x.vector.status) (first_node_state setup i))
 
-not_stable : (m : MemberState) → replica_of m ≡ first_replica header → SeesStable m → ⊥
+pub not_stable : (m : MemberState) → replica_of m ≡ first_replica header → SeesStable m → ⊥
 not_stable m learned stable =
     let none : token_of (replica_of m).last ≡ 0 = ap (λ (r : ReplicaState). token_of r.last) learned in
     let low = stable.behind in

@@ -2,6 +2,7 @@ use Rattle.bully_round.proofs.AcceptedLemmas.{accepts_lem}
 use Rattle.bully_round.proofs.CalledLemmas.{called_lem}
 use Rattle.bully_round.proofs.FromLemmas.{does_lem, grown_lem, in_run_lem, part_lem, same_lem, view_lem}
 use Rattle.bully_round.proofs.FromRound.{longer_lem, only_lem, own_from_lem, round_lem, stable_from_lem, turns_from_lem, view_of_ready}
+use Rattle.bully_round.proofs.SomeReady.{some_ready_lem}
 use Rattle.bully_round.proofs.round_from_any_run.Goals as goal
 use Rattle.bully_round.specs.Progress.{IsCalm}
 
@@ -49,3 +50,6 @@ returns-clause-only c = only_lem
 
 pub returns-clause-accepted : goal.returns-clause-accepted
 returns-clause-accepted c = accepts_lem
+
+pub returns-clause-some : goal.returns-clause-some
+returns-clause-some c = some_ready_lem
