@@ -32,7 +32,7 @@ from .monitor import judge
 from .soaking import Recorded
 
 NODES, PARTITIONS = 3, 6
-SOON = 15.0  # seconds that anything may take here: with a bug it may never come
+SOON, END = 10.0, 5.0  # seconds that a change may take here, and the end: with a bug they may never come
 
 
 def words() -> argparse.Namespace:
@@ -135,7 +135,7 @@ class Trial:
 
     def end(self) -> None:
         """All leave in order."""
-        end = time.monotonic() + SOON
+        end = time.monotonic() + END
         for member in self.group.members.values():
             member.terminate()
         for name, member in self.group.members.items():
