@@ -1,8 +1,8 @@
 """Tries the premises of drivers in a short run of processes: three members over a file, or over a server of etcd, whose
 acts are written down and judged (`monitor.py`).
 
-    tests/members/run premises LIBRARY_FOLDER [--store sqlite|etcd] [--ttl SECONDS] [--cooperative] [--kind KIND]
-        [--folder FOLDER]
+    tests/members/run premises LIBRARY_FOLDER [--store sqlite|etcd] [--ttl SECONDS] [--patience SECONDS] [--cooperative]
+        [--kind KIND] [--folder FOLDER]
 
 LIBRARY_FOLDER is what `bin/library` wrote. Each kind of act occurs: members start, and end in order; the store is silent
 for so long that requests aren't answered; a member is stopped for longer than its lease lasts, and one is killed; and
@@ -27,12 +27,11 @@ from pathlib import Path
 
 from .acts import PREMISES, Act, act_of
 from .etcd_servers import PROGRAM, Server, Servers
-from .groups import KINDS, NAMES, Group, add_modes, init_words
+from .groups import KINDS, NAMES, PATIENCE, Group, add_modes, init_words
 from .monitor import judge
 from .soaking import Recorded
 
 NODES, PARTITIONS = 3, 6
-SOON, END = 10.0, 5.0  # seconds that a change may take here, and the end: with a bug they may never come
 
 
 def words() -> argparse.Namespace:
@@ -40,6 +39,9 @@ def words() -> argparse.Namespace:
     parser.add_argument('library', type=Path)
     parser.add_argument('--store', choices=['sqlite', 'etcd'], default='sqlite')
     parser.add_argument('--ttl', type=float, default=2.0, help='no less than 2 with etcd')
+    parser.add_argument(
+        '--patience', type=float, default=PATIENCE, help='seconds that a change may take: with a bug it may never come'
+    )
     add_modes(parser)
     parser.add_argument('--folder', type=Path, help='keep the log, the work and the acts there')
     return parser.parse_args()
@@ -89,9 +91,9 @@ def see_acts(group: Group, occur: Collection[str]) -> None:
 class Trial:
     """A group to which all happens once."""
 
-    def __init__(self, group: Group, be_silent: Callable[[float], object]) -> None:
-        """The store can be silent for so many seconds."""
-        self.group, self.be_silent = group, be_silent
+    def __init__(self, group: Group, be_silent: Callable[[float], object], patience: float) -> None:
+        """The store can be silent for so many seconds. A change may take so many."""
+        self.group, self.be_silent, self.patience = group, be_silent, patience
 
     def run(self) -> None:
         """One after the other, as long as the group becomes stable in time."""
@@ -104,13 +106,13 @@ class Trial:
         for what, change in changes:
             change()
             if not self.is_settled():
-                self.group.count(False, f'{what}: not stable in {SOON:g} s')
+                self.group.count(False, f'{what}: not stable in {self.patience:g} s')
                 break
         self.end()
 
     def is_settled(self) -> bool:
         """Waits until the group is stable, and works."""
-        end = time.monotonic() + SOON
+        end = time.monotonic() + self.patience
         return self.group.stay_stable(0.0, end) is not None and self.group.goes_on(end) is not None
 
     def stop(self, name: str) -> None:
@@ -126,7 +128,7 @@ class Trial:
         """The nodes get other numbers, in a new epoch."""
         file = self.group.configured(NAMES[1:NODES] + NAMES[0], PARTITIONS)
         with contextlib.suppress(subprocess.TimeoutExpired):
-            self.group.command('resize', '--config', str(file)).wait(SOON)
+            self.group.command('resize', '--config', str(file)).wait(self.patience)
 
     def kill(self, name: str) -> None:
         member = self.group.members.pop(name)
@@ -135,7 +137,7 @@ class Trial:
 
     def end(self) -> None:
         """All leave in order."""
-        end = time.monotonic() + END
+        end = time.monotonic() + self.patience
         for member in self.group.members.values():
             member.terminate()
         for name, member in self.group.members.items():
@@ -180,7 +182,7 @@ def tried_in(folder: Path, options: argparse.Namespace) -> Group:
         assert isinstance(group.work, Recorded)
         closing.callback(group.work.close)
         closing.callback(group.close)
-        Trial(group, be_silent).run()
+        Trial(group, be_silent, options.patience).run()
         see_acts(group, occurring(options))
     return group
 
