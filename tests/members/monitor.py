@@ -306,7 +306,7 @@ class Judge:
             self._see_start(course, act, act.more['token'], act.more['partitions'])
 
     def _tells(self, course: Course, act: Act) -> None:
-        process, more = course.processes[act.more['process']], act.more
+        process, more = course.processes.setdefault(act.more['process'], Process(set())), act.more
         if 'begin' in more:
             process.partitions |= set(more['partitions'])
             self._see_start(course, act, more['begin'], more['partitions'])
@@ -314,8 +314,10 @@ class Judge:
             process.stops.append(set(process.partitions if more['stop'] is True else more['stop']))
 
     def _heard(self, course: Course, act: Act) -> None:
-        process = course.processes[act.more['process']]
-        process.partitions -= process.stops.pop(0)
+        """The next stop is answered. An answer to none ends no work."""
+        process = course.processes.get(act.more['process'])
+        if process is not None and process.stops:
+            process.partitions -= process.stops.pop(0)
 
     def _says(self, course: Course, act: Act) -> None:
         self.hold('HasEnded', not act.more['there'], act, 'processes are left')

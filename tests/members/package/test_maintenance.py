@@ -2,6 +2,7 @@
 from __future__ import annotations
 
 import logging
+import random
 import threading
 import unittest
 from collections.abc import Callable
@@ -180,6 +181,28 @@ class Values(unittest.TestCase):
         leases = adapter.Leases()
         for holder in (Holder(A, WORKS), Holder(B, WORKS), Holder(B, IDLE), Holder(B, IDLE, (3,)), Holder(A, IDLE, (3,))):
             self.assertEqual(leases.of({'a': holder}, {'a': 1}), (Lease(1, *holder),))
+
+    def test_leases_in_any_order(self) -> None:
+        """They are those of the nodes that hold leases now, in rising order, whatever was there before."""
+        choice, some_numbers = random.Random(1), [dict(zip(names, range(1, 5))) for names in ('abcd', 'dca', 'bdc')]
+        promised: list[tuple[Promise, tuple[int, ...]]] = [(WORKS, ()), (IDLE, ()), (IDLE, (2,)), (IDLE, (1, 3))]
+        some_holders = [Holder(session, *each) for session in (A, B) for each in promised]
+        leases, numbers = adapter.Leases(), some_numbers[0]
+        holders: dict[str, Holder] = {}
+        leaving: frozenset[str] = frozenset()
+        for _ in range(3000):
+            kind, name = choice.choice(['holds', 'goes', 'leaves', 'numbers', 'nothing']), choice.choice('abcdx')
+            if kind == 'holds':
+                holders = {**holders, name: choice.choice(some_holders)}
+            elif kind == 'goes':
+                holders = {each: holder for each, holder in holders.items() if each != name}
+            elif kind == 'leaves':
+                leaving ^= {name}
+            elif kind == 'numbers':
+                numbers = choice.choice(some_numbers)
+            there = [Lease(numbers[each], *holders[each], each in leaving) for each in holders if each in numbers]
+            there.sort(key=lambda lease: lease.node)
+            self.assertEqual(leases.of(holders, numbers, leaving), tuple(there))
 
     def test_waits(self) -> None:
         """An unknown process must go before all can be idle, so nobody waits until all are; and a member that needs no

@@ -1,5 +1,5 @@
 """Tests of the monitor, by acts that are written here: each premise of `crates/bully_run/specs/Run.antt` is broken by
-some of them, and by nothing else."""
+some of them, which break no other one."""
 from __future__ import annotations
 
 import json
@@ -186,6 +186,8 @@ BROKEN: dict[str, dict[str, Acts]] = {
         'the worker is there': other({111: {'there': [501]}}, without(110)),
         'a unit goes on': [*LAWFUL, act(116, 'unit', partition=1, token=TOKEN, begun=105)],
         'a stop that is not answered': [*LAWFUL, *(each for each in TALK if each.at not in (105, 109))],
+        'an answer to no stop': [*LAWFUL, *(each for each in TALK if each.at != 104)],
+        'a worker whose start is not known': [*LAWFUL, *(each for each in TALK if each.at not in (71, 104))],
     },
     'Starts': {
         'a number of another process': [*LAWFUL, started(11, 'n', 7, 'b', 2)],

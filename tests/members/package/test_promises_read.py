@@ -26,6 +26,7 @@ class Noting(Troubled):
     def __init__(self, opening: Opening) -> None:
         super().__init__(opening)
         self.snapshots: list[tuple[threading.Thread, bool]] = []
+        self.sessions: Sessions = {}  # by which a wait was begun last
 
     def snapshot(self, epoch: int, offset: int, promise_of: str | None = None) -> Snapshot:
         found = super().snapshot(epoch, offset, promise_of)
@@ -36,6 +37,7 @@ class Noting(Troubled):
         self, epoch: int, offset: int, sessions: Sessions, until: Until, seconds: float, wake: int | None = None
     ) -> None:  # fmt: skip
         end, wanted, before = time.monotonic() + seconds, self._seen.wanted, self._seen.holders
+        self.sessions = sessions
         while time.monotonic() < end and not sleep_until_ready(0.0, wake):
             super().wait(epoch, offset, sessions, until, end - time.monotonic(), wake)
             if self.has_news(epoch, offset, sessions, wanted, until, before):
@@ -87,6 +89,20 @@ class PromisesRead(Grouped):
             thread.join()
 
         self.assertEqual(self.reads(log, leave), {'a': low, 'b': low, 'c': high})
+
+    def test_which_sessions_are_known(self) -> None:
+        """A wait is begun by the sessions that the last snapshot showed, also if the same nodes held leases before: else
+        it would be over at once."""
+        log = self.begin_log(COOPERATIVE)
+        self.come('a', TTL)
+        wait_until(lambda: self.is_shared(['a']))
+        before, after = Session(8, 1), Session(8, 2)
+        assert log.acquire('b', before, Promise(1, len(log.rows)), LONG)
+        wait_until(lambda: log.sessions.get('b') == before)
+        with log._changed:
+            log.release('b', before)
+            assert log.acquire('b', after, Promise(1, len(log.rows)), LONG)
+        wait_until(lambda: log.sessions.get('b') == after, 15)
 
     def test_who_becomes_the_highest(self) -> None:
         """It reads promises at once, and not only when its lease has to be renewed: one of another node, which keeps

@@ -22,6 +22,8 @@ from .laws import Laws
 from .races import race, race_of_promises
 from .wait_laws import Waits
 
+POLLS = 10  # of a file, after which each wait has the longest pause between two
+
 
 class InMemory(Laws, unittest.TestCase):
     """The laws of a log in memory."""
@@ -131,15 +133,16 @@ class WaitsInFile(WithLogs, Waits):
             self.assertEqual(sleeps[0], sqlite.SHORTEST_SLEEP)
 
     def test_pace_of_many(self) -> None:
-        """If there are more leases than MANY, each wait polls so much less often: three times for three times MANY."""
+        """If there are more leases than MANY, each wait polls so much less often: three times for three times MANY. The
+        wait isn't for a time, since a busy machine could use that up before the longest pause."""
         log, other = self.pair()
         for name in ('1', '2', '3'):
             self.assertTrue(other.acquire(name, A, EMPTY, self.LONG))
         sessions = log.snapshot(1, 0).sessions
         for many, times in ((4, 1), (3, 1), (1, 3)):
-            no_sleep = mock.patch.object(sqlite, 'sleep_until_ready', return_value=[])
+            no_sleep = mock.patch.object(sqlite, 'sleep_until_ready', side_effect=[*[[]] * POLLS, [0]])
             with mock.patch.object(sqlite, 'MANY', many), no_sleep as sleep:
-                log.wait(1, 0, sessions, Until.NEWS, 10 * sqlite.LONGEST_SLEEP)
+                log.wait(1, 0, sessions, Until.NEWS, PATIENCE)
             longest = max(call.args[0] for call in sleep.call_args_list)
             self.assertAlmostEqual(longest, times * sqlite.LONGEST_SLEEP)
 
