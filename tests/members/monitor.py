@@ -204,7 +204,8 @@ class Judge:
             self._enter(course, act, opening)
 
     def _stopped(self, course: Course, act: Act) -> None:
-        self._see_ended(course, act, 'HasEnded', set(course.works))
+        everywhere = set(course.works).union(*(process.partitions for process in course.processes.values()))
+        self._see_ended(course, act, 'HasEnded', everywhere)
 
     def _stopped_on(self, course: Course, act: Act) -> None:
         self._see_ended(course, act, 'HasEndedOn', {act.more['partition']})
