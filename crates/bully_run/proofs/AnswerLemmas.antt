@@ -8,7 +8,9 @@ use Rattle.bully_member.specs.declared.values.Promise.{Promise}
 use Rattle.bully_member.specs.declared.values.Request.{Request}
 use Rattle.bully_member.specs.declared.values.SessionId.{SessionId}
 use Rattle.bully_member.specs.declared.values.SessionState.{SessionState}
+use Rattle.bully_member.specs.declared.values.Step.{Step}
 use Rattle.bully_member.specs.declared.values.StoreAnswer.{StoreAnswer}
+use Rattle.bully_run.specs.Calls.{AsksFor}
 
 -- Whichever way a test goes, and whether or not an answer counts.
 
@@ -48,73 +50,76 @@ abbrev pub Awaited : (Request → ℕ → Type 0) → Option Asked → Type 0
 Awaited asks None = Unit {0}
 Awaited asks (Some asked) = asks asked.request asked.at
 
-abbrev pub IsTold : (SessionId → ℕ → Type 0) → (Request → ℕ → Type 0) → (m after : MemberState) → Type 0
-IsTold counts asks m after = IsReported m after × (after.needs_snapshot ≡ false → m.needs_snapshot ≡ false) × Counts counts after.session × Awaited asks after.asked
+-- if the answer is that it is done, this is said of the lease that was asked for
+abbrev pub Grants : (SessionId → ℕ → Type 0) → StoreAnswer → Request → ℕ → Type 0
+Grants counts answer request at = (session : SessionId) → answer ≡ StoreAnswer.Done → AsksFor session (Step.Ask request) → counts session at
 
--- if a request for a lease says what is said of the lease
-module _ (counts : SessionId → ℕ → Type 0) (asks : Request → ℕ → Type 0) (acquires : (session : SessionId) (offset at : ℕ) → asks (Request.Acquire session offset) at → counts session at)
-    (renews : (session : SessionId) (at : ℕ) → asks (Request.Renew session) at → counts session at) where
+-- then it awaits this
+abbrev pub IsTold : (SessionId → ℕ → Type 0) → Option Asked → (m after : MemberState) → Type 0
+IsTold counts asked m after = IsReported m after × (after.needs_snapshot ≡ false → m.needs_snapshot ≡ false) × Counts counts after.session × (after.asked ≡ asked)
+
+module _ (counts : SessionId → ℕ → Type 0) where
   abbrev Has : MemberState → Type 0
-  Has m = Counts counts m.session × Awaited asks m.asked
+  Has m = Counts counts m.session
 
   abbrev Is : (m after : MemberState) → Type 0
-  Is m after = IsTold counts asks m after
+  Is m after = IsTold counts m.asked m after
 
   never : (b : Bool) → true ≡ false → b ≡ false
   never b is = absurd (cc is)
 
   stays : (m : MemberState) → Has m → Is m m
-  stays m has = (refl, (λ fresh. fresh), has.0, has.1)
+  stays m has = (refl, (λ fresh. fresh), has, refl)
 
   again : (m : MemberState) → Has m → Is m (to_snapshot m)
-  again m has = (refl, never m.needs_snapshot, has.0, has.1)
+  again m has = (refl, never m.needs_snapshot, has, refl)
 
   over : (m : MemberState) → Has m → Is m (to_end_session m)
-  over m has = (refl, never m.needs_snapshot, tt, has.1)
+  over m has = (refl, never m.needs_snapshot, tt, refl)
 
-  acquired_told : (m : MemberState) (now : ℕ) (answer : StoreAnswer) (session : SessionId) (offset at : ℕ) → Has m → counts session at → Is m (when_acquired m now answer session offset at)
-  acquired_told m now StoreAnswer.Done session offset at has count = (refl, never m.needs_snapshot, count, has.1)
+  acquired_told : (m : MemberState) (now : ℕ) (answer : StoreAnswer) (session : SessionId) (offset at : ℕ) → Has m → (answer ≡ StoreAnswer.Done → counts session at) → Is m (when_acquired m now answer session offset at)
+  acquired_told m now StoreAnswer.Done session offset at has count = (refl, never m.needs_snapshot, count refl, refl)
   acquired_told m now StoreAnswer.Refused session offset at has count = again m has
-  acquired_told m now StoreAnswer.Unanswered session offset at has count = (refl, never m.needs_snapshot, tt, has.1)
+  acquired_told m now StoreAnswer.Unanswered session offset at has count = (refl, never m.needs_snapshot, tt, refl)
 
-  renewed_told : (m : MemberState) (now : ℕ) (answer : StoreAnswer) (session : SessionId) (at : ℕ) → Has m → counts session at → Is m (when_renewed m now answer session at)
-  renewed_told m now StoreAnswer.Done session at has count = (refl, (λ fresh. fresh), count, has.1)
+  renewed_told : (m : MemberState) (now : ℕ) (answer : StoreAnswer) (session : SessionId) (at : ℕ) → Has m → (answer ≡ StoreAnswer.Done → counts session at) → Is m (when_renewed m now answer session at)
+  renewed_told m now StoreAnswer.Done session at has count = (refl, (λ fresh. fresh), count refl, refl)
   renewed_told m now StoreAnswer.Refused session at has count = over m has
-  renewed_told m now StoreAnswer.Unanswered session at has count = (refl, (λ fresh. fresh), has.0, has.1)
+  renewed_told m now StoreAnswer.Unanswered session at has count = (refl, (λ fresh. fresh), has, refl)
 
-  when_told : (m : MemberState) (now : ℕ) (answer : StoreAnswer) (request : Request) (at : ℕ) → Has m → asks request at → Is m (when_answered m now answer request at)
-  when_told m now answer (Request.Acquire session offset) at has asked = acquired_if (Is m) m.session m _ (stays m has) (acquired_told m now answer session offset at has (acquires session offset at asked))
-  when_told m now answer (Request.Renew session) at has asked = renewed_if (Is m) m.session m _ (stays m has) (renewed_told m now answer session at has (renews session at asked))
-  when_told m now StoreAnswer.Done (Request.Release session) at has asked = over m has
-  when_told m now StoreAnswer.Refused (Request.Release session) at has asked = over m has
-  when_told m now StoreAnswer.Unanswered (Request.Release session) at has asked = (refl, never m.needs_snapshot, tt, has.1)
-  when_told m now answer Request.Snapshot at has asked = (refl, (λ fresh. fresh), has.0, has.1)
-  when_told m now StoreAnswer.Done (Request.Promise session offset) at has asked = (refl, (λ fresh. fresh), has.0, has.1)
-  when_told m now StoreAnswer.Refused (Request.Promise session offset) at has asked = again m has
-  when_told m now StoreAnswer.Unanswered (Request.Promise session offset) at has asked = (refl, never m.needs_snapshot, has.0, has.1)
-  when_told m now StoreAnswer.Done (Request.Append offset) at has asked = again m has
-  when_told m now StoreAnswer.Refused (Request.Append offset) at has asked = again m has
-  when_told m now StoreAnswer.Unanswered (Request.Append offset) at has asked = (refl, never m.needs_snapshot, has.0, has.1)
-  when_told m now StoreAnswer.Done (Request.RollOver offset) at has asked = (refl, (λ fresh. fresh), has.0, has.1)
-  when_told m now StoreAnswer.Refused (Request.RollOver offset) at has asked = again m has
-  when_told m now StoreAnswer.Unanswered (Request.RollOver offset) at has asked = (refl, never m.needs_snapshot, has.0, has.1)
-  when_told m now answer Request.Follow at has asked = (refl, (λ fresh. fresh), has.0, has.1)
+  when_told : (m : MemberState) (now : ℕ) (answer : StoreAnswer) (request : Request) (at : ℕ) → Has m → Grants counts answer request at → Is m (when_answered m now answer request at)
+  when_told m now answer (Request.Acquire session offset) at has grants = acquired_if (Is m) m.session m _ (stays m has) (acquired_told m now answer session offset at has (λ done. grants session done refl))
+  when_told m now answer (Request.Renew session) at has grants = renewed_if (Is m) m.session m _ (stays m has) (renewed_told m now answer session at has (λ done. grants session done refl))
+  when_told m now StoreAnswer.Done (Request.Release session) at has grants = over m has
+  when_told m now StoreAnswer.Refused (Request.Release session) at has grants = over m has
+  when_told m now StoreAnswer.Unanswered (Request.Release session) at has grants = (refl, never m.needs_snapshot, tt, refl)
+  when_told m now answer Request.Snapshot at has grants = (refl, (λ fresh. fresh), has, refl)
+  when_told m now StoreAnswer.Done (Request.Promise session offset) at has grants = (refl, (λ fresh. fresh), has, refl)
+  when_told m now StoreAnswer.Refused (Request.Promise session offset) at has grants = again m has
+  when_told m now StoreAnswer.Unanswered (Request.Promise session offset) at has grants = (refl, never m.needs_snapshot, has, refl)
+  when_told m now StoreAnswer.Done (Request.Append offset) at has grants = again m has
+  when_told m now StoreAnswer.Refused (Request.Append offset) at has grants = again m has
+  when_told m now StoreAnswer.Unanswered (Request.Append offset) at has grants = (refl, never m.needs_snapshot, has, refl)
+  when_told m now StoreAnswer.Done (Request.RollOver offset) at has grants = (refl, (λ fresh. fresh), has, refl)
+  when_told m now StoreAnswer.Refused (Request.RollOver offset) at has grants = again m has
+  when_told m now StoreAnswer.Unanswered (Request.RollOver offset) at has grants = (refl, never m.needs_snapshot, has, refl)
+  when_told m now answer Request.Follow at has grants = (refl, (λ fresh. fresh), has, refl)
 
-  pub answered_told : (m : MemberState) (now : ℕ) (answer : StoreAnswer) → Counts counts m.session → Awaited asks m.asked → IsTold counts asks m (answered m now answer)
-  answered_told m now answer count awaits = by_asked m.asked awaits
+  pub answered_told : (m : MemberState) (now : ℕ) (answer : StoreAnswer) → Counts counts m.session → Awaited (Grants counts answer) m.asked → IsTold counts None m (answered m now answer)
+  answered_told m now answer has grants = by_asked m.asked refl grants
     where
-      by_asked : (asked : Option Asked) → Awaited asks asked → Is m (answered_by m now answer asked)
-      by_asked None asks_it = stays m (count, awaits)
-      by_asked (Some asked) asks_it = when_told (record m { asked = None }) now answer asked.request asked.at (count, tt) asks_it
+      by_asked : (asked : Option Asked) → m.asked ≡ asked → Awaited (Grants counts answer) asked → IsTold counts None m (answered_by m now answer asked)
+      by_asked None is grants_it = (refl, (λ fresh. fresh), has, is)
+      by_asked (Some asked) is grants_it = when_told (record m { asked = None }) now answer asked.request asked.at has grants_it
 
-  pub own_told : (m : MemberState) (state : SessionState) (here : Option Lease) → Counts counts m.session → Awaited asks m.asked → IsTold counts asks m (own_by m state here)
-  own_told m SessionState.Absent here count awaits = stays m (count, awaits)
-  own_told m (SessionState.Unknown session) here count awaits = stays m (count, awaits)
-  own_told m (SessionState.Live session since) here count awaits = by_own (own_promise m session here)
+  pub own_told : (m : MemberState) (state : SessionState) (here : Option Lease) → Counts counts m.session → IsTold counts m.asked m (own_by m state here)
+  own_told m SessionState.Absent here has = stays m has
+  own_told m (SessionState.Unknown session) here has = stays m has
+  own_told m (SessionState.Live session since) here has = by_own (own_promise m session here)
     where
       by_own : (own : Option (Promise × Bool)) → Is m (own_by_promise m own)
-      by_own None = over m (count, awaits)
-      by_own (Some own) = (refl, (λ fresh. fresh), count, awaits)
+      by_own None = over m has
+      by_own (Some own) = (refl, (λ fresh. fresh), has, refl)
 
 -- whatever is said of these
 any_count : (state : SessionState) → Counts (λ session since. Unit {0}) state
@@ -122,12 +127,12 @@ any_count SessionState.Absent = tt
 any_count (SessionState.Unknown session) = tt
 any_count (SessionState.Live session since) = tt
 
-any_asked : (asked : Option Asked) → Awaited (λ request at. Unit {0}) asked
-any_asked None = tt
-any_asked (Some asked) = tt
+any_granted : (answer : StoreAnswer) (asked : Option Asked) → Awaited (Grants (λ session since. Unit {0}) answer) asked
+any_granted answer None = tt
+any_granted answer (Some asked) = λ session done asks. tt
 
 pub answered_reported : (m : MemberState) (now : ℕ) (answer : StoreAnswer) → IsReported m (answered m now answer)
-answered_reported m now answer = (answered_told (λ session since. Unit {0}) (λ request at. Unit {0}) (λ session offset at asked. tt) (λ session at asked. tt) m now answer (any_count m.session) (any_asked m.asked)).0
+answered_reported m now answer = (answered_told (λ session since. Unit {0}) m now answer (any_count m.session) (any_granted answer m.asked)).0
 
 pub own_reported : (m : MemberState) (state : SessionState) (here : Option Lease) → IsReported m (own_by m state here)
-own_reported m state here = (own_told (λ session since. Unit {0}) (λ request at. Unit {0}) (λ session offset at asked. tt) (λ session at asked. tt) m state here (any_count m.session) (any_asked m.asked)).0
+own_reported m state here = (own_told (λ session since. Unit {0}) m state here (any_count m.session)).0

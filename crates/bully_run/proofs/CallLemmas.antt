@@ -29,8 +29,8 @@ use Rattle.bully_replica.specs.declared.row_replica.LearnFault.{LearnFault}
 use Rattle.bully_rows.specs.Headers.{Record}
 use Rattle.bully_rows.specs.declared.header.Header.{Header}
 use Rattle.bully_rows.specs.declared.trace.Row.{Row}
-use Rattle.bully_run.proofs.AnswerLemmas.{Awaited, Counts, IsTold, answered_told, if_is, own_told}
-use Rattle.bully_run.specs.Calls.{Call, Next, Answered, Learn, SnapshotRead, SnapshotLost, Followed, NotThere, Passed, Woke, Leave, Broken, Lost, Stopped, StoppedOn, GoesNext, GoesOnLearning, HasLived, IsBehind, IsMadeFor, IsSameTime, Lives, Made, NumbersLast, Takes, made_by, made_in, session_now, with_made}
+use Rattle.bully_run.proofs.AnswerLemmas.{Awaited, Counts, Grants, IsReported, answered_told, if_is, own_told}
+use Rattle.bully_run.specs.Calls.{AsksFor, Call, Next, Answered, Learn, SnapshotRead, SnapshotLost, Followed, NotThere, Passed, Woke, Leave, Broken, Lost, Stopped, StoppedOn, GoesNext, GoesOnLearning, HasLived, IsBehind, IsMadeFor, IsSameTime, Lives, Made, NumbersLast, Takes, made_by, made_in, session_now, with_made}
 use Rattle.bully_trace.specs.Verdict.{IsJudged, events_of}
 use Rattle.bully_trace.proofs.JudgeLemmas.{events-append}
 use Rattle.bully_work.specs.Store.{Promised, nothing_in}
@@ -55,13 +55,27 @@ AsksOwn own asked = Awaited (λ request at. IsOwnRequest own request) asked
 
 -- by an answer, and by what a snapshot shows of its lease
 abbrev pub IsOwnTold : SessionId → (m after : MemberState) → Type 0
-IsOwnTold own m after = IsTold (λ session since. session ≡ own) (λ request at. IsOwnRequest own request) m after
+IsOwnTold own m after = IsReported m after × (after.needs_snapshot ≡ false → m.needs_snapshot ≡ false) × IsOwnSession own after.session × AsksOwn own after.asked
+
+own_asked : (own session : SessionId) (request : Request) → IsOwnRequest own request → AsksFor session (Step.Ask request) → session ≡ own
+own_asked own session (Request.Acquire other offset) is asks = sym asks ∙ is
+own_asked own session (Request.Renew other) is asks = sym asks ∙ is
+own_asked own session (Request.Release other) is asks = absurd asks
+own_asked own session Request.Snapshot is asks = absurd asks
+own_asked own session (Request.Promise other offset) is asks = absurd asks
+own_asked own session (Request.Append offset) is asks = absurd asks
+own_asked own session (Request.RollOver offset) is asks = absurd asks
+own_asked own session Request.Follow is asks = absurd asks
+
+own_granted : (own : SessionId) (answer : StoreAnswer) (asked : Option Asked) → AsksOwn own asked → Awaited (Grants (λ session since. session ≡ own) answer) asked
+own_granted own answer None is = tt
+own_granted own answer (Some asked) is = λ session done asks. own_asked own session asked.request is asks
 
 pub answered_own : (own : SessionId) (m : MemberState) (now : ℕ) (answer : StoreAnswer) → IsOwnSession own m.session → AsksOwn own m.asked → IsOwnTold own m (answered m now answer)
-answered_own own m now answer = answered_told (λ session since. session ≡ own) (λ request at. IsOwnRequest own request) (λ session offset at is. is) (λ session at is. is) m now answer
+answered_own own m now answer is asks = let told = answered_told (λ session since. session ≡ own) m now answer is (own_granted own answer m.asked asks) in (told.0, told.1, told.2, subst (AsksOwn own) (sym told.3) tt)
 
 pub shown_own : (own : SessionId) (m : MemberState) (state : SessionState) (here : Option Lease) → IsOwnSession own m.session → AsksOwn own m.asked → IsOwnTold own m (own_by m state here)
-shown_own own m state here = own_told (λ session since. session ≡ own) (λ request at. IsOwnRequest own request) (λ session offset at is. is) (λ session at is. is) m state here
+shown_own own m state here is asks = let told = own_told (λ session since. session ≡ own) m state here is in (told.0, told.1, told.2, subst (AsksOwn own) (sym told.3) asks)
 
 abbrev pub session_by : (process tries : ℕ) → SessionId
 session_by process tries = record { process = process; number = tries }

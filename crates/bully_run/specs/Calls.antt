@@ -1,6 +1,7 @@
 -- A member that runs: calls on its value, one after the other, and what it promises by them.
 use Rattle.std.specs.Prelude.{◌≡◌, ◌<◌, ◌-◌, ◌^◌, ◌++◌, ◌⊎◌, ℕ, Bool, true, List, [], ◌∷◌}
 use Rattle.std.specs.Prelude.{Option, None, Some, Result}
+use Rattle.std.specs.List.{AllByRecursion}
 use Rattle.bully_member.specs.Asking.{promise_of}
 use Rattle.bully_member.specs.Due.{Sees, due, noted}
 use Rattle.bully_member.specs.Keeping.{Awaits, Keeps, WorksOnlyIfSure}
@@ -131,6 +132,26 @@ abbrev pub AsksFor : SessionId → Step → Type 0
 AsksFor session (Step.Ask (Request.Acquire other offset)) = other ≡ session
 AsksFor session (Step.Ask (Request.Renew other)) = other ≡ session
 AsksFor session _ = ⊥
+
+-- the call may come between a request for a lease and its answer: it asks for nothing, and doesn't end that request
+abbrev pub IsBetween : Call → Type 0
+IsBetween (Next now (Step.Ask request)) = ⊥
+IsBetween (Answered now answer) = ⊥
+IsBetween (SnapshotLost now leases) = ⊥
+IsBetween Passed = ⊥
+IsBetween other = Unit {0}
+
+-- by these calls the store has granted the lease of this session, as it was asked for at that time: a step asked for it,
+-- or to renew it, and the first answer after that, before any other request, says that this is done
+pub record IsGranted (calls : List Call) (session : SessionId) (since : ℕ) : Type 0 where
+  pub first : List Call
+  pub step : Step
+  pub waits : List Call
+  pub now : ℕ
+  pub rest : List Call
+  pub order : calls ≡ first ++ (Next since step ∷ waits) ++ (Answered now StoreAnswer.Done ∷ rest)
+  pub asks : AsksFor session step
+  pub between : AllByRecursion IsBetween waits
 
 -- the promise reaches less far than the plan of this token of this epoch
 abbrev pub IsBehind : Promised → (epoch token : ℕ) → Type 0

@@ -14,8 +14,8 @@ ghost use Rattle.bully_member.specs.declared.values.SessionId.{SessionId as Sess
 ghost use Rattle.bully_member.specs.declared.values.SessionState.{SessionState};
 ghost use Rattle.bully_member.specs.declared.values.Step.{Step as StepState};
 ghost use Rattle.bully_rebalance.specs.Acting.{IsReachedBy};
-ghost use Rattle.bully_run.specs.Calls.{AsksFor, Call, GoesNext, GoesOnLearning, HasLived, IsBehind, IsMadeFor};
-ghost use Rattle.bully_run.specs.Calls.{IsSameTime, Made, Next, NumbersLast, Takes, session_now};
+ghost use Rattle.bully_run.specs.Calls.{Call, GoesNext, GoesOnLearning, HasLived, IsBehind, IsGranted, IsMadeFor};
+ghost use Rattle.bully_run.specs.Calls.{IsSameTime, Made, NumbersLast, Takes, session_now};
 ghost use Rattle.bully_run.specs.Run.{AllEager, BeginsWhileSure, Deed, Goes, Happening, Happens, HasRun, Process, Run, WorksNow};
 ghost use Rattle.bully_run.specs.Run.{id_of, piece_of, session_by};
 ghost use Rattle.bully_work.specs.Working.{GivesTo};
@@ -43,7 +43,7 @@ use std::io::Read;
 ///   promised that.
 /// - `starts`: a new session has promised nothing before, and then the offset at which its lease is asked for.
 /// - `counts`: if it has its lease, that counts from a call at which it asked for it, or to renew it, and not from the
-///   answer.
+///   answer. The answer to that request was that it is done: it is the first after it, before any other request.
 ///
 /// The one premise is that no number of a session is used twice (`NumbersLast`): a process has 2^64 of them.
 pub fn forgets_no_promise()
@@ -71,8 +71,7 @@ pub fn forgets_no_promise()
         → (session ≡ session_now after) × (after.promised ≡ offset)
         × ((p : Made) → Contains made p → p.session ≡ session → ⊥) }
     ensures counts { (calls : List Call) (m : MemberState) (made : List Made) (session : SessionIdState) (since : ℕ)
-        → HasLived calls m made → m.session ≡ SessionState.Live session since
-        → (step : StepState) × Contains calls (Next since step) × AsksFor session step }
+        → HasLived calls m made → m.session ≡ SessionState.Live session since → IsGranted calls session since }
 {}
 
 /// The law of members that run. A *run* is a list of what happens to processes with members and to the store that they
