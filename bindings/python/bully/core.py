@@ -57,8 +57,8 @@ class Lease:
     is_leaving: bool = False
 
     @cached_property
-    def raw(self) -> bytes:
-        """The same for the library, but for the partitions."""
+    def _raw(self) -> bytes:
+        """The same for the library, but for the partitions that it keeps. It is made once."""
         return bytes(_raw_lease(self))
 
 
@@ -277,7 +277,7 @@ def _raw_lease(lease: Lease) -> ctypes.Structure:
 
 def _raw_leases(leases: Sequence[Lease]) -> tuple[object, ...]:
     """These leases, and the partitions that they keep, as four arguments of the library."""
-    raw = (RAW_LEASE * len(leases)).from_buffer_copy(b''.join([lease.raw for lease in leases]))
+    raw = (RAW_LEASE * len(leases)).from_buffer_copy(b''.join([lease._raw for lease in leases]))
     return raw, len(leases), *numbers_of('a partition', chain.from_iterable([lease.kept for lease in leases]))
 
 
