@@ -143,12 +143,19 @@ typedef struct bully_verdict {
  * BULLY_NULL; BULLY_OUT_OF_MEMORY; BULLY_BAD_HEADER, BULLY_BAD_ROW, BULLY_TOO_MANY_ROWS: the first in the trace. */
 bully_status bully_check(const uint8_t *trace, size_t length, bully_verdict *verdict);
 
-/* The header of a trace of this setup, with its line end: of version 1 if that can express the setup, and else of
- * version 2, as `docs/FORMATS.md` says. A header doesn't have events_max: the bound of a trace is BULLY_EVENTS_MAX.
+/* The header of a trace of this setup for the rows of replicas, with its line end: of version 1 if that can express the
+ * setup, and else of version 2, as `docs/FORMATS.md` says. A header doesn't have events_max: the bound of a trace is
+ * BULLY_EVENTS_MAX.
  * BULLY_NULL, BULLY_BAD_NODES, BULLY_BAD_PARTITIONS, BULLY_BAD_LIMIT, BULLY_BAD_WEIGHTS, BULLY_OUT_OF_MEMORY;
  * BULLY_SHORT, with the length. */
 bully_status bully_header(const bully_setup *setup, const uint16_t *weights, size_t weight_count, char *row,
                           size_t room, size_t *length);
+
+/* The header of version 3 of the same, for the rows of bully_agent_rows and bully_agent_claim.
+ * BULLY_NULL, BULLY_BAD_NODES, BULLY_BAD_PARTITIONS, BULLY_BAD_LIMIT, BULLY_BAD_WEIGHTS, BULLY_OUT_OF_MEMORY;
+ * BULLY_SHORT, with the length. */
+bully_status bully_detailed_header(const bully_setup *setup, const uint16_t *weights, size_t weight_count, char *row,
+                                   size_t room, size_t *length);
 
 /* ---- Configurations ---- */
 
@@ -286,8 +293,9 @@ bully_status bully_agent_show(bully_agent *agent, bully_state *state);
 bully_status bully_agent_up(bully_agent *agent, uint16_t *nodes, size_t room, size_t *count);
 /* The owners of its task; a count of 0: it has none. BULLY_NULL, BULLY_CLOSED; BULLY_SHORT, with the count. */
 bully_status bully_agent_task(bully_agent *agent, uint16_t *owners, size_t room, size_t *count);
-/* The rows of its last step, for the log, each with its line end, in version 3 of `docs/FORMATS.md`; a length of 0: it
- * took no step since it was opened. BULLY_NULL, BULLY_CLOSED, BULLY_OUT_OF_MEMORY; BULLY_SHORT, with the length. */
+/* The rows of its last step, each with its line end, for a log that starts with what bully_detailed_header writes: they
+ * are of version 3 of `docs/FORMATS.md`. A length of 0: it took no step since it was opened. BULLY_NULL, BULLY_CLOSED,
+ * BULLY_OUT_OF_MEMORY; BULLY_SHORT, with the length. */
 bully_status bully_agent_rows(bully_agent *agent, char *rows, size_t room, size_t *length);
 /* The row that says all of its vector, with its line end.
  * BULLY_NULL, BULLY_CLOSED, BULLY_OUT_OF_MEMORY; BULLY_SHORT, with the length. */
@@ -628,9 +636,10 @@ bully_status bully_member_is_affected(bully_member *member, uint16_t node, uint3
  * BULLY_NULL, BULLY_CLOSED. */
 bully_status bully_member_is_stable(bully_member *member, uint32_t *is_stable);
 /* Whether the next snapshot must show what others have promised. In an eager group it must. In a cooperative group it
- * must if no higher node is live, or if the group isn't stable for the member and its turn to change the log has come.
- * Otherwise these promises may be left out: the member does the same. A snapshot may change what this call gives; if
- * that is 1 after one that left promises out, the member needs another one. `needs_promises` gets 1, or else 0.
+ * must if no higher node is live, or if the group isn't stable for the member and its turn to change the log has come,
+ * or while the member keeps out a node that came again. Otherwise these promises may be left out: the member does the
+ * same. A snapshot may change what this call gives; if that is 1 after one that left promises out, the member needs
+ * another one. `needs_promises` gets 1, or else 0.
  * BULLY_NULL, BULLY_CLOSED. */
 bully_status bully_member_needs_promises(bully_member *member, uint64_t now, uint32_t *needs_promises);
 

@@ -1,6 +1,7 @@
 """The library for C: the proved functions of crates/bully_c, the layer of C before them, and nothing else that links with more than the
 C library. What it exports is what bully.h declares. Its folder has the layout of what is handed out: include/, lib/, and in lib/ by what
 pkg-config and CMake find it."""
+import contextlib
 import os
 import shlex
 import shutil
@@ -8,7 +9,7 @@ import subprocess
 import sys
 import tempfile
 from pathlib import Path
-from typing import Callable, Dict, List
+from typing import Callable, Dict, List, Optional
 
 from .crates import ARCHIVES, ROOT, Stopped, find_kit, read_crates, version_of_all, words_to_build
 from .exports import text_of_exports, write_exports
@@ -30,9 +31,14 @@ SOURCE = ARCHIVE.with_suffix('.exports')  # (of what made it)
 COMPILER = shlex.split(os.environ.get('CC') or 'cc')
 
 
-def must(words: List[str], folder: Path = ROOT) -> None:
-    if subprocess.run(words, cwd=folder, stdin=subprocess.DEVNULL, stdout=sys.stderr).returncode:
-        raise Stopped(f'it was not built: {Path(words[0]).name} failed')
+def must(words: List[str], folder: Path = ROOT, log: Optional[Path] = None) -> None:
+    """Runs these words. What they print goes into the log, which is named if they fail, or else on standard error."""
+    with contextlib.ExitStack() as closing:
+        out = closing.enter_context(log.open('wb')) if log else None
+        errors = subprocess.STDOUT if log else None
+        status = subprocess.run(words, cwd=folder, stdin=subprocess.DEVNULL, stdout=out or sys.stderr, stderr=errors).returncode
+    if status:
+        raise Stopped(f'it was not built: {Path(words[0]).name} failed' + (f'; {log} has what it printed' if log else ''))
 
 
 def proved_archive(say: Say) -> Path:
@@ -50,22 +56,24 @@ def make_archive(building: Building) -> None:
     crate, text = building.crate, building.made_of[building.crate.name]
     if not is_made_of(crate.product, text):
         build_all(building)
-    keep(archive_over('built'), text, [building.crates[name] for name in crate.all])
+    keep(archive_over('built', building.say), text, [building.crates[name] for name in crate.all])
 
 
-def gated_archive(_: Say) -> Path:
+def gated_archive(say: Say) -> Path:
     """The same over the crates as the gate left them."""
-    return archive_over('rlib')
+    return archive_over('rlib', say)
 
 
-def archive_over(part: str) -> Path:
+def archive_over(part: str, say: Say) -> Path:
     """Builds the static library of the functions for C over the libraries in this part."""
     crates, kit = read_crates(), find_kit()
     drop(ARCHIVE)
     with tempfile.TemporaryDirectory() as room:
         exports = write_exports(crates['bully_c'], Path(room))
         words = [*words_to_build(kit, crates, exports, part), '--jobs', str(all_jobs()), '-o', str(ARCHIVE)]
-        must([f'{kit}/bin/rattle', 'build', *words], exports.folder)
+        log = ARCHIVE.with_suffix('.log')
+        say(f'builds the functions for C over these crates; {log} has what the prover prints')
+        must([f'{kit}/bin/rattle', 'build', *words], exports.folder, log)
         shutil.copyfile(exports.folder / 'src' / 'lib.rt', SOURCE)
     return ARCHIVE
 

@@ -87,7 +87,8 @@ def build_all(building: Building) -> None:
     length, new = chains(crates, crate), sum(not (crates[name].folder / 'out' / 'incremental').exists() for name in due)
     # (25 s for each from nothing, 10 s over what an earlier build kept, two minutes to compile and link; three times as much on a slow machine)
     minutes = -(-(120 + 10 * len(due) + 15 * new) // 60)
-    say(f'proves and builds {crate.name}: {len(due)} of {len(crate.all)} crates, {new} of them from nothing; {minutes} to {3 * minutes} min on four cores')
+    say(f'proves and builds {crate.name}: {len(due)} of {len(crate.all)} crates, {new} of them from nothing; '
+        f'{minutes} to {3 * minutes} min on four cores that do nothing else')
     for number, name in enumerate(run_beside(needs, length, building.build, building.children), 1):
         say(f'{number} of {len(due)} crates proved after {building.minutes()}: {name}')
         if name == 'bully_trace' and crate.name == 'bully':

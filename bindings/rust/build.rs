@@ -19,7 +19,7 @@ const HEADER: &str = "bully.h";
 const HOW_TO_FIND: &str = "\
 set BULLY_LIBRARY to the folder that has it:
     that of an archive cinnabarloom-VERSION-x86_64-linux, or
-    FOLDER, behind `bin/library FOLDER` in the repository of Cinnabarloom.
+    FOLDER, after `bin/library FOLDER` in the repository of Cinnabarloom.
 For example: BULLY_LIBRARY=/opt/cinnabarloom cargo build";
 
 fn main() {

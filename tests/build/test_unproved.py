@@ -125,7 +125,8 @@ class Unproved(unittest.TestCase):
         first, second = (self.tree.call('library', '--unproved', str(folder)) for _ in range(2))
         self.assertEqual((first.returncode, first.stdout, second.returncode), (0, '', 0), first.stderr)
         self.assertEqual((files_of(folder), self.tree.begun()), (LAYOUT, ['try']))
-        self.assertIn('library: builds it without its proofs, in about two minutes. So this library is not proved: bin/library proves', first.stderr)
+        said = 'library: builds it without its proofs, in about two minutes of processor time. So this library is not proved: bin/library proves'
+        self.assertIn(said, first.stderr)
         self.assertNotIn('proof', second.stderr)
 
     def test_the_library_waits_for_another_call_that_builds(self) -> None:

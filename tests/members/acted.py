@@ -10,12 +10,21 @@ import os
 import time
 from contextlib import suppress
 
+from bully.clocks import nanoseconds_of_boot
+
+# The kernel's clock of leases. `clock_rate.c` shows it so, and has a process's own clock run at another rate.
+KERNELS = time.CLOCK_BOOTTIME if 'CLOCK_RATE' not in os.environ else 9
 FOLDER, OF = 'ACTS_FOLDER', 'ACTS_OF'  # of the environment: where acts are kept, and of which member's process they are
 
 
 def moment() -> int:
-    """The clock of leases on one machine."""
-    return time.clock_gettime_ns(time.CLOCK_BOOTTIME)
+    """By the kernel's clock of leases, whatever that of this process shows."""
+    return time.clock_gettime_ns(KERNELS)
+
+
+def reading() -> list[int]:
+    """What the clock of this process shows, between two moments."""
+    return [moment(), nanoseconds_of_boot(), moment()]
 
 
 class Pen:
@@ -37,7 +46,7 @@ class Pen:
 
     def note(self, kind: str, at: int, **more: object) -> None:
         """An act of this kind, done at that moment."""
-        text = json.dumps({'at': at, 'member': self.member, 'kind': kind, **more})
+        text = json.dumps({'at': at, 'member': self.member, 'kind': kind, **more, 'shows': reading()})
         os.write(self.file, f'{text}\n'.encode())
 
 

@@ -16,7 +16,7 @@ from functools import partial
 from pathlib import Path
 from typing import Any
 
-from bully import command, member, worker
+from bully import command, driver, member, worker
 from bully.core import Ask, Begin, Core, CoreOpening, Live, Promise, Request, Seen, Session, Step, StoreAnswer
 from bully.epochs import Opening, Token
 from bully.faults import BullyError
@@ -61,7 +61,8 @@ class ActedCore(Core):
 
     def __init__(self, opening: CoreOpening, process: int, ttl: int) -> None:
         super().__init__(opening, process, ttl)
-        note('starts', moment(), process=process, name=ActedMember.acts_for, **shown_opening(opening), **self._now())
+        about = shown_opening(opening)
+        note('starts', moment(), process=process, name=ActedMember.acts_for, ttl=ttl, **about, **self._now())
 
     def _now(self) -> Told:
         """The epoch, the end of its log, until when the lease is sure, and the number of the session that is live."""
@@ -208,7 +209,7 @@ def main() -> int:
     os.environ[FOLDER], os.environ[OF] = sys.argv[1], f'{os.getpid()}-{moment()}'
     pens.append(Pen())
     worker.WATCHDOG = WATCHDOG
-    setattr(member, 'Core', ActedCore)
+    setattr(driver, 'Core', ActedCore)
     setattr(command, 'Member', ActedMember)
     return command.main(sys.argv[2:])
 

@@ -1,5 +1,6 @@
 """The watchdog of a member whose acts are written down: `bully.watchdog`, which also writes down the workers that it
-starts, what these are told and answer, and the ends that it reports (`acts.py`).
+starts, what these are told and answer, the ends that it reports, and that a member is gone before its lease is released
+(`acts.py`).
 """
 from __future__ import annotations
 
@@ -18,10 +19,11 @@ if __name__ == '__main__':  # `bully` without its __init__, as in the watchdog i
     sys.modules['bully'] = alone
     sys.path.append(str(TESTS))
 
-from bully import watchdog
+from bully import releasing, watchdog
 
 from members.acted import Pen, living_below, moment
 
+RELEASE = releasing.release
 pen: Pen  # of this process, once it runs
 keepers: list[ActedKeeper] = []  # the last one is that of this process, if it is one
 
@@ -73,8 +75,15 @@ class ActedKeeper(watchdog.Keeper):
         super().say(word, *more, name=name)
 
 
+def release(told: bytes, seconds: float) -> None:
+    """Releases the lease of a member that is gone."""
+    pen.note('gone', moment(), there=living_below(os.getpid()))
+    RELEASE(told, seconds)
+
+
 if __name__ == '__main__':
     pen = Pen()
     setattr(watchdog, 'Worker', ActedWorker)
     setattr(watchdog, 'Keeper', ActedKeeper)
+    setattr(releasing, 'release', release)
     watchdog.main()

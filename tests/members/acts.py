@@ -7,10 +7,12 @@ An act is a line of JSON: `at`, a moment by CLOCK_BOOTTIME; `member`, the proces
   member, each with what these are then: `in` which epoch, the `end` of its log, until when the lease is `sure`, and the
   number of the session that is `live`. `acting.py` writes these, and
 - `asks`, `gave`: a call of the log, and what came of it;
-- `runs`, `tells`, `heard`, `says`: a worker starts, is told a line, has answered a stop; an end is reported to the
-  member. `acting_watchdog.py` writes these;
+- `runs`, `tells`, `heard`, `says`, `gone`: a worker starts, is told a line, has answered a stop; an end is reported to
+  the member; the member is gone, and its lease is about to be released. `acting_watchdog.py` writes these;
 - `unit`: a unit of work that is over, or whose worker was killed in it. `recorder.py` writes it;
-- `kept`: an epoch, as the store has it in the end. `premises.py` writes it.
+- `kept`: an epoch, as the store has it in the end, and whether that is a file. `premises.py` writes it.
+
+Those of a member and of its watchdog also have what the clock of their process `shows`, and moments before and after.
 """
 from __future__ import annotations
 
@@ -21,7 +23,7 @@ from collections.abc import Callable, Iterable, Mapping, Sequence
 from dataclasses import dataclass
 from typing import Any, NamedTuple
 
-# The premises, by their names in `crates/bully_run/specs/Run.antt`; after those two on which BeginsWhileSure rests.
+# The premises, by their names in `crates/bully_run/specs/Run.antt` and `crates/bully_clock/specs/Timed.antt`.
 PREMISES = {
     'IsEpochOf': 'what a member is told of an epoch is what the store has, and the number of its node there',
     'AreRowsOf': 'the rows that it is told are the next ones of the log of its epoch',
@@ -30,6 +32,13 @@ PREMISES = {
     'WritesAsKnown': 'an append has the rows of the rules, and names the leases that the member was shown',
     'ClosesAsKnown': 'the end of an epoch spares only whom the change does not affect; names have one node each',
     'BeginsWhileSure': 'work starts only while the lease is sure, and as long as it is the store keeps it',
+    'NeverBack': 'the clock of a process never goes back',
+    'KeepsUp': 'while a clock of the store counts a ttl, that of a process counts at least four fifths of that',
+    'EndsNoSooner': 'the store ends no lease that is not released sooner than a ttl after it was granted last',
+    'HasNoWork': 'nothing of the work of a process is left when its lease is released because it is gone',
+    'IsTrueAnswer': 'an acquire or a renewal is reported as done only if the store has done it since it was requested',
+    'ShowsAsked': 'a snapshot shows no session of the process of its member that this has not asked for',
+    'WorksInTime': 'work ends no later after its lease was sure than the clock of its process keeps up by',
     'MayStart': 'work starts only after the rules say so, where they say it, by that token',
     'HasEnded': 'work has ended before that is reported',
     'HasEndedOn': 'work on a partition has ended before that is reported',
@@ -78,6 +87,7 @@ class Verdict:
     kinds: Counter[str]
     judged: Counter[str]
     refused: list[Refusal]
+    late: list[int]  # how many nanoseconds after its lease was sure a watchdog ended work, in order
 
     def never(self) -> list[str]:
         """The premises that no act was judged by."""
@@ -87,7 +97,11 @@ class Verdict:
         kinds = ', '.join(f'{count} {kind}' for kind, count in sorted(self.kinds.items()))
         judged = ', '.join(f'{premise} {self.judged[premise]}' for premise in PREMISES)
         total = sum(self.kinds.values()), sum(self.judged.values())
-        return f'{total[0]} acts ({kinds}), judged {total[1]} times ({judged}): {len(self.refused)} refused'
+        told = f'{total[0]} acts ({kinds}), judged {total[1]} times ({judged}): {len(self.refused)} refused'
+        if not self.late:
+            return told
+        median, worst = self.late[len(self.late) // 2] / 1e6, self.late[-1] / 1e6
+        return f'{told}; {len(self.late)} times work was late: {median:.1f} ms, at most {worst:.1f}'
 
 
 # ---- What is known of the store, by all acts
@@ -133,6 +147,7 @@ class Store:
 
     def __init__(self, acts: Sequence[Act]) -> None:
         self.epochs = {act.more['epoch']: act.more for act in acts if act.kind == 'kept'}
+        self.is_file = all(each.get('is_file', True) for each in self.epochs.values())
         self.promised: dict[str, int] = {}  # when a lease with this promise was first requested
         self.rolled: dict[int, int] = {}  # when the end of this epoch was first requested
         appends: dict[int, list[Append]] = defaultdict(list)

@@ -5,7 +5,7 @@ from __future__ import annotations
 from collections.abc import Iterable, Sequence
 
 from bully import Replica, Status
-from bully.core import Core, CoreOpening, Seen, Session
+from bully.core import Core, CoreOpening, Promise, Seen, Session
 from .judged import table_of
 from .rebalanced import REBALANCE, is_stable
 
@@ -42,7 +42,8 @@ class Expected:
         return {node for node in self.group if is_new and self.replica.state(node).status is Status.DOWN}
 
     def _admitted(self, now: int) -> list[int]:
-        """Which live nodes are admitted now: those that are up in the log, or whose session has stayed long enough."""
+        """Which live nodes are admitted now: those that are up in the log, or whose session has stayed long enough; all, while a change is under way,
+        since a node that is up has promised the end of the log."""
         passed = self._passed()
         for lease in self.seen.leases:
             session, first, stay = self.arrivals.get(lease.node, (None, 0, 0))
@@ -52,11 +53,17 @@ class Expected:
                 again = session is not None and now - first < 60 * self.ttl
                 self.arrivals[lease.node] = lease.session, now, min(4 * stay, 10 * self.ttl) if again else self.ttl // 100
 
+        end = Promise(self.opening.epoch, self.replica.rows)
+        is_under_way = any(lease.promise == end and self._is_up(lease.node) for lease in self.seen.leases)
+
         def is_admitted(node: int) -> bool:
             _, first, stay = self.arrivals[node]
-            return self.replica.state(node).status is not Status.DOWN or now - first >= stay
+            return self._is_up(node) or now - first >= stay or is_under_way
 
         return [lease.node for lease in self.seen.leases if not lease.is_leaving and is_admitted(lease.node)]
+
+    def _is_up(self, node: int) -> bool:
+        return self.replica.state(node).status is not Status.DOWN
 
     @property
     def is_full(self) -> bool:

@@ -16,6 +16,7 @@ from .waiting import wait_until
 SERVERS = ('s0', 's1', 's2')
 CLIENT_PORT, PEER_PORT = 2379, 2380
 KILLS = 3  # how often a member is killed while each other fault happens once
+RETURNS = 3  # of a node, before a member is killed that then doesn't remember these
 STEADY = 1.25  # of the ttl: by then each lease has been renewed, or has ended
 
 Fault = Callable[[], None]
@@ -72,7 +73,7 @@ class Faults:
             for length in (0.5, 2.0)
         ]
         servers = [partial(self.kill_server, leads) for leads in (False, True)]
-        return [*[self.kill] * KILLS, *pauses, *servers, self.pause_servers, self.begin_unanswered]
+        return [*[self.kill] * KILLS, self.kill_again, *pauses, *servers, self.pause_servers, self.begin_unanswered]
 
     def chosen(self, count: int) -> list[Fault]:
         """So many faults: as many of each kind of the network's first, and then any."""
@@ -98,6 +99,13 @@ class Faults:
 
     def kill(self) -> None:
         self.group.kill(self.choice.choice(NAMES))
+
+    def kill_again(self) -> None:
+        """A node comes back again and again, and once more after the highest member was killed, which doesn't remember that."""
+        *others, highest = list(NAMES)
+        name = self.choice.choice(others)
+        for each in (*[name] * RETURNS, highest, name):
+            self.group.kill(each)
 
     def pause(self, whom: str, length: float) -> None:
         before = len(self.group.work.faults('old'))

@@ -19,7 +19,7 @@ from bully.shared_log import Log, Unanswered
 from bully.store_options import store_of
 from bully.view import GroupView, LogView
 from places import PYTHON, environment
-from .processes import children, close_all, is_running, own_memory, processor_seconds, send_all, workers_of
+from .processes import close_all, guards_of, is_running, own_memory, processor_seconds, send_all, workers_of
 from .tables import kept, most_kept, owners_by_name
 from .waiting import wait_until
 
@@ -112,6 +112,10 @@ class Work:
         file = self.folder / 'faults'
         rows = file.read_text().splitlines() if file.exists() else []
         return [row for row in rows if row.startswith(f'{kind} ')]
+
+    def excused(self) -> list[str]:
+        """Faults that may be, because a premise was broken on purpose."""
+        return []
 
 
 class Group:
@@ -375,10 +379,10 @@ class Group:
     # While the group is stable, and at its end.
 
     def idle(self, seconds: float, most: float) -> None:
-        """What members that have nothing to do cost, with their watchdogs: no row, less than this percentage of a
+        """What members that have nothing to do cost, with watchdogs and keepers: no row, less than this percentage of a
         processor, and less than 24 MiB. Processes beside them can only add to that time, so the least of up to six
         spans counts for each member."""
-        processes = {name: [member.pid, *children(member.pid)] for name, member in self.members.items()}
+        processes = {name: [member.pid, *guards_of(member.pid)] for name, member in self.members.items()}
         rows, spans, shares = self.show().rows, 0, [math.inf] * len(processes)
         while spans < SPANS and max(shares) >= most:
             shares = [min(pair) for pair in zip(shares, shares_over(seconds, processes))]
@@ -444,13 +448,14 @@ class Group:
 
     def judge_work(self) -> None:
         """No overlap, and no token fell; one token is of one node."""
-        overlaps, units = self.work.faults('overlap'), 0
+        overlaps, units, excused = self.work.faults('overlap'), 0, self.work.excused()
         self.count(not overlaps, f'overlaps: {overlaps[:5]}')
         for partition in range(self.work.partitions):
             done = self.work.units(partition)
             tokens = [int(token) for token, _ in done]
             units += len(done)
-            self.count(tokens == sorted(tokens), f'a token fell on partition {partition}')
+            is_excused = any(row.split()[1] == str(partition) for row in excused)
+            self.count(tokens == sorted(tokens) or is_excused, f'a token fell on partition {partition}')
             is_single = len(set(tokens)) == len({(token, node) for token, node in done})
             self.count(is_single, f'partition {partition}: two nodes by one token')
         print(
@@ -464,11 +469,11 @@ class Group:
 
     def close(self) -> None:
         """Whatever is left is ended. A watchdog may yet release the lease of its member."""
-        watchdogs = [child for member in self.members.values() for child in children(member.pid)]
+        guards = [guard for member in self.members.values() for guard in guards_of(member.pid)]
         for member in self.members.values():
             member.kill()
             member.wait(PATIENCE)
-        wait_until(lambda: not any(map(is_running, watchdogs)))
+        wait_until(lambda: not any(map(is_running, guards)))
         self.view.close()
 
 

@@ -9,6 +9,7 @@ from typing import Protocol
 
 from bully import shared_log
 from bully.core import Promise, Session, Until
+from bully.driver import WaitForNews
 from bully.epochs import Opening
 from bully.maintenance import Maintenance
 from bully.settings import Settings
@@ -44,18 +45,6 @@ def table_of(plan: str) -> tuple[int, ...]:
     """The table of a plan's row."""
     return tuple(map(int, plan.split(',')[2].split()))
 
-
-@dataclass(frozen=True)
-class Snapshot:
-    """What a snapshot found, without its rows, and where the log ended then."""
-
-    told: shared_log.Snapshot
-    end: Promise
-
-    @cached_property
-    def sessions(self) -> dict[str, Session]:
-        """Whose sessions it found, by name."""
-        return self.told.sessions
 
 class Watchable(shared_log.Log, Protocol):
     """A log that says whether a wait is over."""
@@ -96,8 +85,9 @@ class LogStore:
         lease = self.held().get(name)
         return lease is not None and lease.session == session
 
-    def has_news(self, epoch: int, found: Snapshot, until: Until) -> bool:
-        return self.log.has_news(epoch, found.end.offset, found.sessions, found.told.wanted, until, found.told.holders)
+    def has_news(self, wait: WaitForNews, found: shared_log.Snapshot) -> bool:
+        """Whether a wait is over, after this snapshot."""
+        return self.log.has_news(wait.epoch, wait.offset, wait.sessions, found.wanted, wait.until, found.holders)
 
     # The requested settings, the maintenance, and old epochs.
 

@@ -10,11 +10,12 @@ from collections.abc import Callable
 from functools import partial
 
 from bully import operations
-from bully.core import Ask, Request
+from bully.core import Request
+from bully.driver import Call, Result
 from bully.epochs import Opening
 from bully.maintenance import Maintenance
 from .driven import Member, Wrong
-from .over_memory import LogMember, OverMemory
+from .over_memory import MemoryMember, OverMemory
 from .stabilizing import Simulation, each_mode
 from .trouble import Trouble
 
@@ -34,7 +35,7 @@ class Nothing(Trouble):
         self.nodes_least, self.nodes, self.notes_leaves = choice.choice([2, 3, 3]), 4, True
 
 
-class Mannered(LogMember):
+class Mannered(MemoryMember):
     """It notes what it asks for. Its first lease may be acquired late: only after the store was asked to release it."""
 
     simulation: Manners
@@ -43,19 +44,20 @@ class Mannered(LogMember):
         super().__init__(simulation, name, number, opening)
         self.late_acquire: Callable[[], object] | None = None
 
-    def called(self, ask: Ask) -> Callable[[], object]:
-        call = super().called(ask)
-        if ask.request is not Request.RELEASE or self.late_acquire is None:
+    def called(self, step: Call) -> Callable[[], Result]:
+        call = super().called(step)
+        if step.ask.request is not Request.RELEASE or self.late_acquire is None:
             return call
         acquire, self.late_acquire = self.late_acquire, None
         return lambda: (call(), acquire())[0]
 
-    def ask(self, ask: Ask) -> None:
-        self.simulation.asks[ask.request] += 1
-        if ask.request is Request.ACQUIRE and self.simulation.acquires_late:
-            self.simulation.acquires_late, self.late_acquire = False, self.called(ask)
+    def ask(self, step: Call) -> None:
+        request = step.ask.request
+        self.simulation.asks[request] += 1
+        if request is Request.ACQUIRE and self.simulation.acquires_late:
+            self.simulation.acquires_late, self.late_acquire = False, self.called(step)
             self.cut_until = self.simulation.now + 1
-        super().ask(ask)
+        super().ask(step)
 
 
 class Manners(OverMemory):
@@ -135,7 +137,7 @@ class Manners(OverMemory):
 
     def leave_in_one_round(self, name: str, leave: Callable[[], object]) -> None:
         """It leaves, and takes a while to stop."""
-        before, works = self.happened['an append'], self.process(name).works
+        before, works = self.happened['an append'], self.process(name).rules.works()
         self.process(name).worker.pause(self.now + self.ttl // 2)
         leave()
         self.leaver = name if works else ''

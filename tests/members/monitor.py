@@ -10,9 +10,11 @@ from dataclasses import dataclass, field
 from typing import Any
 
 from .acts import Act, Lease, Lengths, Refusal, Span, Store, Sureness, Verdict
+from .timing import Timing
 
 RULES = {'starts', 'steps', 'answered', 'learned', 'shown', 'followed', 'stopped', 'stopped_on'}
-READS = {'snapshot', 'opening'}
+OF_CLOCK = RULES | {'asks', 'gave'}  # acts by which the clock of a member is read
+READS, GRANTS = {'snapshot', 'opening'}, {'acquire', 'renew'}
 ARGUMENTS = {  # of the call of a request: those that the request decides
     'acquire': ('name', 'session', 'epoch', 'offset'), 'renew': ('name', 'session'), 'release': ('name', 'session'),
     'promise': ('name', 'session', 'epoch', 'offset', 'works'), 'append': ('epoch', 'offset'),
@@ -46,8 +48,10 @@ class Course:
     is_cooperative: bool = False
     tries: int = 0
     last: int = 0  # when it was called last
+    shown: int = 0  # what its clock showed after that
     state: Mapping[str, Any] = field(default_factory=dict)  # as the last call left it
-    latest: int = 0  # the latest moment until which its lease has been sure
+    latest: int = 0  # until when its lease has been sure at the latest, by its clock
+    ahead: int = 0  # by how much that was ahead when it was read last
     step: Act | None = None  # the request that isn't answered yet
     asks: Act | None = None  # the call of the log that is this request
     gave: Act | None = None
@@ -75,7 +79,7 @@ class Judge:
     """Judges acts, in the order of their moments."""
 
     def __init__(self, store: Store) -> None:
-        self.store, self.sureness = store, Sureness()
+        self.store, self.sureness, self.timing = store, Sureness(), Timing(store.is_file)
         self.kinds: Counter[str] = Counter()
         self.judged: Counter[str] = Counter()
         self.refused: list[Refusal] = []
@@ -94,21 +98,28 @@ class Judge:
         if act.kind in RULES - {'starts'} and not course.start:
             self.hold('Starts', False, act, 'it has not started')
             return
+        shown = act.more['shows'][1] if 'shows' in act.more else act.at
         if act.kind in RULES and 'now' in act.more:
-            is_now = course.last <= act.more['now'] <= act.at
-            self.hold('IsNow', is_now, act, f'it was called at {course.last} before')
+            is_now = course.shown <= act.more['now'] <= shown
+            self.hold('IsNow', is_now, act, f'its clock showed {course.shown} before, and {shown} after that')
         if act.kind != 'kept':
             getattr(self, f'_{act.kind}')(course, act)
+        if 'shows' in act.more and act.kind in OF_CLOCK:
+            self.timing.read(act, self.hold)
         if act.kind in RULES:
             self._see_sureness(course, act)
             course.last, course.state = act.at, act.more
+            if act.kind != 'learned':  # that and what the snapshot shows are one report, with one time
+                course.shown = shown
 
     def end(self) -> Verdict:
         """All acts were seen."""
         for course in self.courses.values():
             self._close(course, course.last)
         self.sureness.judge(self.hold)
-        return Verdict(self.kinds, self.judged, self.refused)
+        self.timing.judge(self.hold)
+        late = sorted(late for each in self.timing.late.values() for _, late in each)
+        return Verdict(self.kinds, self.judged, self.refused, late)
 
     # Calls on the rules.
 
@@ -116,6 +127,7 @@ class Judge:
         process = act.more['process']
         self.hold('Starts', process not in self.numbers, act, 'another one had this number')
         self.numbers.add(process)
+        self.timing.ttl[act.member] = self.timing.ttl[process] = act.more['ttl']
         self._close(course, act.at)
         course.start, course.state, course.tries, course.released, course.step = act.more, {}, 0, None, None
         self._enter(course, act, act.more)
@@ -158,6 +170,8 @@ class Judge:
         wanted = None
         if gave is not None and not isinstance(gave.more['result'], dict):
             wanted = {True: 'done', False: 'refused'}.get(gave.more['result'], 'unanswered')
+        if step is not None and step.more['request'] in GRANTS and act.more['answer'] == 'done':
+            self.hold('IsTrueAnswer', wanted == 'done', act, f'the request was {wanted}')
         self._see_answer(course, act, act.more['answer'] == wanted)
         if step is not None and asks is not None and wanted == 'done' and asks.more['call'] in ('acquire', 'promise'):
             more, works = step.more, step.more['works'] if asks.more['call'] == 'promise' else []
@@ -176,6 +190,8 @@ class Judge:
             self._see_answer(course, act, False)
             return
         leases = {course.named(int(node)): lease for node, lease in act.more['leases'].items()}
+        own = [lease[1] for lease in leases.values() if lease[0] == course.start['process']]
+        self.hold('ShowsAsked', max(own, default=0) <= course.tries, act, f'it has asked for {course.tries} sessions')
         there = {name: lease for name, lease in found['holders'].items() if name in course.names}
         is_same = (found['epoch'], found['rows']) == (act.more['epoch'], course.learned)
         self._see_answer(course, act, is_same and (found['is_paused'] or leases == there))
@@ -224,19 +240,20 @@ class Judge:
 
     def _see_sureness(self, course: Course, act: Act) -> None:
         """Whether the member is sure of its lease from now on."""
-        live, before = act.more['live'], course.state.get('live')
-        is_sure = live is not None and act.more['sure'] > act.at and live != course.released
-        if course.since is not None and (not is_sure or live != before or course.state['sure'] < act.at):
+        live, before, now = act.more['live'], course.state.get('live'), act.at + self.timing.ahead(act.member)
+        is_sure = live is not None and act.more['sure'] > now and live != course.released
+        if course.since is not None and (not is_sure or live != before or course.state['sure'] < now):
             self._close(course, act.at)
         if is_sure and course.since is None:
             course.since = act.at
-        course.latest = max(course.latest, act.more['sure'])
+        course.latest, course.ahead = max(course.latest, act.more['sure']), self.timing.ahead(act.member)
 
     def _close(self, course: Course, at: int) -> None:
         """What was sure is so no longer."""
         if course.since is not None:
             session = course.start['process'], course.state['live']
-            self.sureness.spans[course.name].append(Span(course.since, min(at, course.state['sure']), session))
+            until = course.state['sure'] - course.ahead
+            self.sureness.spans[course.name].append(Span(course.since, min(at, until), session))
             course.since = None
 
     # Calls of the log.
@@ -249,6 +266,9 @@ class Judge:
                 self.hold('sent_by', False, act, 'the rules do not ask for it')
             return
         course.asks = act
+        if call == 'release':
+            process, number = act.more['session']
+            self.timing.end((process, number), act.at)
         if call == 'acquire':
             course.tries += 1
             wanted = [course.start['process'], course.tries]
@@ -285,17 +305,21 @@ class Judge:
         if call == 'snapshot' and isinstance(result, dict):
             holders = {name: (lease[0], lease[1]) for name, lease in result['holders'].items()}
             self.sureness.seen.append((act, asks.at, holders))
-        elif call == 'acquire' and result is True:
-            process, number = asks.more['session']
-            self.sureness.seen.append((act, asks.at, {asks.more['name']: (process, number)}))
+            self.timing.holders(act, asks.at, holders)
+        elif call in GRANTS and result is True:
+            name, (process, number) = asks.more['name'], asks.more['session']
+            if call == 'acquire':
+                self.sureness.seen.append((act, asks.at, {name: (process, number)}))
+                self.timing.holders(act, asks.at, {name: (process, number)}, name)
+            self.timing.grant(name, (process, number), asks.at, act.at)
 
     # Workers.
 
     def _see_start(self, course: Course, act: Act, token: int, partitions: Iterable[int]) -> None:
         """Work starts on these partitions, by a token."""
-        latest = course.latest + ROUNDED
-        why = f'the lease is sure until {course.latest}'
-        self.hold('BeginsWhileSure', act.at < act.more['until'] <= latest, act, why)
+        why, until = f'the lease is sure until {course.latest}', act.more['until']
+        self.hold('BeginsWhileSure', act.at + course.ahead < until, act, why)
+        self.hold('WorksInTime', until <= course.latest + ROUNDED, act, why)
         for partition in partitions:
             work = course.works.get(partition, Work())
             is_so = work.tokens.get(token, act.at) < act.at
@@ -323,6 +347,16 @@ class Judge:
     def _says(self, course: Course, act: Act) -> None:
         self.hold('HasEnded', not act.more['there'], act, 'processes are left')
         course.processes[act.more['process']] = Process(set())
+        if act.more['word'] == 'lost':
+            shown = act.more['shows'][1] if 'shows' in act.more else act.at
+            if shown > course.latest:  # else the watchdog didn't hear of the last renewal
+                self.timing.ended_by_watchdog(act, shown - course.latest)
+
+    def _gone(self, course: Course, act: Act) -> None:
+        """The member of a watchdog is gone, whose lease is released next."""
+        self.hold('HasNoWork', not act.more['there'], act, 'processes are left')
+        if course.start:
+            self.timing.end(course.start['process'], act.at)
 
     def _unit(self, course: Course, act: Act) -> None:
         """A unit of work that was done, or that its worker was killed in."""

@@ -14,7 +14,8 @@ from typing import Deque
 
 from bully import shared_log
 from bully.clocks import SECOND
-from bully.core import Ask, Promise, Request as Asked, Until, Wait
+from bully.core import Promise, Request as Asked, Until
+from bully.driver import Call, Result, WaitForNews
 from bully.encoding import maintenance_of, session_of, unpacked
 from bully.epochs import FIRST, Opening
 from bully.etcd import WATCH_AGAIN, Part, offset_of, promise_of
@@ -26,7 +27,7 @@ from .asking import KeptLog, Pending, Request, made, opened
 from .cluster import SERVERS, Cluster, Keys, Outcome, Version, Weather, interval, weather_of
 from .driven import Member, Wrong
 from .judged import Epoch, Lease, LogStore
-from .over_memory import LogMember, OverMemory
+from .over_memory import OverMemory
 from .stabilizing import Mode
 from .trouble import Trouble
 
@@ -101,12 +102,12 @@ class EtcdStore(LogStore):
         return None if requested_settings is None else Opening.parse(requested_settings.decode()).settings
 
 
-class Call:
+class Requests:
     """A call of a log by a member, request by request."""
 
-    def __init__(self, member: EtcdMember, call: Callable[[], object], tell: Callable[[object], None]) -> None:
+    def __init__(self, member: EtcdMember, call: Callable[[], Result], tell: Callable[[Result | None], None]) -> None:
         self.member, self.call, self.tell = member, call, tell
-        self.simulation, self.asked = member.simulation, member.asked
+        self.simulation, self.asked = member.simulation, member.asked.ask if member.asked is not None else None
         self.client = member.kept.client
         self.journal = self.client.begun()
         self.awaited: Request | None = None
@@ -114,7 +115,7 @@ class Call:
     def go_on(self) -> None:
         """It goes on up to its next request, or to its end."""
         try:
-            told = self.client.attempt(self.journal, self.call)
+            told: Result | None = self.client.attempt(self.journal, self.call)
         except Pending as pending:
             self.send(pending.request)
             return
@@ -137,7 +138,7 @@ class Call:
     def depart(self, request: Request) -> None:
         simulation, member = self.simulation, self.member
         if simulation.now >= member.cut_until and not simulation.happens('a request is lost', simulation.trouble.lost):
-            simulation.after(simulation.trip(member.asked), lambda: self.arrive(request))
+            simulation.after(simulation.trip(self.asked), lambda: self.arrive(request))
         elif simulation.choice.random() < 0.5:  # there is no connection
             silent = Silent(SERVERS[request.server], 'it is not reached', may_be_done=False)
             member.soon(self.until(request.reached), lambda: self.hear(request, silent))
@@ -168,12 +169,11 @@ class Call:
             self.go_on()
 
 
-class EtcdMember(LogMember):
+class EtcdMember(Member):
     """A member whose log is in etcd."""
 
     simulation: OverEtcd
-    call_type: type[Call] = Call
-    asked: Ask | None = None
+    request_type: type[Requests] = Requests
 
     def opened(self) -> shared_log.Log:
         simulation = self.simulation
@@ -187,23 +187,20 @@ class EtcdMember(LogMember):
     def noted(self, what: str, done: bool) -> bool:
         return done  # it was, when it was done
 
-    def ask(self, ask: Ask) -> None:
-        call = self.called(ask)
-        self.turn += 1
-        turn, self.is_asking, self.asked = self.turn, True, ask
-        self.note(ask)
+    def ask(self, step: Call) -> None:
+        call = self.called(step)
+        self.note(step)
+        turn = self.turn
 
-        def answer(told: object) -> None:
+        def answer(result: Result | None) -> None:
             if turn != self.turn:
                 raise Wrong(f'{self} asks twice')
-            self.is_asking = False
-            self.tell(ask, told)
+            self.tell(step, result)
             self.go()
 
-        self.call_type(self, call, answer).go_on()
-        if ask.request is Asked.RENEW and self.simulation.happens(
-            'a pause with a renewal', self.simulation.trouble.renewal_pauses
-        ):
+        self.request_type(self, call, answer).go_on()
+        is_renewal = step.ask.request is Asked.RENEW
+        if is_renewal and self.simulation.happens('a pause with a renewal', self.simulation.trouble.renewal_pauses):
             self.simulation.pause(self)
 
 
@@ -270,8 +267,8 @@ class OverEtcd(OverMemory):
     def tell(self, member: Member) -> None:
         """By a watch, which may be late, or broken: then the member hears of the next change, or goes on when its time
         is over."""
-        wait, found = member.awaited, member.found
-        if wait is None or found is None or not self.store.has_news(member.epoch, found, wait.until):
+        wait = member.awaited
+        if wait is None or not self.store.has_news(wait, member.driver.found):
             return
         if not self.happens('a watch reports nothing', self.weather.watch_broken):
             turn, late = member.turn, self.of_etcd.uniform(0, self.weather.watch_late)
@@ -305,16 +302,14 @@ class Watched(EtcdMember):
     simulation: Watching
     watch: Subscription | None = None
     broken = 0  # when its watch broke
-    heard: Wait | None = None  # the wait for which there was no news in what was due up to now
+    heard: WaitForNews | None = None  # the wait for which there was no news in what was due up to now
 
-    def is_news(self, wait: Wait) -> bool:
+    def is_news(self, wait: WaitForNews) -> bool:
         """Whether there is what it waits for, as far as its log knows."""
-        log, found = self.kept, self.found
-        assert found is not None
-        here = Promise(self.epoch, self.offset)
-        return log._news.awaited(here, found.sessions, wait.until, log._seen_wanted, log._seen)()
+        log = self.kept
+        return log._news.awaited(self.driver.end, wait.sessions, wait.until, log._seen_wanted, log._seen)()
 
-    def hear(self, wait: Wait) -> bool:
+    def hear(self, wait: WaitForNews) -> bool:
         """Whether there is what it waits for, once what is due has been reported."""
         now, log = self.simulation.now, self.kept
         is_wide = log._is_wide_for(wait.until, len(log._news.sessions))
@@ -330,7 +325,7 @@ class Watched(EtcdMember):
             log._news.see(self.watch.events.popleft()[1])
         return True
 
-    def has_heard(self, wait: Wait) -> bool:
+    def has_heard(self, wait: WaitForNews) -> bool:
         """Whether it knows all that is due now, and that this isn't what it waits for."""
         return self.heard is wait and self.watch is not None and not self.watch.has_due(self.simulation.now)
 

@@ -25,6 +25,7 @@ from collections.abc import Callable, Collection, Iterator, Sequence
 from functools import partial
 from pathlib import Path
 
+from bully.sqlite import SqliteLog
 from .acts import PREMISES, Act, act_of
 from .etcd_servers import PROGRAM, Server, Servers
 from .groups import KINDS, NAMES, PATIENCE, Group, add_modes, init_words
@@ -34,8 +35,7 @@ from .soaking import Recorded
 NODES, PARTITIONS = 3, 6
 
 
-def words() -> argparse.Namespace:
-    parser = argparse.ArgumentParser(description=__doc__, formatter_class=argparse.RawDescriptionHelpFormatter)
+def add_words(parser: argparse.ArgumentParser) -> None:
     parser.add_argument('library', type=Path)
     parser.add_argument('--store', choices=['sqlite', 'etcd'], default='sqlite')
     parser.add_argument('--ttl', type=float, default=2.0, help='no less than 2 with etcd')
@@ -43,6 +43,11 @@ def words() -> argparse.Namespace:
         '--patience', type=float, default=PATIENCE, help='seconds that a change may take: with a bug it may never come'
     )
     add_modes(parser)
+
+
+def words() -> argparse.Namespace:
+    parser = argparse.ArgumentParser(description=__doc__, formatter_class=argparse.RawDescriptionHelpFormatter)
+    add_words(parser)
     parser.add_argument('--folder', type=Path, help='keep the log, the work and the acts there')
     return parser.parse_args()
 
@@ -64,7 +69,8 @@ def kept_of(group: Group) -> Iterator[Act]:
         for epoch in log.epochs():
             opening = log.opening(epoch)
             told = {'header': opening.header, 'names': list(opening.names), 'is_cooperative': opening.is_cooperative}
-            yield Act(0, '', 'kept', {'epoch': epoch, **told, 'rows': list(log.read(epoch, 0))})
+            rows, is_file = list(log.read(epoch, 0)), isinstance(log, SqliteLog)
+            yield Act(0, '', 'kept', {'epoch': epoch, **told, 'rows': rows, 'is_file': is_file})
 
 
 def occurring(options: argparse.Namespace) -> set[str]:
@@ -73,13 +79,16 @@ def occurring(options: argparse.Namespace) -> set[str]:
     return PREMISES.keys() - ({'HasEndedOn'} if not has_parts else set())
 
 
-def see_acts(group: Group, occur: Collection[str]) -> None:
-    """Judges what the group did, by each of these premises."""
+def see_acts(group: Group, occur: Collection[str], broken: str | None = None) -> None:
+    """Judges what the group did, by each of these premises; one may be broken on purpose."""
     verdict = judge([*acts_in(group), *kept_of(group)])
-    print(verdict)
+    print(f'{verdict}; load {os.getloadavg()[0]:.1f}')
     first = {refusal.premise: refusal for refusal in reversed(verdict.refused)}
     for refusal in first.values():
         print(f'refused, for the first time by this premise: {refusal} ({PREMISES[refusal.premise]})')
+    if broken is not None:
+        group.count(broken in first, f'no act was refused by {broken}')
+        return
     group.count(not verdict.refused, f'{len(verdict.refused)} acts were refused, by {", ".join(sorted(first))}')
     never = sorted(set(verdict.never()) & set(occur))
     group.count(not never, f'no act was judged by {", ".join(never)}')
@@ -91,9 +100,10 @@ def see_acts(group: Group, occur: Collection[str]) -> None:
 class Trial:
     """A group to which all happens once."""
 
-    def __init__(self, group: Group, be_silent: Callable[[float], object], patience: float) -> None:
-        """The store can be silent for so many seconds. A change may take so many."""
-        self.group, self.be_silent, self.patience = group, be_silent, patience
+    def __init__(self, group: Group, be_silent: Callable[[float], object], patience: float, is_lawful: bool) -> None:
+        """The store can be silent for so many seconds. A change may take so many, as long as no premise is broken on
+        purpose."""
+        self.group, self.be_silent, self.patience, self.is_lawful = group, be_silent, patience, is_lawful
 
     def run(self) -> None:
         """One after the other, as long as the group becomes stable in time."""
@@ -106,7 +116,7 @@ class Trial:
         for what, change in changes:
             change()
             if not self.is_settled():
-                self.group.count(False, f'{what}: not stable in {self.patience:g} s')
+                self.group.count(not self.is_lawful, f'{what}: not stable in {self.patience:g} s')
                 break
         self.end()
 
@@ -143,7 +153,8 @@ class Trial:
         for name, member in self.group.members.items():
             with contextlib.suppress(subprocess.TimeoutExpired):
                 member.wait(max(0.0, end - time.monotonic()))
-            self.group.count(member.returncode == 0, f'{name} ended with status {member.returncode}')
+            is_in_order = member.returncode == 0 or not self.is_lawful
+            self.group.count(is_in_order, f'{name} ended with status {member.returncode}')
 
 
 def lock(file: Path, seconds: float) -> None:
@@ -169,21 +180,24 @@ def store_in(closing: contextlib.ExitStack, folder: Path, kind: str) -> tuple[st
     return servers.address('group'), partial(pause, servers.each[0])
 
 
-def tried_in(folder: Path, options: argparse.Namespace) -> Group:
-    """All of it; no process is left."""
+def tried_in(
+    folder: Path, options: argparse.Namespace, within: Callable[[str], Sequence[str]] = lambda _: (), broken: str | None = None
+) -> Group:  # fmt: skip
+    """All of it; no process is left. Members are begun by these words. If a premise is broken on purpose, only that is
+    wanted."""
     acts = folder / 'acts'
     acts.mkdir()
     with contextlib.ExitStack() as closing:
         store, be_silent = store_in(closing, folder, options.store)
         group = Group(
-            folder, dict.fromkeys(['', *NAMES], store), options.ttl, names=NAMES[:NODES],
+            folder, dict.fromkeys(['', *NAMES], store), options.ttl, within, names=NAMES[:NODES],
             partitions=PARTITIONS, words=KINDS[options.kind], work=Recorded, init=init_words(options), acts=acts,
         )  # fmt: skip
         assert isinstance(group.work, Recorded)
         closing.callback(group.work.close)
         closing.callback(group.close)
-        Trial(group, be_silent, options.patience).run()
-        see_acts(group, occurring(options))
+        Trial(group, be_silent, options.patience, broken is None).run()
+        see_acts(group, occurring(options), broken)
     return group
 
 

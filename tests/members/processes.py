@@ -12,16 +12,17 @@ from collections.abc import Callable, Iterable
 from pathlib import Path
 from typing import NamedTuple
 
+from .waiting import wait_until
+
 TICK = 1 / os.sysconf('SC_CLK_TCK')
-PTRACE_SEIZE, WAIT_ALL = 0x4206, 0x40000000
+PTRACE_DETACH, PTRACE_SEIZE, PTRACE_INTERRUPT, WAIT_ALL = 17, 0x4206, 0x4207, 0x40000000
 frozen: set[int] = set()
 
 
 def freeze(test: unittest.TestCase, process: int) -> None:
     """The process can't be ended from now on, up to `thaw` from the same thread: a killed process stays there until its
     tracer has waited for it."""
-    traced = ctypes.CDLL(None, use_errno=True).ptrace(PTRACE_SEIZE, process, None, None)
-    test.assertEqual(traced, 0, os.strerror(ctypes.get_errno()))
+    trace(test, PTRACE_SEIZE, process)
     frozen.add(process)
     test.addCleanup(thaw, process)
 
@@ -32,6 +33,50 @@ def thaw(process: int) -> None:
         frozen.remove(process)
         os.kill(process, signal.SIGKILL)
         os.waitpid(process, WAIT_ALL)
+
+
+def trace(test: unittest.TestCase, request: int, process: int) -> None:
+    """A request of a debugger, from the same thread."""
+    traced = ctypes.CDLL(None, use_errno=True).ptrace(request, process, None, None)
+    test.assertEqual(traced, 0, os.strerror(ctypes.get_errno()))
+
+
+def halt_by_debugger(test: unittest.TestCase, process: int) -> Callable[[], object]:
+    """A debugger, which is this thread, stops a process of one thread. What continues it, if it is there."""
+    trace(test, PTRACE_SEIZE, process)
+    trace(test, PTRACE_INTERRUPT, process)
+    os.waitpid(process, WAIT_ALL)
+    return lambda: ctypes.CDLL(None).ptrace(PTRACE_DETACH, process, None, None)
+
+
+def halt_by_group(test: unittest.TestCase, process: int, kind: str) -> Callable[[], None]:
+    """A control group of its own, of this kind of file system, freezes the process. What continues it."""
+    freezers = {'cgroup': ('freezer.state', 'FROZEN', 'THAWED'), 'cgroup2': ('cgroup.freeze', '1', '0')}
+    name, froze, thawed = freezers[kind]
+    mounts = [line.split() for line in Path('/proc/self/mounts').read_text().splitlines()]
+    places = [place for _, place, system, options, *_ in mounts if system == kind and (kind == 'cgroup2' or 'freezer' in options.split(','))]
+    group = Path(places[0] if places else '/proc/none', f'bully{process}')
+    try:
+        group.mkdir(exist_ok=True)
+        (group / 'cgroup.procs').write_text(str(process))
+        (group / name).write_text(froze)
+    except OSError as fault:
+        test.skipTest(f'no control group of {kind} can be made: {fault}')
+
+    def go_on() -> None:
+        (group / name).write_text(thawed)
+
+    def remove() -> None:
+        if not group.exists():  # it was removed before
+            return
+        go_on()
+        with contextlib.suppress(ProcessLookupError):
+            os.kill(process, signal.SIGKILL)
+        wait_until(lambda: not (group / 'cgroup.procs').read_text())
+        group.rmdir()
+
+    test.addCleanup(remove)
+    return go_on
 
 
 def is_running(process: int) -> bool:
@@ -130,10 +175,19 @@ def words_of(process: int) -> bytes:
         return b''
 
 
+def keepers(watchdog: int) -> list[int]:
+    """The keepers of a watchdog, which are forks of it."""
+    return [child for child in children(watchdog) if words_of(child) == words_of(watchdog)]
+
+
 def below(watchdog: int) -> list[int]:
-    """The workers of a watchdog, also those below its keepers, which are forks of it."""
-    there = [(child, words_of(child) == words_of(watchdog)) for child in children(watchdog)]
-    return [worker for child, is_keeper in there for worker in (children(child) if is_keeper else [child])]
+    """The workers below the keepers of a watchdog, with what they left."""
+    return [worker for keeper in keepers(watchdog) for worker in children(keeper)]
+
+
+def guards_of(member: int) -> list[int]:
+    """The watchdog of a member, and its keepers."""
+    return [guard for watchdog in children(member) for guard in (watchdog, *keepers(watchdog))]
 
 
 def workers_of(member: int) -> list[Process]:
@@ -145,17 +199,18 @@ def workers_of(member: int) -> list[Process]:
 
 
 def family(member: int) -> dict[str, Process]:
-    """A `member` that has not been waited for, its `watchdog` and its first `worker`; nobody, if not all three are
-    there."""
+    """A `member` that has not been waited for, its `watchdog`, its first `worker` and the `keeper` of that; nobody, if
+    not all are there."""
     watchdogs = children(member)
     workers = [worker for watchdog in watchdogs for worker in below(watchdog)]
     if len(watchdogs) != 1 or not workers:
         return {}
     found: dict[str, Process] = {}
-    with contextlib.suppress(ProcessLookupError):
-        for name, number in (('member', member), ('watchdog', watchdogs[0]), ('worker', workers[0])):
+    with contextlib.suppress(ProcessLookupError, FileNotFoundError):
+        numbers = member, watchdogs[0], parent_of(workers[0]), workers[0]
+        for name, number in zip(('member', 'watchdog', 'keeper', 'worker'), numbers):
             found[name] = Process(number, os.pidfd_open(number))
-    if len(found) == 3 and below(watchdogs[0]) == workers and not any(each.has_ended for each in found.values()):
+    if len(found) == 4 and below(watchdogs[0]) == workers and not any(each.has_ended for each in found.values()):
         return found
     close_all(found.values())
     return {}

@@ -23,6 +23,8 @@ FOR = 60  # ttl
 MOST = (
     6  # times a member stops work because the node has come: it is admitted five times, for some later than for others
 )
+RETURNS = 4  # after which the next session of the node must stay for ten ttl, as long as others remember these
+STILL = 1.0  # ttl for which nobody works on a partition at most, though members remember differently who came
 
 
 class Restarts(Trouble):
@@ -91,3 +93,57 @@ class Restarting(OverMemory):
         self.sessions += 1
         self.begin(self.name)
         self.after(self.some(self.restarts.length) + TTL // 100, self.end_session)
+
+
+class Returns(Restarts):
+    """Nothing else goes wrong, in a group that has more nodes than that one and the one whose member forgets it."""
+
+    def __init__(self, choice: random.Random) -> None:
+        super().__init__(choice)
+        self.nodes_least = 3
+
+
+class Forgetful(OverMemory):
+    """A node that comes back a few times, and a member that starts anew, so that it doesn't remember that. It admits the node at once, and stops what
+    moves to it. The others would admit the node much later. What moves must not stand still until then."""
+
+    def __init__(self, seed: int) -> None:
+        super().__init__(seed, Returns, each_mode(seed))
+        self.is_calm = True
+        self.still: Counter[int] = Counter()  # for how many hundredths of a ttl nobody has worked on each partition
+        self.longest = 0  # of these
+
+    def run(self) -> None:
+        names = self.store.epoch.settings.names
+        for each in names:
+            self.begin(each)
+        self.become_stable()
+        name, other = self.choice.sample(names, 2)
+        forgetful = other if name == names[-1] or self.choice.random() < 0.3 else names[-1]  # mostly the highest
+        for _ in range(RETURNS):
+            self.return_once(name)
+            self.live(self.now + self.between(0.05, 0.8))
+        is_first = self.choice.random() < 0.6  # whether it forgets before the node comes once more
+        self.return_once(forgetful if is_first else name)
+        self.live(self.now + self.between(1.0, 2.0))
+        self.return_once(name if is_first else forgetful)
+        self.watch()
+        self.become_stable()
+
+    def return_once(self, name: str) -> None:
+        """The process of a node dies, and another one comes after the others have rebalanced."""
+        next(member for member in self.alive() if member.name == name).die()
+        self.live(self.now + 2 * TTL)
+        self.begin(name)
+
+    def watch(self) -> None:
+        """For as long as somebody might wait for the others to admit the node, no work stands still for long."""
+        for _ in range(12 * 100):
+            self.live(self.now + TTL // 100)
+            worked = {partition for process in self.processes() for partition in process.works}
+            for partition in range(self.store.epoch.settings.setup.partitions):
+                self.still[partition] = 0 if partition in worked else self.still[partition] + 1
+                self.longest = max(self.longest, self.still[partition])
+        self.happened['hundredths of a ttl for which work stands still at most'] += self.longest
+        if self.longest > STILL * 100:
+            raise Wrong(f'for {self.longest / 100} ttl nobody works on a partition')

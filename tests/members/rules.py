@@ -1,7 +1,7 @@
-"""Tries rebalances, how members behave where nothing goes wrong, and all states of a small store.
+"""Tries rebalances, and how members behave where nothing goes wrong.
 
-    tests/members/run rules LIBRARY_FOLDER [--rebalance COUNT] [--restarts COUNT] [--manners COUNT] [--broken SEEDS]
-        [--explore MOST]
+    tests/members/run rules LIBRARY_FOLDER [--rebalance COUNT] [--restarts COUNT] [--forgetful COUNT] [--manners COUNT]
+        [--broken SEEDS]
 
 LIBRARY_FOLDER is what `bin/library` wrote. If nothing more is said all of this is tried, in sizes for each day:
 
@@ -10,10 +10,10 @@ LIBRARY_FOLDER is what `bin/library` wrote. If nothing more is said all of this 
   rebalancer with a bug is found.
 - `--restarts`: so many groups, of which one node comes and goes again and again: how often does that stop the others'
   work?
+- `--forgetful`: so many groups, of which one node comes back again and again, and a member starts anew that doesn't
+  remember that: for how long does work stand still?
 - `--manners`: so many groups in which nothing goes wrong: how long do their members wait, and how often do they ask?
 - `--broken`: groups of the simulation, of so many seeds at most, whose workers have a bug: each is found.
-- `--explore`: all states of a small store, or so many; and the same without each of its conditions, by which a wrong
-  state must be reached.
 
 The last line is 'N passed, M failed'; the exit status is 0 if M is 0, otherwise 1.
 """
@@ -28,12 +28,11 @@ from pathlib import Path
 from counts import Counts
 from places import ROOT
 from .broken import BROKEN as BROKEN_WORKERS, found
-from .exploring import ALL, CONDITIONS, WHOLE, Bounds, Explorer
 from .manners import Manners
-from .restarting import Restarting
+from .restarting import Forgetful, Restarting
 from .rebalanced import BROKEN, prefix_cases, random_cases, try_case, wrong_answer
 
-LOGS, SETS, RESTARTS, MANNERS, SEEDS, STATES = 300, 2, 12, 12, 200, 50_000
+LOGS, SETS, RESTARTS, FORGETFUL, MANNERS, SEEDS = 300, 2, 12, 12, 12, 200
 FEW = 20  # logs, among which each rebalancer with a bug is found
 
 
@@ -56,7 +55,7 @@ def try_rebalances(counts: Counts, logs: int) -> None:
         print(f'a rebalancer that {name}: {first}'[:200])
 
 
-def try_groups(counts: Counts, group: type[Restarting] | type[Manners], last: int) -> None:
+def try_groups(counts: Counts, group: type[Restarting] | type[Forgetful] | type[Manners], last: int) -> None:
     """Groups of these seeds, and what happened to them."""
     happened: Counter[str] = Counter()
     for seed in range(1, last + 1):
@@ -75,40 +74,24 @@ def try_broken(counts: Counts, seeds: int) -> None:
         print(f'a worker that {name}: {first}'[:200])
 
 
-def explore(counts: Counts, most: int) -> None:
-    """All states of a small store."""
-    for bounds in WHOLE:
-        wrong, states = Explorer(bounds).explore(ALL)
-        count(counts, wrong or (f'more than {ALL} states' if states >= ALL else None))
-        print(f'{bounds}: {states} states, all of them')
-    wrong, states = Explorer(Bounds()).explore(most)
-    count(counts, wrong)
-    print(f'states: {states}{" and more" if states >= most else ", all of them"}')
-    for condition in CONDITIONS:
-        wrong, states = Explorer(Bounds(), condition).explore(most)
-        counts.hold(wrong is not None, f'{condition}: nothing wrong in {states} states')
-        print(f'{condition}: {wrong}')
-
-
 def words() -> argparse.Namespace:
     parser = argparse.ArgumentParser(description=__doc__, formatter_class=argparse.RawDescriptionHelpFormatter)
     parser.add_argument('library', type=Path)
-    for part in ('--rebalance', '--restarts', '--manners', '--broken'):
+    for part in ('--rebalance', '--restarts', '--forgetful', '--manners', '--broken'):
         parser.add_argument(part, type=int, metavar='COUNT')
-    parser.add_argument('--explore', type=int, metavar='MOST')
     return parser.parse_args()
 
 
 def main() -> int:
     options, counts = words(), Counts()
     os.environ['BULLY_LIBRARY'] = str(options.library.resolve())
-    is_all = not any((options.rebalance, options.restarts, options.manners, options.broken, options.explore))
+    is_all = not any((options.rebalance, options.restarts, options.forgetful, options.manners, options.broken))
     if is_all or options.rebalance:
         try_rebalances(counts, options.rebalance or LOGS)
-    if is_all or options.explore:
-        explore(counts, options.explore or STATES)
     if is_all or options.restarts:
         try_groups(counts, Restarting, options.restarts or RESTARTS)
+    if is_all or options.forgetful:
+        try_groups(counts, Forgetful, options.forgetful or FORGETFUL)
     if is_all or options.manners:
         try_groups(counts, Manners, options.manners or MANNERS)
     if is_all or options.broken:

@@ -1,6 +1,6 @@
 """Simulates groups of members by the proved rules, one for each seed, over the stores of the package.
 
-    tests/members/run simulate LIBRARY_FOLDER [--from SEED] [--to SEED | --seed SEED] [--over-etcd | --told]
+    tests/members/run simulate LIBRARY_FOLDER [--from SEED] [--to SEED | --seed SEED] [--over-etcd | --told | --careless-store]
         [--epochs | --maintenance | --trouble NAME] [--eager | --cooperative] [--kind KIND]
     tests/members/run simulate LIBRARY_FOLDER --long [CHANGES]
 
@@ -8,7 +8,8 @@ LIBRARY_FOLDER is what `bin/library` wrote. Each group must become stable once t
 be lawful, and no two members may work on one partition at one moment, but for those that were paused beyond their
 lease; and then by tokens that the resource can tell apart. The log is that of `bully.memory`; with `--over-etcd` that
 of `bully.etcd`, over an etcd whose leaders are lost; with `--told` members wait there by the package's own watch, and
-read snapshots from what it reported. Half of the groups are cooperative, and each has one of three kinds of workers
+read snapshots from what it reported; with `--careless-store` that in memory compares of an append only where the log
+ends, which must be enough, because each writer has read a snapshot (`snapshots_suffice`). Half of the groups are cooperative, and each has one of three kinds of workers
 (`whole`, `each`, `talk`), unless `--eager`, `--cooperative` or `--kind` says so. With `--epochs` logs are soon full,
 groups are resized often, and old epochs are taken away; with `--maintenance` nodes are drained, and groups are paused;
 without these a tenth of the seeds has the one, and a tenth the other; and `--trouble` names a kind of `trouble.py`.
@@ -28,7 +29,7 @@ from counts import Counts
 from .driven import Wrong
 from .long import Long
 from .over_etcd import TROUBLES_OF_ETCD, OverEtcd, Watching
-from .over_memory import TROUBLES_OF_KEPT_WORK, TROUBLES_OF_MAINTENANCE, OverMemory
+from .over_memory import TROUBLES_OF_KEPT_WORK, TROUBLES_OF_MAINTENANCE, CarelessStore, OverMemory
 from .stabilizing import Mode, Simulation
 from .trouble import BY_NAME, TROUBLES, TROUBLES_OF_COOPERATIVE, Epochs, Maintained, Trouble
 from .working import KINDS
@@ -44,6 +45,7 @@ def words() -> argparse.Namespace:
     parser.add_argument('--seed', type=int)
     parser.add_argument('--over-etcd', action='store_true')
     parser.add_argument('--told', action='store_true')
+    parser.add_argument('--careless-store', action='store_true')
     parser.add_argument('--epochs', dest='trouble', action='store_const', const=Epochs.__name__)
     parser.add_argument('--maintenance', dest='trouble', action='store_const', const=Maintained.__name__)
     parser.add_argument('--trouble', choices=BY_NAME)
@@ -61,6 +63,8 @@ def trouble_of(options: argparse.Namespace, seed: int) -> type[Trouble]:
 
 def group_of(options: argparse.Namespace, seed: int) -> Simulation:
     """The group that the words ask for, by its seed."""
+    if options.careless_store:
+        return OverMemory(seed, trouble_of(options, seed), Mode(options.is_cooperative, options.kind), CarelessStore)
     group: type[Watching | OverEtcd | OverMemory] = Watching if options.told else OverEtcd if options.over_etcd else OverMemory
     return group(seed, trouble_of(options, seed), Mode(options.is_cooperative, options.kind))
 

@@ -2,10 +2,11 @@
 workers do.
 
     tests/members/run soak LIBRARY_FOLDER [--store sqlite|etcd] [--seconds SECONDS] [--seed SEED] [--stable SHARE]
-        [--nodes COUNT] [--ttl SECONDS] [--cooperative] [--kind KIND] [--program PATH] [--folder FOLDER]
+        [--nodes COUNT] [--ttl SECONDS] [--cooperative] [--kind KIND] [--leaves WHAT] [--faults WORDS]
+        [--take-leases] [--errors SHARE] [--program PATH] [--folder FOLDER]
 
 LIBRARY_FOLDER is what `bin/library` wrote. Members, their watchdogs and their workers are killed and paused, by a seed,
-also a member with its worker and with its watchdog at one moment; so are the servers, one or all. Whatever has ended is
+also a member with its worker and with its watchdog at one moment; so are keepers; so are the servers, one or all. Whatever has ended is
 started again. After a share of the faults the group gets time to become stable, and after the others the next one
 comes. Each worker asks the recorder, a process of its own, for each unit of work (`recorder.py`). All members write down
 what they do, and at the end these acts are judged by the premises that the promises have of drivers (`monitor.py`).
@@ -13,8 +14,11 @@ what they do, and at the end these acts are judged by the premises that the prom
 Each kind of fault must be seen to happen. At the end the group must become stable, and leave in order; no unit may
 have overlapped another one, or have been requested with an old token; and the logs must be lawful, also with
 everything said if PATH is the program `bully`. First the recorder must see a worker that keeps working because member
-and watchdog are paused. The last line is 'N passed, M failed'; the exit status is 0 if M is 0, otherwise 1. With
-`--store etcd`, but without the program `etcd`, nothing is tried.
+and guards are paused. With `--take-leases` leases of etcd are also revoked, and their keys deleted: then a premise is
+broken, so faults of units within a ttl after that are counted apart, and acts aren't judged. With `--errors` a proxy
+before each server of etcd answers that share of the requests by itself, with errors and other pages. The last line is
+'N passed, M failed'; the exit status is 0 if M is 0, otherwise 1. With `--store etcd`, but without the program `etcd`,
+nothing is tried.
 """
 from __future__ import annotations
 
@@ -25,13 +29,15 @@ import random
 import signal
 import sys
 import tempfile
+from functools import partial
 from pathlib import Path
 
 from .etcd_servers import PROGRAM, Servers
 from .faults import addresses
 from .groups import KINDS, NAMES, Group, add_modes, init_words
+from .package.in_etcd import Proxy
 from .premises import occurring, see_acts
-from .soaking import Recorded, Soak, see_faults
+from .soaking import LEAVES, PREFIX, Recorded, Soak, see_faults
 
 NODES_MAX = 5
 
@@ -48,6 +54,11 @@ def words() -> argparse.Namespace:
     parser.add_argument('--nodes', type=int, choices=range(2, NODES_MAX + 1), default=NODES_MAX)
     parser.add_argument('--ttl', type=float, default=2.0)
     add_modes(parser)
+    errors = 'the share of requests that a proxy before etcd answers by itself'
+    parser.add_argument('--errors', type=float, default=0.0, metavar='SHARE', help=errors)
+    parser.add_argument('--take-leases', action='store_true', help='also take leases of etcd away, as no operator may')
+    parser.add_argument('--leaves', choices=LEAVES, default='nothing', help='what a worker leaves that dies: it works')
+    parser.add_argument('--faults', default='', metavar='WORDS', help='only the kinds of faults with these words')
     parser.add_argument('--program', type=Path, help='the program `bully`, by which the log is annotated')
     parser.add_argument('--folder', type=Path, help='keep the log and the work there')
     return parser.parse_args()
@@ -62,7 +73,14 @@ def stores_in(
         return dict.fromkeys(['', *NAMES], f'sqlite:{folder / "group.db"}'), None
     servers = Servers(3, [])
     closing.callback(servers.close)
-    return addresses(servers, 'group'), servers
+    proxies = [Proxy(server.port) for server in servers.each]
+    for proxy in proxies:
+        closing.callback(proxy.close)
+        proxy.share = options.errors
+    through = f'etcd://{",".join(proxy.endpoint for proxy in proxies)}/{PREFIX}'
+    stores = dict.fromkeys(NAMES, through) if options.errors else {}
+    closing.callback(lambda: print(f'requests that a proxy answered by itself: {sum(proxy.answered for proxy in proxies)}'))
+    return {**addresses(servers, PREFIX), **stores}, servers
 
 
 def begun(
@@ -72,8 +90,8 @@ def begun(
     acts = folder / 'acts'
     acts.mkdir(parents=True, exist_ok=True)
     group = Group(
-        folder, stores, options.ttl, names=NAMES[:nodes], words=KINDS[options.kind], work=Recorded,
-        init=init_words(options), acts=acts,
+        folder, stores, options.ttl, names=NAMES[:nodes], words=KINDS[options.kind],
+        work=partial(Recorded, leaves=options.leaves), init=init_words(options), acts=acts,
     )  # fmt: skip
     assert isinstance(group.work, Recorded)
     closing.callback(group.work.close)
@@ -83,7 +101,7 @@ def begun(
 
 def see_faults_in(folder: Path, options: argparse.Namespace) -> Group:
     """The recorder's own try, with one worker that its watchdog alone ends."""
-    options = argparse.Namespace(**{**vars(options), 'kind': 'whole'})
+    options = argparse.Namespace(**{**vars(options), 'kind': 'whole', 'leaves': 'nothing'})
     with contextlib.ExitStack() as closing:
         stores = dict.fromkeys(['', *NAMES], f'sqlite:{folder / "group.db"}')
         group = begun(closing, folder, stores, 2, options)
@@ -96,13 +114,14 @@ def soak_in(folder: Path, options: argparse.Namespace) -> Group:
     with contextlib.ExitStack() as closing:
         stores, servers = stores_in(closing, folder, options)
         group = begun(closing, folder, stores, options.nodes, options)
-        soak = Soak(group, servers, random.Random(options.seed), options.stable)
+        soak = Soak(group, servers, random.Random(options.seed), options.stable, options.take_leases, options.faults)
         closing.callback(soak.close)
         soak.run(options.seconds)
         group.end(options.program)
         soak.judge()
         soak.tell()
-        see_acts(group, occurring(options))
+        if not options.take_leases:
+            see_acts(group, occurring(options))
     return group
 
 

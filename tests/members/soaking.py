@@ -14,8 +14,9 @@ from functools import partial
 from pathlib import Path
 from typing import NamedTuple, TypeVar
 
+from bully.clocks import SECOND, seconds_of_boot
 from .etcd_servers import Server, Servers
-from .faults import STEADY
+from .faults import RETURNS, STEADY
 from .groups import HERE, NAMES, PATIENCE, Group, Work, told_seconds
 from .processes import Process, close_all, family, send_all
 from .recorder import Record, Unit
@@ -24,12 +25,20 @@ from .waiting import wait_until
 # Seconds that the group gets to become stable: a node that comes again and again is admitted later and later.
 STABLE_MAX = 12.0
 BEGIN_MAX = 1.0  # seconds after its end, within which a member is begun again
+PREFIX = 'group'  # of the log in etcd
 SLICE = 0.25  # seconds of one wait
 PART_MAX = 30.0  # seconds in which a fault must find processes that it can happen to, and must be seen
 
+# What a worker leaves that dies: nothing; a child of its process; or a daemon, which has a session of its own. What
+# follows these words works.
+LEAVES: dict[str, tuple[str, ...]] = {
+    'nothing': (), 'child': ('sh', '-c', '"$@"; exit', 'sh'),
+    'daemon': ('sh', '-c', 'setsid -f "$@"; exec sleep 100000', 'sh'),
+}  # fmt: skip
+
 # Whom a fault happens to, at one moment.
 WHOM: dict[str, tuple[str, ...]] = {
-    'a member': ('member',), 'a watchdog': ('watchdog',), 'a worker': ('worker',),
+    'a member': ('member',), 'a watchdog': ('watchdog',), 'a keeper': ('keeper',), 'a worker': ('worker',),
     'a member and its worker': ('member', 'worker'), 'a member and its watchdog': ('member', 'watchdog'),
 }  # fmt: skip
 SHORT, LONG = (0.1, 0.4), (1.5, 3.0)  # of the ttl
@@ -41,14 +50,29 @@ _Found = TypeVar('_Found')
 class Recorded(Work):
     """What the workers did, as a separate process records it."""
 
-    def __init__(self, folder: Path, partitions: int) -> None:
+    def __init__(self, folder: Path, partitions: int, leaves: str = 'nothing') -> None:
+        """`leaves` says which process works, one of `LEAVES`."""
         super().__init__(folder, partitions)
         door = folder / 'recorder'
         self.recorder = subprocess.Popen(
             [sys.executable, '-I', '-S', str(HERE / 'recorder.py'), str(door), str(folder)], stdin=subprocess.PIPE
         )
-        self.worker.append(str(door))
+        self.worker = [*LEAVES[leaves], *self.worker, str(door)]
         wait_until(door.exists)
+        self.broken: list[float] = []  # when a premise was broken on purpose, by the clock of leases
+        self.span = 0.0  # for how many seconds after that faults are counted apart
+
+    def faults(self, kind: str) -> list[str]:
+        """But for those that are counted apart."""
+        return [row for row in super().faults(kind) if not self.is_excused(row)]
+
+    def excused(self) -> list[str]:
+        return [row for row in (*super().faults('overlap'), *super().faults('old')) if self.is_excused(row)]
+
+    def is_excused(self, row: str) -> bool:
+        """Whether a unit was asked for just after a premise was broken."""
+        moment = int(row.split()[5].rstrip(':')) / SECOND
+        return any(broken <= moment < broken + self.span for broken in self.broken)
 
     def close(self) -> int:
         """Its status."""
@@ -69,8 +93,11 @@ class Later(NamedTuple):
 class Soak:
     """A group, and what happens to it. Whatever ends is started again."""
 
-    def __init__(self, group: Group, servers: Servers | None, choice: random.Random, share: float) -> None:
-        """After this share of the faults the group gets time to become stable."""
+    def __init__(
+        self, group: Group, servers: Servers | None, choice: random.Random, share: float, takes_leases: bool = False, words: str = ''
+    ) -> None:
+        """After this share of the faults, which are those whose kind has these words, the group gets time to become
+        stable. An operator takes leases of etcd away, or none does."""
         self.group, self.choice, self.share = group, choice, share
         self.names = [node.name for node in group.shown.nodes]
         self.happened: Counter[str] = Counter()
@@ -78,25 +105,28 @@ class Soak:
         self.later: list[Later] = []
         self.to_stable: list[float] = []  # how long the group took to become stable, if it did
         self.never_stable = 0
-        self.kinds: dict[str, Strike] = {
+        kinds = {
             **self.of_processes(),
             **(self.of_servers(servers) if servers is not None else {}),
+            **(self.of_operators(servers) if servers is not None and takes_leases else {}),
         }
+        self.kinds: dict[str, Strike] = {kind: strike for kind, strike in kinds.items() if words in kind}
 
     # What happens.
 
     def of_processes(self) -> dict[str, Strike]:
-        """If member and watchdog are both paused for long, no process is left that ends the worker, and then nothing is
+        """If member and keeper are both paused for long, no process is left that ends the worker, and then nothing is
         promised."""
         kinds: dict[str, Strike] = {}
         for whom, names in WHOM.items():
             kinds[f'{whom} killed'] = partial(self.strike, names, (), SHORT)
             kinds[f'{whom} paused shortly'] = partial(self.strike, (), names, SHORT)
-            if whom != 'a member and its watchdog':
-                kinds[f'{whom} paused for long'] = partial(self.strike, (), names, LONG)
+            kinds[f'{whom} paused for long'] = partial(self.strike, (), names, LONG)
         kinds['a member killed whose worker is paused'] = partial(self.strike, ('member',), ('worker',), LONG)
-        kinds['a watchdog killed whose member is paused'] = partial(self.strike, ('watchdog',), ('member',), LONG)
-        kinds['a member killed whose watchdog is paused'] = self.strike_below
+        for guard in ('watchdog', 'keeper'):
+            kinds[f'a {guard} killed whose member is paused'] = partial(self.strike, (guard,), ('member',), LONG)
+            kinds[f'a member killed whose {guard} is paused'] = partial(self.strike_below, guard)
+        kinds['a member killed again and again, and once more after the highest'] = self.strike_again
         return kinds
 
     def of_servers(self, servers: Servers) -> dict[str, Strike]:
@@ -106,6 +136,29 @@ class Soak:
             kinds[f'{what} paused'] = partial(self.strike_server, servers, leads, Server.pause, Server.resume)
         kinds['all servers paused'] = partial(self.strike_servers, servers)
         return kinds
+
+    def of_operators(self, servers: Servers) -> dict[str, Strike]:
+        return {
+            f'{what} of {whom} {how}': partial(self.take_leases, servers, whom == 'all members', how == 'revoked')
+            for whom in ('all members', 'a member') for what, how in (('leases', 'revoked'), ('keys of leases', 'deleted'))
+        }  # fmt: skip
+
+    def take_leases(self, servers: Servers, of_all: bool, are_revoked: bool) -> bool:
+        """Leases are taken away from members, which a premise forbids. Whether there were any."""
+        if not self.servers_are_up(servers):
+            return False
+        assert isinstance(self.group.work, Recorded)
+        server, work = servers.each[0], self.group.work
+        leases = [(key, pair['lease']) for key, pair in server.keys(f'{PREFIX}/lease/session/').items()]
+        work.span = self.group.ttl
+        for key, lease in leases if of_all else leases[:1]:
+            work.broken.append(seconds_of_boot())
+            if are_revoked:
+                server.ask('/v3/lease/revoke', {'ID': lease})
+            else:
+                server.delete(key)
+                server.delete(key.replace('/session/', '/promise/'))
+        return bool(leases)
 
     def strike(self, killed: Sequence[str], paused: Sequence[str], span: tuple[float, float]) -> bool:
         """These of some member are killed, and these paused for so long, at one moment. Whether that was seen."""
@@ -120,18 +173,40 @@ class Soak:
         self.do_later(self.choice.uniform(*span) * self.group.ttl if still else 0.0, partial(resume, still, there))
         return is_seen
 
-    def strike_below(self) -> bool:
-        """A watchdog is paused, and then its member is killed: so the watchdog goes on at once. Whether both were seen."""
+    def strike_below(self, name: str) -> bool:
+        """A watchdog or a keeper is paused, and then its member is killed: so it goes on at once. Whether both were
+        seen."""
         there = self.tend_until(self.some_family, PART_MAX)
         if not there:
             return False
-        member, watchdog = there['member'], there['watchdog']
-        send_all([watchdog], signal.SIGSTOP)
-        is_seen = waited(lambda: watchdog.is_stopped or watchdog.has_ended) and not watchdog.has_ended
+        member, guard = there['member'], there[name]
+        send_all([guard], signal.SIGSTOP)
+        is_seen = waited(lambda: guard.is_stopped or guard.has_ended) and not guard.has_ended
         send_all([member], signal.SIGKILL)
         is_seen &= waited(lambda: member.has_ended)
-        self.do_later(self.choice.uniform(*LONG) * self.group.ttl, partial(resume, [watchdog], there))
+        self.do_later(self.choice.uniform(*LONG) * self.group.ttl, partial(resume, [guard], there))
         return is_seen
+
+    def strike_again(self) -> bool:
+        """A node comes back again and again, and once more after the highest member was killed, which doesn't remember that.
+        Whether each death was seen, of a member that was live."""
+        *others, highest = [node.name for node in self.group.shown.nodes]
+        name = self.choice.choice(others)
+        return all(self.strike_live(each) for each in (*[name] * RETURNS, highest, name))
+
+    def strike_live(self, name: str) -> bool:
+        """The member of this node is killed, once it is live. Whether that was seen."""
+
+        def live() -> subprocess.Popen[bytes] | None:
+            member, shown = self.group.members.get(name), self.group.snapshot()
+            is_live = shown is not None and any(node.name == name and node.is_live for node in shown.nodes)
+            return member if is_live and member is not None and member.poll() is None else None
+
+        member = self.tend_until(live, PART_MAX)
+        if member is None:
+            return False
+        member.kill()
+        return member.wait(PATIENCE) == -signal.SIGKILL
 
     def some_family(self) -> dict[str, Process]:
         """Those of some member that are all there, and not paused."""
@@ -260,6 +335,9 @@ class Soak:
             print(f'{kind}: {self.happened[kind]} times')
         ended = ', '.join(f'{count} with {status}' for status, count in sorted(self.statuses.items()))
         print(f'members that ended and were begun again: {ended}')
+        assert isinstance(self.group.work, Recorded)
+        if self.group.work.broken:
+            print(f'faults just after leases were taken away: {len(self.group.work.excused())}')
         stable = f'stable after {len(self.to_stable)} faults{told_seconds("in", self.to_stable)}'
         print(f'{stable}; in {self.never_stable} waits of {STABLE_MAX:g} s not')
 
@@ -312,15 +390,15 @@ def faults_of(told: Sequence[Told]) -> list[str]:
 
 
 def see_faults(group: Group) -> None:
-    """A recorder that sees nothing would pass all: so it is given faults; and member and watchdog are paused for long,
-    so that nobody ends their worker."""
+    """A recorder that sees nothing would pass all: so it is given faults; and a member and its guards are paused for
+    long, so that nobody ends their worker."""
     for case, told, faults in CASES:
         group.count(faults_of(told) == faults, f'units {case}: {faults_of(told)}, and not {faults}')
     group.become_stable('the start', lambda: group.begin_all(NAMES[:2]))
     there = family(group.members['a'].pid)
-    paused = [there['member'], there['watchdog']]
+    paused = [there[name] for name in ('member', 'watchdog', 'keeper')]
     send_all(paused, signal.SIGSTOP)
-    group.count(waited(lambda: all(each.is_stopped for each in paused)), 'member and watchdog are not stopped')
+    group.count(waited(lambda: all(each.is_stopped for each in paused)), 'member, watchdog and keeper are not stopped')
     is_seen = waited(lambda: bool(group.work.faults('overlap') or group.work.faults('old')))
     group.count(is_seen, 'the recorder does not see that a worker works on which nobody ends')
     resume(paused, there)

@@ -26,7 +26,7 @@ from functools import partial
 from typing import NamedTuple
 
 from bully import Replica, Setup, check
-from bully.core import Ask, Session
+from bully.core import Ask, Promise, Session
 from bully.epochs import Opening, Token
 from bully.settings import Settings
 from .driven import NAMES, Member, Wrong
@@ -35,6 +35,9 @@ from .judged import Epoch, LogStore, StoreMaker, table_of
 from .rebalanced import fewest, is_stable, moves
 from .trouble import OFTEN, STABLE_WITHIN, TROUBLE_FOR, TTL, Trouble
 from .working import KINDS, Action, Process, Talk, Unit
+
+
+NEVER = 2**63  # nanoseconds
 
 
 class Mode(NamedTuple):
@@ -71,6 +74,7 @@ class Simulation:
         self.choice = random.Random(seed)
         self.trouble = trouble(self.choice)
         self.is_cooperative, kind = mode.of_seed(seed)
+        self.steps_meanwhile = random.Random(f'{seed} steps').random() < 0.3  # whether members take steps while they wait for an answer
         self.kind, self.mode = KINDS[kind], f'{"cooperative" if self.is_cooperative else "eager"}, {kind}'
         self.now, self.count, self.is_calm, self.ttl = 0, 0, False, TTL
         self.events: list[tuple[int, int, Action]] = []
@@ -86,6 +90,9 @@ class Simulation:
         self.units: set[Unit] = set()  # that there are
         self.highest: dict[int, tuple[Token, Session]] = {}  # of each partition: the token used last, and whose
         self.fence = Token(0)  # the highest token that was used
+        self.promised: set[tuple[Session, Promise]] = set()  # what sessions have asked to promise
+        self.asked: set[Promise] = set()  # where somebody who couldn't know of a pause has asked to append
+        self.halted_at = NEVER  # when the pause began
 
     # Chance and time.
 
@@ -176,10 +183,8 @@ class Simulation:
 
     def tell(self, member: Member) -> None:
         """It wakes, if what it waits for is there."""
-        wait, found = member.awaited, member.found
-        if wait is None or found is None:
-            return
-        if self.store.has_news(member.epoch, found, wait.until):
+        wait = member.awaited
+        if wait is not None and self.store.has_news(wait, member.driver.found):
             member.awaited = None
             member.later(self.some(self.trouble.trip), member.wake)
 
@@ -286,6 +291,10 @@ class Simulation:
     def begin_another(self, name: str) -> Member | None:
         """One more process for the node, if there are not two by now."""
         return self.begin(name) if sum(member.name == name for member in self.alive()) < 2 else None
+
+    def come_back(self, name: str) -> None:
+        """A process whose node is drained checks whether that is over."""
+        raise NotImplementedError
 
     def loop(self) -> None:
         """A node comes and goes a few times."""

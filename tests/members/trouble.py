@@ -16,7 +16,7 @@ TROUBLES = (
     'a request to resize is taken back', 'old epochs are taken away', 'the end of an epoch', 'an append',
     'unknown processes are seen', 'an old token is refused', 'a unit beside one that was paused beyond its lease',
     'a plan keeps to the epoch before', 'a member ends: left', 'a member ends: not there',
-    'a message of a worker is late', 'a promise comes late', 'a member notes that it leaves',
+    'a message of a worker is late', 'a promise comes late', 'a member notes that it leaves', 'work stops before an answer',
 )  # fmt: skip
 TROUBLES_OF_COOPERATIVE = (
     'work goes on over a change', 'work goes on by another token', 'a change that affects nobody', 'partitions are stopped that move',

@@ -23,7 +23,8 @@ UNIT = 0.002  # seconds that a unit of work takes
 
 folder, node, answers = sys.argv[1], os.environ['BULLY_NODE'], os.environ.get('BULLY_ANSWERS')
 member = os.environ.get('ACTS_OF', '-')  # whose acts are written down, if they are: these have the clock of leases
-clock = time.CLOCK_MONOTONIC if member == '-' else time.CLOCK_BOOTTIME
+of_leases = time.CLOCK_BOOTTIME if 'CLOCK_RATE' not in os.environ else 9  # the kernel's, as `acted.py` has it
+clock = time.CLOCK_MONOTONIC if member == '-' else of_leases
 lines = open(0, 'rb', buffering=0, closefd=False)  # so that nothing is read ahead
 token, partitions = int(os.environ.get('BULLY_TOKEN', 0)), os.environ.get('BULLY_PARTITIONS', '').split()
 recorder = socket.socket(socket.AF_UNIX, socket.SOCK_SEQPACKET)

@@ -2,8 +2,10 @@
 
     tests/members/run wrong FOLDER [WORDS ..] [--edited FOLDER] [--jobs COUNT]
                                                 plants each bug, or each whose entry has one of these words, and runs what must find it
+    tests/members/run wrong FOLDER --turn       plants the quarter that was found the longest ago, as the gate does
+    tests/members/run wrong --note              notes in `last-found.txt` what the last run with --turn found
     tests/members/run wrong --fit               checks that each bug fits its file, and has its test, as the gate does
-    tests/members/run wrong --list [WORDS ..]   lists them
+    tests/members/run wrong --list [WORDS ..]   lists them, with the days when they were last found
 
 The first FOLDER is what `bin/library` wrote. A bug in the rules is an edit of a crate, which takes a library that has this edit and isn't proved.
 It is built in the other FOLDER, in some two minutes, unless it is there, made of what the sources are now. Without that FOLDER it is left out.
@@ -16,7 +18,11 @@ It is built in the other FOLDER, in some two minutes, unless it is there, made o
 - `edit` and an edit of a crate; or `file` and a file of the package, with lines after `-` that are there once, and after `+` what replaces them; or
   both.
 
-Without the bug a test or a program must pass, and with it it must fail. A test that doesn't end in a minute fails. The last line is 'N passed, M
+`last-found.txt` has the day on which each was last found. If the list is noted and committed after each gate, all have been planted within four
+gates.
+
+Without the bug a test or a program must pass, and with it it must fail. What comes out otherwise is run up to twice more, with twice the patience,
+because a busy machine may starve it. A test that doesn't end in a minute fails. The last line is 'N passed, M
 failed'; the exit status is 0 if M is 0.
 """
 from __future__ import annotations
@@ -30,9 +36,11 @@ import sys
 import tempfile
 import time
 import unittest
-from collections.abc import Iterator
+import zlib
+from collections.abc import Iterable, Iterator
 from concurrent.futures import ThreadPoolExecutor
 from dataclasses import dataclass, field
+from datetime import date
 from pathlib import Path
 
 from bully.processes import adopt, end_children
@@ -41,6 +49,10 @@ from places import PYTHON, ROOT
 from .edited import build
 
 BUGS = Path(__file__).with_name('wrong-bodies.txt')
+LAST_FOUND = BUGS.with_name('last-found.txt')
+TURN = ROOT / 'out' / 'found-in-turn.txt'  # what the last run with --turn found
+TURNS = 4  # within so many all are planted
+TRIES = 3  # of what comes out otherwise than it must
 LONGEST = 400.0  # seconds that a test takes at most, with what it cleans up
 RUN = """
 import sys, unittest
@@ -128,6 +140,25 @@ def bugs(words: list[str]) -> list[Bug]:
     return found
 
 
+def days_of(file: Path) -> dict[str, str]:
+    """When bugs were found, by their sentences, in such a list."""
+    lines = file.read_text().splitlines() if file.exists() else []
+    return {sentence: day for day, _, sentence in (line.partition(' ') for line in lines)}
+
+
+def in_turn(planted: list[Bug], days: dict[str, str]) -> list[Bug]:
+    """The share of these that was found the longest ago, or never. Bugs of one file are beside each other in the list, so those of one day are
+    mixed."""
+    oldest = sorted(planted, key=lambda bug: (days.get(bug.sentence, ''), zlib.crc32(bug.sentence.encode())))
+    return oldest[: -(-len(planted) // TURNS)]
+
+
+def write_days(file: Path, days: dict[str, str], known: Iterable[Bug]) -> None:
+    """Writes these days, without those of bugs that are gone."""
+    file.parent.mkdir(parents=True, exist_ok=True)
+    file.write_text(''.join(f'{days[bug.sentence]} {bug.sentence}\n' for bug in known if bug.sentence in days))
+
+
 class Room:
     """A copy of the package and its tests, in which a bug is planted, or none."""
 
@@ -174,6 +205,22 @@ class Room:
         return 'passed' if status == 0 else 'failed' if says in told else f'another failure: {told[-300:]}'
 
 
+def patiently(finder: tuple[str, str], tries: int) -> tuple[str, str]:
+    """The same with twice the patience for each try before."""
+    word, more = finder
+    return word, re.sub(r'--patience (\d+)', lambda found: f'--patience {int(found[1]) << tries}', more)
+
+
+def outcome_of(room: Room, finder: tuple[str, str], wanted: str) -> str:
+    """The outcome in a room, of the first try that comes out as it must, or of the last one."""
+    outcome = ''
+    for tries in range(TRIES):
+        outcome = room.outcome(patiently(finder, tries))
+        if outcome in (wanted, 'skipped'):
+            break
+    return outcome
+
+
 class Trial:
     """Bugs that are planted, over a library, and over libraries of rules with an edit."""
 
@@ -182,6 +229,7 @@ class Trial:
         self.libraries = {'': library}  # by the edits that they are built with
         self.right = self.room('right', library)
         self.before: dict[tuple[str, str], str] = {}  # what becomes of each finder without a bug
+        self.found: dict[str, str] = {}  # today, by the sentences of the bugs that each of their finders found
 
     def room(self, name: str, library: Path, bug: Bug | None = None) -> Room:
         (self.folder / name).mkdir()
@@ -202,9 +250,9 @@ class Trial:
             return
         room = self.room(str(number), self.libraries[bug.edit], bug)
         for finder in bug.finders:
-            before = self.before.get(finder) or self.right.outcome(finder)
+            before = self.before.get(finder) or outcome_of(self.right, finder, 'passed')
             self.before[finder], begun = before, time.monotonic()
-            after = room.outcome(finder)
+            after = outcome_of(room, finder, 'failed')
             told = f'{" ".join(finder)}: {bug.sentence}'
             print(f'{after} in {time.monotonic() - begun:.1f} s: {told}', flush=True)
             both = f'{before} without it, and {after} with it: {told}'
@@ -217,7 +265,9 @@ class Trial:
         self.build(planted)
         adopt()
         with ThreadPoolExecutor(self.jobs) as pool:
-            for found in pool.map(lambda each: list(self.try_bug(*each)), enumerate(planted)):
+            for bug, found in zip(planted, pool.map(lambda each: list(self.try_bug(*each)), enumerate(planted))):
+                if all(what == 'found' for what, _ in found):
+                    self.found[bug.sentence] = date.today().isoformat()
                 for what, told in found:
                     self.counts.skip(told, 'what it takes is not there') if what == 'skipped' else self.counts.hold(what == 'found', told)
         end_children(frozenset(), LONGEST, print)
@@ -228,21 +278,31 @@ def options_of(words: list[str]) -> argparse.Namespace:
     parser.add_argument('words', nargs='*')
     parser.add_argument('--edited', type=Path)
     parser.add_argument('--jobs', type=int, default=1)
-    for each in ('--fit', '--list'):
+    for each in ('--turn', '--note', '--fit', '--list'):
         parser.add_argument(each, action='store_true')
     options = parser.parse_intermixed_args(words)
-    options.library = None if options.fit or options.list else Path(options.words.pop(0)) if options.words else parser.error('there is no FOLDER')
+    needs_library = not (options.note or options.fit or options.list)
+    if needs_library and not options.words:
+        parser.error('there is no FOLDER')
+    options.library = Path(options.words.pop(0)) if needs_library else None
     return options
 
 
 def main(words: list[str]) -> int:
     options, counts = options_of(words), Counts()
-    planted = bugs(options.words)
+    planted, days = bugs(options.words), days_of(LAST_FOUND)
+    if options.note:
+        write_days(LAST_FOUND, {**days, **days_of(TURN)}, planted)
+        counts.hold(TURN.exists(), f'there is no {TURN}: no run with --turn ended')
     if options.list:
-        print(*(f'{bug.sentence}: {"; ".join(map(" ".join, bug.finders))}' for bug in planted), sep='\n')
+        print(*(f'{days.get(bug.sentence, "never")} {bug.sentence}: {"; ".join(map(" ".join, bug.finders))}' for bug in planted), sep='\n')
+    if options.turn:
+        planted = in_turn(planted if options.edited else [bug for bug in planted if not bug.edit], days)
     if not planted:
         counts.hold(False, 'there is no such bug')
     misfits = {bug.text: bug.misfit() for bug in planted}
+    if options.fit:
+        counts.hold(len({bug.sentence for bug in planted}) == len(planted), 'two bugs have one sentence')
     fitting = [bug for bug in planted if not misfits[bug.text]]
     for bug in planted:
         if misfits[bug.text] or options.library is None:
@@ -253,7 +313,10 @@ def main(words: list[str]) -> int:
         fitting = [bug for bug in fitting if options.edited or not bug.edit]
         edited = options.edited.resolve() if options.edited else None
         with tempfile.TemporaryDirectory() as room:
-            Trial(options.library.resolve(), edited, counts, room, options.jobs).run(fitting)
+            trial = Trial(options.library.resolve(), edited, counts, room, options.jobs)
+            trial.run(fitting)
+            if options.turn:
+                write_days(TURN, {**days_of(TURN), **trial.found}, bugs([]))
     return counts.end()
 
 

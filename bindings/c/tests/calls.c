@@ -1,8 +1,23 @@
 /* Tries each function of bully.h: calls FOLDER VERSION HEADER_FOLDER. The folder has the examples, the version is the
  * one that the program prints as its own, and the last folder has bully.h. The last line is 'N passed, M failed'. */
-#include "testing.h"
+#include "stories.h"
 
 #include <stdio.h>
+
+/* (memory.c refuses the calls of stories their requests for memory) */
+void begin_call(const char *call) {
+    (void)call;
+}
+
+int goes_again(bully_status status, const char *call) {
+    (void)status;
+    (void)call;
+    return 0;
+}
+
+int tries_rooms(void) {
+    return 1;
+}
 
 int main(int count, char **words) {
     if (count != 4) {
@@ -11,20 +26,9 @@ int main(int count, char **words) {
     }
     try_names(words[2], words[3]);
     try_nulls();
-    try_arguments();
-    try_headers();
-    try_configurations();
-    try_traces(words[1]);
-    try_tables();
-    try_agents();
-    try_lines();
     try_examples(words[1]);
     try_elections();
-    try_replicas();
-    try_replica_arguments();
-    try_learning(words[1]);
-    try_rebalancing();
-    try_members();
-    try_member_arguments();
+    try_logs(words[1]);
+    try_stories();
     return tell_counts();
 }

@@ -433,7 +433,9 @@ int main() {
         Agent first(1), second(2);
         elect(first, second);
         go_on(first, second);
-        judge("bully,3,2,3,1 1,keep\n" + logged, first.show().events + second.show().events);
+        const auto header = text_of([](char *row, std::size_t room, std::size_t *told) { return bully_detailed_header(&group, nullptr, 0, row, room, told); });
+        EXPECT(header == "bully,3,2,3,1 1,keep\n");
+        judge(header + logged, first.show().events + second.show().events);
     }
     Agent kept(1, Owners{1, 1, 2});
     EXPECT(kept.told(bully_agent_claim) == "saw,1,down,-,-,-,1 1 2\n");

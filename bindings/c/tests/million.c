@@ -45,7 +45,7 @@ static long look_after(struct pair *pair) {
 /* Until node 1 has had so many events, which is all. Returns how many calls there were, and how much memory they
  * took. */
 static long use_up(uint32_t events_max, size_t *grown) {
-    struct pair pair = open_pair(events_max, RESTING);
+    struct pair pair = open_pair(events_max);
     long calls = look_after(&pair), more;
     size_t before = memory_in_use();
     bully_state state;

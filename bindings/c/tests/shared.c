@@ -1,4 +1,4 @@
-/* A log in memory that processes share, of which each has a replica; and all that a replica shows. */
+/* A log in memory that processes share, of which each has a replica. */
 #include "shared.h"
 
 #include <stdio.h>
@@ -45,27 +45,12 @@ void append(struct shared *shared, uint32_t count, const char *rows) {
     }
 }
 
-void append_next(struct shared *shared, uint16_t node, const char *row) {
-    uint16_t at;
-    for (at = 0; at < shared->nodes; at++) {
-        EXPECT(is_next(&shared->replicas[at], node, row));
-    }
-    append(shared, 1, row);
-}
-
 void append_event(struct shared *shared, uint16_t node, uint32_t event, const char *row) {
     uint16_t at;
     for (at = 0; at < shared->nodes; at++) {
         EXPECT(is_event(&shared->replicas[at], node, event, row));
     }
     append(shared, 1, row);
-}
-
-void expect_rest(struct shared *shared, uint16_t node) {
-    uint16_t at;
-    for (at = 0; at < shared->nodes; at++) {
-        EXPECT(is_next(&shared->replicas[at], node, ""));
-    }
 }
 
 void judge_shared(const struct shared *shared) {
@@ -119,34 +104,4 @@ int has_planned(bully_replica *replica, const char *owners) {
     size_t count = 0;
     ANSWERS(OK, bully_replica_planned(replica, numbers, COUNT(numbers), &count));
     return is_listed("planned table", numbers, count, owners);
-}
-
-int has_learned(bully_replica *replica, uint32_t rows, uint32_t events, uint32_t token, uint16_t planner) {
-    bully_group group = {77, 77, 77, 77, 77, 77, 77};
-    ANSWERS(OK, bully_replica_group(replica, &group));
-    return group.rows == rows && group.events == events && group.token == token && group.planner == planner;
-}
-
-/* ---- All of it ---- */
-
-static void see_node(bully_replica *replica, struct seen *seen, uint16_t node) {
-    size_t at = node - 1u;
-    ANSWERS(OK, bully_replica_show(replica, node, &seen->states[at]));
-    ANSWERS(OK, bully_replica_up(replica, node, seen->up[at], MOST_REPLICAS, &seen->up_counts[at]));
-    ANSWERS(OK, bully_replica_task(replica, node, seen->tasks[at], MOST_OWNERS, &seen->task_counts[at]));
-    ANSWERS(OK, bully_replica_next(replica, node, seen->rows[at], ROOM, &seen->row_lengths[at]));
-}
-
-void see(bully_replica *replica, struct seen *seen) {
-    uint16_t node;
-    memset(seen, 0, sizeof *seen);
-    ANSWERS(OK, bully_replica_group(replica, &seen->group));
-    ANSWERS(OK, bully_replica_planned(replica, seen->planned, MOST_OWNERS, &seen->planned_count));
-    for (node = 1; node <= seen->group.nodes && node <= MOST_REPLICAS; node++) {
-        see_node(replica, seen, node);
-    }
-}
-
-int is_same_seen(const struct seen *one, const struct seen *other) {
-    return memcmp(one, other, sizeof *one) == 0;
 }

@@ -1,4 +1,4 @@
-/* A log in memory that processes share, of which each has a replica; and all that a replica shows. */
+/* A log in memory that processes share, of which each has a replica. */
 #ifndef SHARED_H
 #define SHARED_H
 
@@ -23,12 +23,8 @@ void close_shared(struct shared *shared);
 
 /* These rows are appended, and each replica learns them: so many. */
 void append(struct shared *shared, uint32_t count, const char *rows);
-/* Each replica tells this row as the node's next one, and it is appended. */
-void append_next(struct shared *shared, uint16_t node, const char *row);
 /* Each replica tells this row for the event of the node, and it is appended. */
 void append_event(struct shared *shared, uint16_t node, uint32_t event, const char *row);
-/* Each replica tells that the node rests. */
-void expect_rest(struct shared *shared, uint16_t node);
 /* The log is lawful, and each row of it is an event. */
 void judge_shared(const struct shared *shared);
 
@@ -39,20 +35,5 @@ int is_event(bully_replica *replica, uint16_t node, uint32_t event, const char *
 int has_up(bully_replica *replica, uint16_t node, const char *nodes);
 int has_task(bully_replica *replica, uint16_t node, const char *owners);
 int has_planned(bully_replica *replica, const char *owners);
-/* Whether the group has so many rows and events, and this last plan. */
-int has_learned(bully_replica *replica, uint32_t rows, uint32_t events, uint32_t token, uint16_t planner);
-
-/* All that a replica shows. */
-struct seen {
-    bully_group group;
-    bully_state states[MOST_REPLICAS];
-    uint16_t up[MOST_REPLICAS][MOST_REPLICAS], tasks[MOST_REPLICAS][MOST_OWNERS], planned[MOST_OWNERS];
-    size_t up_counts[MOST_REPLICAS], task_counts[MOST_REPLICAS], planned_count;
-    char rows[MOST_REPLICAS][ROOM];
-    size_t row_lengths[MOST_REPLICAS];
-};
-/* (each byte of it is written) */
-void see(bully_replica *replica, struct seen *seen);
-int is_same_seen(const struct seen *one, const struct seen *other);
 
 #endif

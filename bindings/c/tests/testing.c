@@ -68,32 +68,11 @@ bully_setup setup_of(uint16_t nodes, uint16_t partitions, uint32_t events_max) {
 
 /* ---- What an agent shows ---- */
 
-struct look look_at(bully_agent *agent) {
-    struct look look;
-    memset(&look, 0, sizeof look);
-    ANSWERS(OK, bully_agent_show(agent, &look.state));
-    ANSWERS(OK, bully_agent_claim(agent, look.claim, ROOM, &look.claim_length));
-    ANSWERS(OK, bully_agent_rows(agent, look.rows, ROOM, &look.rows_length));
-    ANSWERS(OK, bully_agent_request(agent, look.request, ROOM, &look.request_length));
-    return look;
-}
-
 int is_same_state(const bully_state *one, const bully_state *other) {
     return one->status == other->status && one->wants == other->wants && one->events == other->events &&
            one->generation == other->generation && one->call == other->call && one->orphan == other->orphan &&
            one->number == other->number && one->node == other->node && one->coordinator == other->coordinator &&
            one->halter == other->halter && one->callee == other->callee;
-}
-
-static int is_same_text(const char *one, size_t one_length, const char *other, size_t other_length) {
-    return one_length == other_length && memcmp(one, other, one_length) == 0;
-}
-
-int is_same_look(const struct look *one, const struct look *other) {
-    return is_same_state(&one->state, &other->state) &&
-           is_same_text(one->claim, one->claim_length, other->claim, other->claim_length) &&
-           is_same_text(one->rows, one->rows_length, other->rows, other->rows_length) &&
-           is_same_text(one->request, one->request_length, other->request, other->request_length);
 }
 
 int claims(bully_agent *agent, const char *claim) {
@@ -112,19 +91,15 @@ int logged(bully_agent *agent, const char *rows) {
 
 /* ---- Two nodes ---- */
 
-void come_back(bully_agent *caller, bully_agent *callee, uint32_t answer) {
+void call_once(bully_agent *caller, bully_agent *callee, uint32_t answer) {
     char line[ROOM], reply[BULLY_REPLY_MAX];
     size_t line_length = 0, reply_length = 0;
     uint32_t told = 99;
+    ANSWERS(OK, bully_agent_start(caller));
     ANSWERS(OK, bully_agent_request(caller, line, ROOM, &line_length));
     ANSWERS(OK, bully_agent_serve(callee, line, line_length, reply, sizeof reply, &reply_length));
     ANSWERS(OK, bully_agent_replied(caller, reply, reply_length, &told));
     EXPECT(told == answer);
-}
-
-void call_once(bully_agent *caller, bully_agent *callee, uint32_t answer) {
-    ANSWERS(OK, bully_agent_start(caller));
-    come_back(caller, callee, answer);
 }
 
 /* Node 2 halts node 1 and announces itself: it wants to plan then. */
@@ -138,21 +113,16 @@ static void lead(struct pair *pair) {
     ANSWERS(OK, bully_agent_advance(&pair->second));
 }
 
-struct pair open_pair(uint32_t events_max, enum stage stage) {
+struct pair open_pair(uint32_t events_max) {
     struct pair pair;
     memset(&pair, 0, sizeof pair);
     pair.setup = setup_of(2, 2, events_max);
     ANSWERS(OK, bully_agent_open(&pair.first, &pair.setup, NULL, 0, 1, 0, NULL, 0));
     ANSWERS(OK, bully_agent_open(&pair.second, &pair.setup, NULL, 0, 2, 0, NULL, 0));
     lead(&pair);
-    if (stage != PLANNING) {
-        ANSWERS(OK, bully_agent_plan(&pair.second, two_owners, 2));
-        ANSWERS(OK, bully_agent_start(&pair.second));
-    }
-    if (stage == RESTING) {
-        come_back(&pair.second, &pair.first, BULLY_YES);
-        ANSWERS(OK, bully_agent_advance(&pair.second));
-    }
+    ANSWERS(OK, bully_agent_plan(&pair.second, two_owners, 2));
+    call_once(&pair.second, &pair.first, BULLY_YES);
+    ANSWERS(OK, bully_agent_advance(&pair.second));
     return pair;
 }
 

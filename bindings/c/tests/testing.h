@@ -32,14 +32,6 @@ char *read_file(const char *folder, const char *name, const char *kind, size_t *
 /* A setup that keeps no tasks. */
 bully_setup setup_of(uint16_t nodes, uint16_t partitions, uint32_t events_max);
 
-/* What an agent shows: all of it but its task, which the claim has. */
-struct look {
-    bully_state state;
-    char claim[ROOM], rows[ROOM], request[ROOM];
-    size_t claim_length, rows_length, request_length;
-};
-struct look look_at(bully_agent *agent);
-int is_same_look(const struct look *one, const struct look *other);
 int is_same_state(const bully_state *one, const bully_state *other);
 /* Whether the agent's claim and the rows of its last step are these. */
 int claims(bully_agent *agent, const char *claim);
@@ -51,15 +43,11 @@ struct pair {
     bully_agent first, second;
 };
 
-/* How far node 2 is: it wants to plan; its Ready to node 1 is started; both nodes are Normal. */
-enum stage { PLANNING, READYING, RESTING };
-
-struct pair open_pair(uint32_t events_max, enum stage stage);
+/* Both are Normal under node 2. */
+struct pair open_pair(uint32_t events_max);
 void close_pair(struct pair *pair);
 /* A whole call: it is started, runs at the callee and returns with this answer. */
 void call_once(bully_agent *caller, bully_agent *callee, uint32_t answer);
-/* The same after its start. */
-void come_back(bully_agent *caller, bully_agent *callee, uint32_t answer);
 
 /* The owners that node 2 plans, and that the examples have. */
 extern const uint16_t two_owners[2];
@@ -67,20 +55,8 @@ extern const uint16_t two_owners[2];
 /* The tests of each file. `folder` has the examples, and `version` is the library's. */
 void try_names(const char *version, const char *header_folder);
 void try_nulls(void);
-void try_arguments(void);
-void try_headers(void);
-void try_configurations(void);
-void try_traces(const char *folder);
-void try_tables(void);
-void try_agents(void);
-void try_lines(void);
 void try_examples(const char *folder);
 void try_elections(void);
-void try_replicas(void);
-void try_replica_arguments(void);
-void try_learning(const char *folder);
-void try_rebalancing(void);
-void try_members(void);
-void try_member_arguments(void);
+void try_logs(const char *folder);
 
 #endif

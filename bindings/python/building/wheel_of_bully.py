@@ -1,8 +1,8 @@
 """Builds the wheel of the package `bully` for pip, by the standard library alone.
 
 The wheel takes libbully.so with it from the folder BULLY_LIBRARY, or from `lib` in that; or else from `lib` of an
-archive; or else from out/library at the top of the repository, where `bin/library` puts it. Without any it has none, and whoever uses it sets
-BULLY_LIBRARY. It always has bully.h, which the package reads: that of the archive or the repository. The same files
+archive; or else from out/library at the top of the repository, where `bin/library` puts it; or else from out/unproved/library, where the demo puts
+one that isn't proved. Without any it has none, and whoever uses it sets BULLY_LIBRARY. It always has bully.h, which the package reads: that of the archive or the repository. The same files
 make the same bytes; SOURCE_DATE_EPOCH, where it is set, is the time of each.
 """
 from __future__ import annotations
@@ -11,6 +11,7 @@ import base64
 import hashlib
 import os
 import re
+import sys
 import sysconfig
 import time
 import zipfile
@@ -18,6 +19,7 @@ from pathlib import Path
 from typing import Optional
 
 HERE = Path(__file__).resolve().parents[1]
+UNPROVED = Path('out', 'unproved', 'library', 'lib')
 FIRST_TIME = 315532800  # the first that a zip can tell: 1980-01-01
 
 Tables = dict[str, dict[str, str]]
@@ -91,11 +93,13 @@ def find_library() -> Path | None:
     """The library to take along, if there is one. What BULLY_LIBRARY names has to be there."""
     named = os.environ.get('BULLY_LIBRARY')
     top = HERE.parents[1]
-    places = [Path(named, 'lib'), Path(named)] if named else [top / 'lib', top / 'out' / 'library' / 'lib']
+    places = [Path(named, 'lib'), Path(named)] if named else [top / 'lib', top / 'out' / 'library' / 'lib', top / UNPROVED]
     files = (place / 'libbully.so' if place.is_dir() else place for place in places)
     file = next(filter(Path.is_file, files), None)
     if named and not file:
         raise SystemExit(f'BULLY_LIBRARY is {named}, and there is no libbully.so')
+    if file and file.parent == top / UNPROVED:
+        print(f'bully: the wheel takes {file}, which is not proved; bin/library proves it', file=sys.stderr)
     return file
 
 

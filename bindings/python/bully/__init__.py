@@ -14,18 +14,25 @@ The package binds `include/bully.h` by ctypes. It needs Python 3.9 or later, and
     BULLY_LIBRARY=FOLDER python3 .. # the same, if `load` wasn't called
 
 Otherwise it takes the library from the folder of this package, where `pip install` puts it, from `lib` of an archive,
-or from `out/library` at the top of the repository. It also reads `bully.h`, from the folder of this package, from
+or from `out/library` or, without proofs, `out/unproved/library` of the repository. It also reads `bully.h`, from the folder of this package, from
 `include` of the archive or of the repository, or from beside the library that BULLY_LIBRARY names.
 
-One call of a node, which a program sends from process to process:
+One call of a node, which a program sends from process to process, and the log that `check` judges:
 
     setup = Setup(nodes=2, partitions=3)
+    log = [setup.detailed_header()]
     with Agent(setup, 1) as caller, Agent(setup, 2) as callee:
-        caller.recover()                    # log caller.rows()
+        caller.recover()
+        log += caller.rows()
         callee.recover()
-        caller.start()                      # log it, and then send the request, once
+        log += callee.rows()
+        caller.start()
+        log += caller.rows()                # before the request is sent, once
         reply = callee.serve(caller.request())
+        log += callee.rows()                # before the reply is sent
         assert caller.replied(reply) is Answer.YES
+        log += caller.rows()
+    assert check('\\n'.join(log)).is_lawful
 
 One row of a log. A process appends it after all the rows that it has read, and then learns it:
 

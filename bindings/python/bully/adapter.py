@@ -1,74 +1,16 @@
-"""Between a core and a log: the call of the log that a request of the core is, and what the core learns of a snapshot.
+"""Between a core and a log: what a core is shown of a snapshot, and what a change of the log compares.
 
-Whoever drives a core uses these functions. During a pause the core is shown a group in which all is as the log has it,
-so it rebalances nothing.
+`bully.driver` uses these functions. During a pause the core is shown a group in which all is as the log has it, so it
+rebalances nothing.
 """
 from __future__ import annotations
 
-from collections.abc import Callable, Container, Iterable, Mapping, Sequence
-from dataclasses import dataclass
+from collections.abc import Callable, Container, Iterable, Mapping
 from operator import attrgetter
-from typing import Union
 
-from .core import Ask, Core, CoreOpening, Lease, Promise, Request, Seen, Session, Until
+from .core import Core, CoreOpening, Lease, Promise, Seen, Session, Until
 from .epochs import Opening
 from .shared_log import Holder, Known, Log, Snapshot, found_in, renewed
-
-Result = Union[bool, Snapshot, Opening]  # what a call of the log returns
-
-
-# ---- Requests of the core
-
-
-@dataclass(frozen=True)
-class Requester:
-    """Makes a member's requests to its log. It has the log; the name of the member's node; its epoch, and how many rows
-    of that it has learned; for how long a lease is acquired; whether a snapshot must show all promises
-    (`needs_promises`); and functions for the rows of a rebalance and for the opening of the next epoch, by what was
-    learned; for the partitions that a promise keeps; and for what a change compares of leases (`known_of`)."""
-
-    log: Log
-    name: str
-    opening: Opening
-    offset: int
-    ttl: Callable[[], int]
-    needs_promises: bool
-    rebalance: Callable[[], Sequence[str]]
-    after: Callable[[], Opening]
-    works: Callable[[], tuple[int, ...]]
-    known: Callable[[], Known | None]
-
-    def call(self, ask: Ask) -> Callable[[], Result]:
-        """The call of the log for this request. It uses what is known now, whenever it runs."""
-        log, name, session, here = self.log, self.name, ask.session, Promise(self.opening.epoch, ask.offset)
-        if ask.request is Request.SNAPSHOT:
-            alone = None if self.needs_promises else name
-            return lambda: log.snapshot(here.epoch, self.offset, alone)
-        if ask.request is Request.FOLLOW:
-            return log.opening
-        if ask.request is Request.ACQUIRE:
-            return lambda: log.acquire(name, session, here, self.ttl())
-        if ask.request is Request.RENEW:
-            return lambda: log.renew(name, session, self.ttl())
-        if ask.request is Request.PROMISE:
-            kept = self.works()
-            return lambda: log.promise(name, session, here, kept)
-        if ask.request in (Request.APPEND, Request.ROLL_OVER):
-            return self._change(ask.request, here)
-        return lambda: self._release(session)
-
-    def _change(self, request: Request, here: Promise) -> Callable[[], bool]:
-        """An append, or the end of the epoch."""
-        log, known = self.log, self.known()
-        if request is Request.APPEND:
-            rows = self.rebalance()
-            return lambda: log.append(here.epoch, here.offset, rows, known)
-        after = self.after()
-        return lambda: log.roll_over(here.epoch, here.offset, after, known)
-
-    def _release(self, session: Session) -> bool:
-        self.log.release(self.name, session)
-        return True
 
 
 def needs_promises(core: Core, found: Snapshot, now: int) -> bool:

@@ -182,7 +182,8 @@ class Agent(Opened):
         return int(self._show().generation)
 
     def rows(self) -> list[str]:
-        """The rows of the node's last step for the log, in version 3, without line ends.
+        """The rows of the node's last step for the log, without line ends. They are of version 3: the header of the log is
+        `setup.detailed_header()`.
 
         Raises Closed, OutOfMemory."""
         return self._room.text(self._function('rows')).splitlines()

@@ -9,6 +9,7 @@ import os
 from pathlib import Path
 
 from .clocks import SECOND
+from .releasing import LOST
 from .shared_log import ForeignLog
 
 OWN_NAMESPACE = 'time:[4026531834]'  # the machine's own, on every kernel that has time namespaces
@@ -50,8 +51,8 @@ def own_offset() -> int:
 
 def offset_of(name: str) -> int:
     """The offset in a name; 0 if it has none."""
-    last = name.split(' ')[-1]
-    return int(last) if ' ' in name and last.lstrip('-').isdecimal() else 0
+    *others, last = name.removesuffix(LOST).split(' ')
+    return int(last) if others and last.lstrip('-').isdecimal() else 0
 
 
 def machine_boot(name: str) -> str:

@@ -3,7 +3,8 @@
     bully-member init --config group.toml --log sqlite:group.db [--ttl 5] [--rebalance cooperative] [--epoch 1]
                       [--group-access] [--if-missing]
     bully-member run --node b --log sqlite:group.db [--config group.toml] [--ttl 5] [--listen 8081] -- WORKER ARGS..
-    bully-member status --log sqlite:group.db [--json]
+    bully-member status --log sqlite:group.db [--json] [--watch [SECONDS]]
+    bully-member show-config --log sqlite:group.db [--json]
     bully-member history --log sqlite:group.db [--epoch 1] [--times] | bully check
     bully-member resize --config new.toml --log sqlite:group.db [--seconds 60]
     bully-member resize --cancel --log sqlite:group.db
@@ -21,8 +22,9 @@
 nodes. `run` starts the worker when its node owns partitions, with BULLY_NODE, BULLY_TOKEN, BULLY_PARTITIONS,
 BULLY_COORDINATOR, BULLY_SETTINGS and BULLY_SETTINGS_FILE in the environment of the worker, and stops it before another
 node can own them. `run` finds the settings in the log; it refuses a configuration that the group neither has, nor had,
-nor is requested to have. `resize` gives the group other settings: a new epoch starts, with a log of its own. `prune`
-removes old epochs. The default of --log is BULLY_LOG of the environment. `docs/MEMBERS.md` explains all commands.
+nor is requested to have. `show-config` prints the settings, and `resize` gives the group other ones: a new epoch
+starts, with a log of its own. `prune` removes old epochs. The default of --log is BULLY_LOG of the environment.
+`docs/MEMBERS.md` explains all commands.
 """
 from __future__ import annotations
 
@@ -32,8 +34,11 @@ if __name__ == '__main__':  # as in `bully_member`: signals are held back until 
     signal.pthread_sigmask(signal.SIG_BLOCK, signal.valid_signals())
 
 import argparse
+import codecs
 import contextlib
+import dataclasses
 import errno
+import io
 import json
 import logging
 import os
@@ -45,36 +50,44 @@ from typing import TYPE_CHECKING, TypeVar
 
 from . import __version__
 from .clocks import seconds_of_boot
-from .completion import completion
-from .config_file import settings_in
+from .completion import PROGRAM, completion
+from .config_file import settings_in, toml_of
 from .core import Ending, Session
-from .display import shown_name
+from .display import LOG_FORMAT, message_line, shown_name, writes_json
 from .encoding import session_of
 from .epochs import FIRST, LATEST, TTL, Opening
 from .faults import BullyError
 from .library import NoLibrary
-from .member import Member, NotInGroup, OtherGroup, is_known
-from .messages import FORMATS, LAST_SECONDS, JsonLines, Messages
+from .member import Member, NotInGroup, OtherGroup, is_known, node_number
+from .messages import FORMATS, LAST_SECONDS, Messages
 from .operations import ASK_AGAIN, NotEnded, drain, has_left, lead, pause, resize, resume, undrain
-from .processes import ENDS
+from .processes import ENDS, default_signals
 from .pruning import Pruning
 from .repair import damage_of, repair, takes_back
 from .settings import ConfigFault, Settings
-from .shared_log import DamagedLog, ForeignLog, Log, LogError, LogExists, NoLog, OtherLog, Unanswered, found_in
+from .shared_log import (
+    DamagedLog, ForeignLog, Log, LogError, LogExists, NoLog, OtherLog, Snapshot, Unanswered, found_in,
+)  # fmt: skip
 from .store_options import BadWords, EtcdStore, FileStore, add_words, store_of
 from .sessions import SessionNotes, is_alone, releases_of, session_in
 from .systemd import Service
 from .view import Doing, GroupView, LogView
+from .watchdog import say
 from .work_failures import GIVE_UP, Failures
-from .worker import ChildrenUnlisted, Kind, WatchdogLost, WorkerEnded, WorkerStuck, Workers, listed_children
+from .worker import ChildrenUnlisted, Kind, WatchdogLost, WorkerEnded, WorkerStuck, Workers, children_listed
 
 if TYPE_CHECKING:
     from .page import Page
 
 OK, FAILED, BAD_WORDS, BAD_INPUT, NO_STORE, NO_NODE, NO_RETRY, EXISTS = range(8)
 UNWRITTEN = (errno.ENOSPC, errno.EDQUOT, errno.EFBIG, errno.EIO)  # errors of a write
-NOBODY_READS = 128 + signal.SIGPIPE  # as a shell reports a program that ended by that signal
+NOBODY_READS, INTERRUPTED = 128 + signal.SIGPIPE, 128 + signal.SIGINT  # as a shell reports a program that ended by such a signal
+PORT_MAX = 65_535
+STAY_IGNORED = {signal.SIGHUP, signal.SIGPIPE, signal.SIGXFSZ}  # by nohup; and by Python
+NO_THREAD = "can't start new thread"  # a RuntimeError of Python
 STATUS_WAIT = 1.0  # the longest wait of `status` for nodes that aren't idle, in seconds
+
+WATCH = 1.0  # seconds from one look of `status --watch` to the next
 
 EAGER, COOPERATIVE = 'eager', 'cooperative'  # how a group rebalances
 SHELLS = ('bash', 'zsh', 'fish')
@@ -106,7 +119,10 @@ def parser() -> argparse.ArgumentParser:
     leads = of['switchover'].add_mutually_exclusive_group(required=True)
     leads.add_argument('node', metavar='NODE', nargs='?', help='the name of the new coordinator')
     leads.add_argument('--node', metavar='NODE', dest='named', help=argparse.SUPPRESS)  # of an earlier version
-    of['status'].add_argument('--json', action='store_true', help='write JSON, for programs')
+    for name in ('status', 'show-config'):
+        of[name].add_argument('--json', action='store_true', help='write JSON, for programs')
+    watch = f'show it again whenever it changes, until ^C; look every SECONDS (default: {WATCH:g})'
+    of['status'].add_argument('--watch', type=seconds, nargs='?', const=WATCH, metavar='SECONDS', help=watch)
     add_count(of['history'], '--epoch', 'NUMBER', 'the epoch (default: the current one)')
     times = 'write TIME,ROW instead of a trace, with the UTC time of the append'
     of['history'].add_argument('--times', action='store_true', help=times)
@@ -165,8 +181,8 @@ def add_words_of_run(run: argparse.ArgumentParser) -> None:
     more = 'also answer requests whose Host is this: a name, an address, or * for any'
     run.add_argument('--allow-host', action='append', default=[], metavar='NAME', help=more)
     run.add_argument('--quiet', action='store_true', help='write only warnings and errors')
-    form = 'the format of messages on standard error (default: text)'
-    run.add_argument('--log-format', choices=FORMATS, default='text', help=form)
+    form = f'the format of messages on standard error (default: {LOG_FORMAT} of the environment, or else text)'
+    run.add_argument('--log-format', choices=FORMATS, help=form)
     kept = 'how many epochs to keep: the owner of partition 0 removes older ones (default: all)'
     add_count(run, '--keep', 'COUNT', kept)
     give_up = 'give up the partitions after so many failures of the worker in a row, if another node works; 0: never'
@@ -303,7 +319,7 @@ def drain_command(options: argparse.Namespace) -> int:
         if maintenance.is_paused:
             print(f'{name} is drained, and leaves once the group is not paused any more')
         elif not has_left(log, options.node, options.seconds):
-            print(f'bully-member: {name} is drained, and has not left yet', file=sys.stderr)
+            say_error(f'{name} is drained, and has not left yet')
             return FAILED
         else:
             print(f'{name} is drained')
@@ -313,13 +329,25 @@ def drain_command(options: argparse.Namespace) -> int:
 def maintenance_command(options: argparse.Namespace) -> int:
     """Ends the drain of a node, or pauses or resumes the group."""
     with contextlib.closing(store_of(options).open()) as log:
+        before = found_in(log)
+        is_paused = before.maintenance.is_paused
         if options.command == 'undrain':
             undrain(log, options.node)
-            print(f'{shown_name(options.node)} is not drained')
+            print(f'{shown_name(options.node)} {told_undrained(options.node, before)}')
+        elif options.command == 'pause':
+            pause(log)
+            print(f'the group {"was already" if is_paused else "is"} paused')
         else:
-            maintenance = pause(log) if options.command == 'pause' else resume(log)
-            print(f'the group is {"paused" if maintenance.is_paused else "not paused"}')
+            resume(log)
+            print(f'the group {"is no longer" if is_paused else "was not"} paused')
     return OK
+
+
+def told_undrained(name: str, before: Snapshot) -> str:
+    """What `undrain` has changed for the node, by a snapshot before it."""
+    if name in before.maintenance.drained:
+        return 'is no longer drained'
+    return 'had given up, and tries again' if before.failing.get(name) else 'was not drained'
 
 
 def prune_command(options: argparse.Namespace) -> int:
@@ -333,17 +361,19 @@ def prune_command(options: argparse.Namespace) -> int:
 
 def release_command(options: argparse.Namespace) -> int:
     """Releases the lease of a session whose process is gone."""
-    session = options.session or session_in(options.session_file)
-    if session is None:
-        print(f'{shown_name(options.node)} has held no lease')
-        return OK
+    session, name = options.session or session_in(options.session_file), shown_name(options.node)
     with contextlib.closing(store_of(options).open()) as log:
-        if options.alone and not is_alone(log.opening().ttl or TTL):
-            said = 'other processes are left, which may work on; the lease ends by itself'
-            print(f'bully-member: nothing is released: {said}', file=sys.stderr)
+        opening = log.opening()
+        if options.node not in opening.names and options.node not in found_in(log).sessions:
+            node_number(opening, options.node)  # raises NotInGroup
+        if session is None:
+            print(f'nothing to release: by {options.session_file} {name} has left in order, or holds no lease yet')
+            return OK
+        if options.alone and not is_alone(opening.ttl or TTL):
+            say_error('nothing is released: other processes are left, which may work on; the lease ends by itself')
             return FAILED
         log.release(options.node, session)
-    print(f'{shown_name(options.node)} does not hold a lease by {session.process}.{session.number}')
+    print(f'{name} does not hold a lease by {session.process}.{session.number}')
     return OK
 
 
@@ -360,7 +390,7 @@ def repair_command(options: argparse.Namespace) -> int:
             if options.cut != damage.offset or not repair(log, damage):
                 how = f'--cut {damage.offset} cuts these rows, once all members have ended'
                 why = 'somebody holds a lease' if options.cut == damage.offset else how
-                print(f'bully-member: nothing is cut: {why}', file=sys.stderr)
+                say_error(f'nothing is cut: {why}')
                 return FAILED
     return OK
 
@@ -370,12 +400,61 @@ def status_command(options: argparse.Namespace) -> int:
     store = store_of(options)
     warn_of_readers(store)
     with contextlib.closing(LogView(store.open(reads=True))) as view:
+        if options.watch is not None:
+            with contextlib.suppress(KeyboardInterrupt):
+                watch(view, options.watch, options.json)
+            return OK
         end, shown = seconds_of_boot() + STATUS_WAIT, view.show()
         while shown.is_changing and seconds_of_boot() < end:
             time.sleep(STATUS_WAIT / 10)
             shown = view.show()
-    print(json.dumps(shown.document(), ensure_ascii=False) if options.json else text_of(shown))
+    print(told_group(shown, options.json))
     return OK if shown.is_well else FAILED
+
+
+def watch(view: LogView, seconds: float, is_json: bool) -> None:
+    """Prints the group whenever it has changed, and looks every so many seconds. For how long a change has waited isn't
+    a change. A log that doesn't answer is reported once, until it answers again."""
+    last: GroupView | None = None
+    unanswered = ''
+    while True:
+        try:
+            shown = view.show()
+        except Unanswered as fault:
+            if str(fault) != unanswered:
+                say_error(str(fault))
+            unanswered = str(fault)
+        else:
+            unanswered = ''
+            state = dataclasses.replace(shown, behind=dict.fromkeys(shown.behind, 0.0))
+            if state != last:
+                print(('' if is_json else time.strftime('%H:%M:%S ')) + told_group(shown, is_json), flush=True)
+            last = state
+        time.sleep(seconds)
+
+
+def told_group(group: GroupView, is_json: bool) -> str:
+    """The group as JSON, or as text for people."""
+    return json.dumps(group.document(), ensure_ascii=not is_utf8()) if is_json else text_of(group)
+
+
+def show_config_command(options: argparse.Namespace) -> int:
+    """Prints the group's settings, as `init` and `resize` take them, or as JSON."""
+    with contextlib.closing(store_of(options).open(reads=True)) as log:
+        opening, requested = log.opening(), found_in(log).requested
+    settings, mode = opening.settings, COOPERATIVE if opening.is_cooperative else EAGER
+    if options.json:
+        about = {'epoch': opening.epoch, 'mode': mode, 'ttl': opening.ttl, 'requested': requested is not None}
+        print(json.dumps({**about, **settings.document()}, ensure_ascii=not is_utf8()))
+        return OK
+    if isinstance(sys.stdout, io.TextIOWrapper):
+        sys.stdout.reconfigure(encoding='utf-8')  # as TOML must be
+    ttl = 'each member has its own ttl' if opening.ttl is None else f'ttl {opening.ttl:g}'
+    print(f'# epoch {opening.epoch}, {mode}, {ttl}')
+    if requested is not None:
+        print(f'# other settings are requested for epoch {requested.epoch}')
+    sys.stdout.write(toml_of(settings))
+    return OK
 
 
 def text_of(group: GroupView) -> str:
@@ -415,8 +494,8 @@ def lines_of(rows: list[tuple[str, ...]]) -> list[str]:
 def address_of(words: str) -> tuple[str, int]:
     """The address to listen on: if the words are only a port, on the loopback."""
     host, colon, port = words.rpartition(':')
-    if not port.isdecimal() or int(port) > 65_535:
-        raise BadWords(f'--listen is {words}, and must be HOST:PORT')
+    if not port.isdecimal() or int(port) > PORT_MAX:
+        raise BadWords(f'--listen is {words}, and must be PORT or HOST:PORT, with a port up to {PORT_MAX}')
     return host.strip('[]') or '127.0.0.1', int(port)
 
 
@@ -471,11 +550,12 @@ def warn_of_readers(store: FileStore | EtcdStore) -> None:
 
 
 def at_signals(call: Callable[[], object]) -> list[str]:
-    """Calls this when a signal tells the process to end, also one that was held back until now. Returns a list, to
-    which the name of such a signal is added. SIGHUP stays ignored if it is, as by nohup."""
+    """Calls this when a signal tells the process to end, also one that was held back until now; later ones are ignored.
+    Returns a list, to which the name of that signal is added. SIGHUP stays ignored if it is, as by nohup."""
     heard: list[str] = []
 
     def hear(number: int, _: object) -> None:
+        ignore_ends()  # handlers of many signals would nest too deeply
         heard.append(signal.Signals(number).name)
         call()
 
@@ -486,6 +566,12 @@ def at_signals(call: Callable[[], object]) -> list[str]:
     return heard
 
 
+def ignore_ends() -> None:
+    """Signals that tell the process to end are ignored from now on."""
+    for number in ENDS:
+        signal.signal(number, signal.SIG_IGN)
+
+
 def let_signals_by() -> None:
     """Signals aren't held back any more."""
     signal.pthread_sigmask(signal.SIG_UNBLOCK, signal.valid_signals())
@@ -493,13 +579,16 @@ def let_signals_by() -> None:
 
 def run_command(options: argparse.Namespace) -> int:
     """Takes part with a worker, until a signal tells it to leave."""
+    default_signals({each for each in signal.valid_signals() if signal.getsignal(each) == signal.SIG_IGN} - STAY_IGNORED)
     at_signals(lambda: sys.exit(OK))  # until it takes part
-    listed_children()
+    if options.log_format is not None:
+        os.environ[LOG_FORMAT] = options.log_format  # for the watchdog, too
+    children_listed()
     settings, store = settings_in(options.config) if options.config else None, store_of(options)
     if settings is not None and options.node not in settings.names:
         raise BadWords(f'--node is {options.node}, and the configuration has {", ".join(settings.names)}')
     with contextlib.ExitStack() as closing:
-        messages = closing.enter_context(contextlib.closing(Messages(FORMATS[options.log_format]())))
+        messages = closing.enter_context(contextlib.closing(Messages(FORMATS['json' if writes_json() else 'text']())))
         logging.basicConfig(level=logging.WARNING if options.quiet else logging.INFO, handlers=[messages])
         warn_of_readers(store)
         page = page_of(options)  # it answers before the store does
@@ -559,6 +648,7 @@ COMMANDS: dict[str, tuple[Callable[[argparse.Namespace], int], str]] = {
     'init': (init_command, 'make the log of a group'),
     'run': (run_command, 'run a worker while its node owns partitions'),
     'status': (status_command, 'show the state of the group, and exit with 0 if all is well, otherwise with 1'),
+    'show-config': (show_config_command, 'print the settings of the group, as init and resize take them'),
     'history': (history_command, 'write the log of an epoch as a trace'),
     'resize': (resize_command, 'give the group other settings, in a new epoch'),
     'switchover': (switchover_command, 'make another node the coordinator, in a new epoch'),
@@ -585,30 +675,43 @@ STATUSES: tuple[tuple[type[Exception], int], ...] = (
 def main(words: list[str] | None = None) -> int:
     """Runs the command with these words. Returns its exit status: 0; 1 if the worker or its watchdog ended by itself,
     the worker or the epoch didn't end, or the group isn't well; 2 for bad options; 3 for a bad configuration, or a log
-    that belongs to another group, or is damaged; 4 if the log or a file can't be used now; 5 if the group has no such
+    that belongs to another group, or is damaged; 4 if the log, a file or a thread can't be used now; 5 if the group has no such
     node; 6 if no further try helps: the log has another format, the address to listen on can't be used, the library
-    isn't there, or the kernel doesn't list children; 7 if there already is a log; 141 if nobody reads its output."""
+    isn't there, or the kernel doesn't list children; 7 if there already is a log; 130 after ^C, but for `status --watch`;
+    141 if nobody reads its output."""
     drop_what_is_closed()
+    escape_what_has_no_room()
     options = read_words(words)
-    if options.command != 'run':  # it handles signals itself
-        let_signals_by()
     try:
+        if options.command != 'run':  # it handles signals itself
+            let_signals_by()
         status = COMMANDS[options.command][0](options)
         sys.stdout.flush()
         return status
     except BrokenPipeError:  # of standard output: a store raises its own error
         drop_output()
         return NOBODY_READS
+    except KeyboardInterrupt:
+        drop_output()
+        return INTERRUPTED
     except Exception as fault:
-        status = next((status for kind, status in STATUSES if isinstance(fault, kind)), OK)
+        status = status_of(fault)
         if status == OK:
             raise
         if isinstance(fault, OSError):
             drop_output()
-        said = shown_name(said_of(fault))
-        is_json, record = getattr(options, 'log_format', '') == 'json', {'levelname': 'ERROR', 'msg': said}
-        say_last(JsonLines().format(logging.makeLogRecord(record)) if is_json else f'bully-member: {said}', status)
+        say_last(shown_name(said_of(fault)), status)
         return status
+    finally:
+        if options.command == 'run':  # it has left, and Python stops handling signals before it exits
+            ignore_ends()
+
+
+def status_of(fault: Exception) -> int:
+    """The exit status by which an exception ends a command; 0 if that is a bug."""
+    if isinstance(fault, RuntimeError) and str(fault) == NO_THREAD:
+        return NO_STORE
+    return next((status for kind, status in STATUSES if isinstance(fault, kind)), OK)
 
 
 def read_words(words: list[str] | None) -> argparse.Namespace:
@@ -625,6 +728,8 @@ def read_words(words: list[str] | None) -> argparse.Namespace:
 def said_of(fault: Exception) -> str:
     """The text of an exception. For an error of a file it starts with the file's name, or with `standard output`, which
     has no name. (A store raises errors of its own.)"""
+    if str(fault) == NO_THREAD:
+        return 'no thread can be started now: a limit on threads or memory is reached'
     if isinstance(fault, OSError) and (fault.filename is not None or fault.errno in UNWRITTEN):
         return f'{fault.filename or "standard output"}: {fault.strerror}'
     return str(fault)
@@ -636,6 +741,17 @@ def drop_what_is_closed() -> None:
     sys.stderr = sys.stderr or open(os.devnull, 'w', encoding='utf-8')
 
 
+def is_utf8() -> bool:
+    """Whether standard output can hold each sign."""
+    return codecs.lookup(sys.stdout.encoding or 'utf-8').name == 'utf-8'
+
+
+def escape_what_has_no_room() -> None:
+    """What the encoding of standard output can't hold is written as an escape, as `\\u2713`."""
+    if isinstance(sys.stdout, io.TextIOWrapper):
+        sys.stdout.reconfigure(errors='backslashreplace')
+
+
 def drop_output() -> None:
     """Drops output that standard output doesn't take, so that its flush at the end raises no further error."""
     try:
@@ -644,10 +760,19 @@ def drop_output() -> None:
         os.dup2(os.open(os.devnull, os.O_WRONLY), sys.stdout.fileno())
 
 
+def say_error(text: str) -> None:
+    """Writes this on standard error."""
+    print(message_line(PROGRAM, text), file=sys.stderr)
+
+
 def say_last(text: str, status: int) -> None:
     """Writes this on standard error. If nobody reads there, the process ends at once with this status."""
-    saying = threading.Thread(target=print, args=[text], kwargs={'file': sys.stderr}, daemon=True)
-    saying.start()
+    saying = threading.Thread(target=say_error, args=[text], daemon=True)
+    try:
+        saying.start()
+    except RuntimeError:  # there is no room for a thread
+        say(text, PROGRAM)
+        return
     saying.join(LAST_SECONDS)
     if saying.is_alive():
         os._exit(status)

@@ -38,7 +38,7 @@ def word_of(option: argparse.Action) -> str:
 
 
 def takes_value(option: argparse.Action) -> bool:
-    return option.nargs != 0
+    return option.nargs not in (0, '?')  # one that may have none is a word like any other
 
 
 def is_file(option: argparse.Action) -> bool:
@@ -49,10 +49,14 @@ def choices_of(action: argparse.Action) -> list[str]:
     return list(map(str, action.choices or ()))
 
 
+def help_of(action: argparse.Action) -> str:
+    """The help of an option, on one line."""
+    return (action.help or '') % {'default': action.default, 'prog': PROGRAM}
+
+
 def told(action: argparse.Action) -> str:
-    """The help of an option, on one line and without quotes."""
-    text = (action.help or '') % {'default': action.default, 'prog': PROGRAM}
-    return text.replace("'", '').replace('"', '')
+    """The same without quotes."""
+    return help_of(action).replace("'", '').replace('"', '')
 
 
 # ---- bash

@@ -1,4 +1,4 @@
-"""Settings from a configuration file.
+"""Settings from a configuration file, and back.
 
 `docs/FORMATS.md` has the format. A group of members needs neither `events` nor `turns`. A fault names the file, and the
 line if there is one.
@@ -49,6 +49,21 @@ def read_supplied(text: bytes) -> Settings:
             text = mark + f'{key} = {left.pop(key)}\n'.encode() + text[len(mark) :]
 
 
+def toml_of(settings: Settings) -> str:
+    """The document that has these settings."""
+    setup = settings.setup
+    weights = f'weights = [{", ".join(map(str, setup.weights))}]\n' if setup.weights else ''
+    keep = 'keep = true\n' if setup.keeps else ''
+    names = ', '.join(map(spelled, settings.names))
+    return f'nodes = {setup.nodes}\npartitions = {setup.partitions}\nnames = [{names}]\n{weights}{keep}'
+
+
+def spelled(name: str) -> str:
+    """A name as a string of TOML. What can't be printed is escaped."""
+    quoted = name.replace('\\', '\\\\').replace('"', '\\"')
+    return f'"{"".join(each if each.isprintable() else f"{chr(92)}U{ord(each):08X}" for each in quoted)}"'
+
+
 def fault_of(lines: Sequence[bytes]) -> str:
     """The first fault of these lines; empty if they have none."""
     try:
@@ -67,7 +82,7 @@ def with_line(text: bytes, fault: str) -> str:
     lines = text.split(b'\n')
     kind, _, key = fault.partition(' ')
     if kind == 'Missing':
-        return f': {fault}'
+        return f': {fault}{mistyped(lines, key)}'
     if kind == 'Toml':
         line = line_of_form(lines)
         return f':{line}: {fault}' if line else f': {fault}'
@@ -78,6 +93,15 @@ def with_line(text: bytes, fault: str) -> str:
         return f': {fault}'
     named = next(name for number, _, name in found if number == numbers[0])
     return f':{numbers[0]}: {fault}' if key or kind == 'DoubleName' else f':{numbers[0]}: {fault} {named}'
+
+
+def mistyped(lines: Sequence[bytes], key: str) -> str:
+    """Which line may have the missing key under another name: an unknown key that is spelled much like it."""
+    import difflib
+
+    found = {name: number for number, _, name in candidates(lines, '')}
+    near = difflib.get_close_matches(key, found, 1)
+    return f' (line {found[near[0]]} has {near[0]}, which is no key)' if near else ''
 
 
 def candidates(lines: Sequence[bytes], key: str) -> list[tuple[int, int, str]]:

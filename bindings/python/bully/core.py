@@ -58,7 +58,7 @@ class Lease:
 
     @cached_property
     def _raw(self) -> bytes:
-        """The same for the library, but for the partitions that it keeps. It is made once."""
+        """The lease as the library takes it, but for the partitions that it keeps. It is made once."""
         return bytes(_raw_lease(self))
 
 
@@ -372,8 +372,9 @@ class Core(Learned):
     def needs_promises(self, now: int) -> bool:
         """Whether the next snapshot must show what others have promised. In an eager group it must. In a cooperative
         group it must if no higher node is live, or if the group isn't stable and the member's turn to change the log
-        has come. Otherwise these promises may be left out: the member does the same. A snapshot may change what this
-        returns; if that is True after one that left promises out, the member needs another one."""
+        has come, or while the member keeps out a node that came again. Otherwise these promises may be left out: the
+        member does the same. A snapshot may change what this returns; if that is True after one that left promises out,
+        the member needs another one."""
         return bool(self._filled(ctypes.c_uint32(), 'needs_promises', _moment(now)).value)
 
     # What the driver reports.

@@ -51,6 +51,7 @@ from .values import Rows
 
 BEGIN = f'{{"form": {FORM}, '  # the start of an opening; an older version doesn't take it for one
 NAME = re.compile(rb'([0-9]{1,9}) [0-9a-f]{16}')  # of a log: its form, and a name that no other log has
+RESERVED = {'failing', 'lease', 'log', 'opening', 'presence', 'rows', 'time'}  # parts of keys of logs, also of earlier forms
 OLDEST, OF_OLDEST = 2, b'{"epoch": '  # a form without names, and the start of its openings
 FAILS, GAVE_UP = 'fails', 'gave up'  # notes of a node
 PAGE = 500  # appends that are read in one request
@@ -212,8 +213,12 @@ class EtcdLog:
     ) -> EtcdLog:  # fmt: skip
         """Makes a log with this opening at this address, if there is nothing below its prefix, and opens it.
 
-        Raises LogExists, ForeignLog, Denied, LogError, Unanswered; ValueError if the address isn't valid."""
+        Raises LogExists, ForeignLog, Denied, LogError, Unanswered; ValueError if the address isn't valid, or if keys of
+        another log could be below its prefix."""
         read = read_address(address)
+        if not RESERVED.isdisjoint(read.prefix.split('/')):
+            parts = ', '.join(sorted(RESERVED))
+            raise ValueError(f'{address}, and no part of the prefix of a new log may be one of {parts}: they are keys of logs')
         with closing(Client(read, patience, tls, user, password)) as client:
             client.begin()
             make(client, address, Keys(read.prefix), opening)
@@ -469,10 +474,9 @@ class EtcdLog:
         see_end(self.address, self._end_of(answer.ranges[0]), Promise(epoch, offset))
         return rows
 
-    def times(self, epoch: int) -> dict[int, int | None]:
-        begin = self._keys.time(self._keys.rows(epoch))
+    def times(self, epoch: int, offset: int = 0) -> dict[int, int | None]:
+        begin, after = (self._keys.time(key) for key in (self._keys.rows(epoch), self._keys.row(epoch, offset)))
         times: dict[int, int | None] = {}
-        after = begin
         while True:
             self._client.begin()
             found = pairs_of(self._look(range_from(after, behind(begin), limit=PAGE)).ranges[0])

@@ -10,6 +10,7 @@ import ssl
 import threading
 from base64 import b64decode, b64encode
 from collections.abc import Sequence
+from contextlib import suppress
 from typing import Any, NamedTuple, NoReturn
 
 from .clocks import seconds_of_boot, sleep_until_ready
@@ -23,9 +24,14 @@ RECEIVED = 65_536  # bytes of a watch that are read at once
 KV_RANGE, KV_TXN, WATCH, LOGIN = '/v3/kv/range', '/v3/kv/txn', '/v3/watch', '/v3/auth/authenticate'
 LEASE_GRANT, LEASE_KEEPALIVE = '/v3/lease/grant', '/v3/lease/keepalive'
 
-# Codes of gRPC: why etcd refuses a request.
-PERMISSION_DENIED, OUT_OF_RANGE, UNAUTHENTICATED = 7, 11, 16
-MAY_PASS = frozenset({1, 2, 4, 5, 8, 10, 13, 14})  # it may be done: also if etcd is full, or a lease has ended
+# Codes of gRPC: why etcd refuses a request. By any other code it may be done when it is asked again: also if etcd is full
+# or corrupt, has no leader, or doesn't know a lease.
+INVALID_ARGUMENT, PERMISSION_DENIED, FAILED_PRECONDITION, OUT_OF_RANGE, UNAUTHENTICATED = 3, 7, 9, 11, 16
+OF_USERS = frozenset({INVALID_ARGUMENT, PERMISSION_DENIED, FAILED_PRECONDITION, UNAUTHENTICATED})  # and of other things
+OWN_WORDS = 'etcdserver: '  # each error of etcd has these, and none of a proxy before it
+SAID_MAX = 200  # characters of an answer that are repeated
+
+HEADER = frozenset({'cluster_id', 'raft_term'})  # what the header of each answer has
 
 TARGETS = {'version': 'VERSION', 'create_revision': 'CREATE', 'mod_revision': 'MOD'}  # of a condition, by its number
 
@@ -66,14 +72,11 @@ def read_address(words: str) -> Address:
     kind, mark, rest = words.partition('://')
     servers, _, prefix = rest.partition('/')
     prefix = prefix.rstrip('/')
-    if '@' in servers or '@' in rest and not all(map(ENDPOINT.fullmatch, servers.split(','))):
+    if '@' in rest:  # a password may have a slash, and look like a port before that
         how = 'use --user NAME with BULLY_ETCD_PASSWORD or --password-file'
         raise ValueError(f'{shown_address(words)}, and an address can have no user and no password: {how}')
     if kind not in ('etcd', 'etcds') or not mark or not prefix:
         raise ValueError(f'{words}: an address must be etcd://HOST:PORT,HOST:PORT/PREFIX')
-    if not {'log', 'opening', 'presence', 'time'}.isdisjoint(prefix.split('/')):
-        parts = '`log`, `opening`, `presence` or `time`, because these are keys below the prefix of a log'
-        raise ValueError(f'{words}: no part of a prefix may be {parts}')
     prefix.encode()
     return Address(tuple(map(read_endpoint, servers.split(','))), prefix, kind == 'etcds')
 
@@ -201,11 +204,20 @@ class Refusal(Exception):
         return self.code == UNAUTHENTICATED or 'auth token' in str(self) or 'auth store is old' in str(self)
 
     @property
+    def is_of_etcd(self) -> bool:
+        """Whether etcd said so itself."""
+        return OWN_WORDS in str(self)
+
+    @property
     def denies(self) -> bool:
-        """Whether it refuses this user."""
-        said = str(self)
-        is_told = any(part in said for part in ('permission', 'auth', 'user name'))
-        return is_told or self.code in (PERMISSION_DENIED, UNAUTHENTICATED)
+        """Whether etcd refuses this user."""
+        is_told = any(part in str(self) for part in ('permission', 'auth', 'user name'))
+        return self.is_of_etcd and self.code in OF_USERS and is_told
+
+    @property
+    def is_final(self) -> bool:
+        """Whether etcd will never do what was requested."""
+        return self.is_of_etcd and self.code == INVALID_ARGUMENT
 
 
 class Compacted(Exception):
@@ -217,17 +229,26 @@ def refusal_of(error: object) -> Refusal:
     document = error if isinstance(error, dict) else {}
     code = document.get('code', document.get('grpc_code', 0))
     said = document.get('message') or document.get('error') or error
-    return Refusal(code if isinstance(code, int) else 0, str(said))
+    return Refusal(code if isinstance(code, int) else 0, str(said)[:SAID_MAX])
 
 
 def fail(endpoint: Endpoint, refusal: Refusal) -> NoReturn:
     """Raises what a refusal means."""
     said = f'{endpoint}: {refusal}'
-    if refusal.code == OUT_OF_RANGE and 'compacted' in said:
+    if refusal.code == OUT_OF_RANGE and refusal.is_of_etcd and 'compacted' in said:
         raise Compacted(said) from refusal
-    if refusal.code in MAY_PASS:
-        raise Silent(endpoint, str(refusal), may_be_done=True) from refusal
-    raise (Denied if refusal.denies else LogError)(said) from refusal
+    if refusal.denies or refusal.is_final:
+        raise (Denied if refusal.denies else LogError)(said) from refusal
+    raise Silent(endpoint, str(refusal), may_be_done=True) from refusal
+
+
+def document_in(text: bytes) -> Json:
+    """The document of an answer; an empty one if it has none."""
+    try:
+        document = json.loads(text)
+    except ValueError:
+        return {}
+    return document if isinstance(document, dict) else {}
 
 
 def silent_of(endpoint: Endpoint, error: Exception, may_be_done: bool) -> Silent:
@@ -267,7 +288,7 @@ class Answer(NamedTuple):
 
 
 class Names:
-    """Looks up the names of servers, in threads, because a lookup has no timeout."""
+    """Looks up the names of servers, in threads, because a lookup has no timeout. An address needs none."""
 
     def __init__(self) -> None:
         self._asked: dict[Endpoint, queue.SimpleQueue[list[Any] | OSError]] = {}
@@ -275,10 +296,10 @@ class Names:
     def places(self, endpoint: Endpoint, seconds: float) -> list[Any]:
         """The result of `getaddrinfo`. If it takes longer than that, the next call waits for it again. Raises
         Silent."""
+        with suppress(OSError, UnicodeError):  # it is a name
+            return found_at(endpoint, socket.AI_NUMERICHOST)
         if endpoint not in self._asked:
-            self._asked[endpoint] = queue.SimpleQueue()
-            words = endpoint, self._asked[endpoint]
-            threading.Thread(target=look_up, args=words, name='bully names', daemon=True).start()
+            self._asked[endpoint] = self._begun(endpoint)
         try:
             found = self._asked[endpoint].get(timeout=seconds)
         except queue.Empty:
@@ -289,9 +310,25 @@ class Names:
         return found
 
 
+    def _begun(self, endpoint: Endpoint) -> queue.SimpleQueue[list[Any] | OSError]:
+        """What will have the result of a lookup that is begun now. Raises Silent."""
+        answers: queue.SimpleQueue[list[Any] | OSError] = queue.SimpleQueue()
+        try:
+            threading.Thread(target=look_up, args=(endpoint, answers), name='bully names', daemon=True).start()
+        except RuntimeError as error:
+            said = 'its name can not be looked up, because no thread can be started'
+            raise Silent(endpoint, said, may_be_done=False) from error
+        return answers
+
+
+def found_at(endpoint: Endpoint, flags: int = 0) -> list[Any]:
+    """The result of `getaddrinfo`. Raises OSError, UnicodeError."""
+    return list(socket.getaddrinfo(endpoint.host, endpoint.port, type=socket.SOCK_STREAM, flags=flags))
+
+
 def look_up(endpoint: Endpoint, answers: queue.SimpleQueue[list[Any] | OSError]) -> None:
     try:
-        answers.put(socket.getaddrinfo(endpoint.host, endpoint.port, type=socket.SOCK_STREAM))
+        answers.put(found_at(endpoint))
     except OSError as error:
         answers.put(error)
     except UnicodeError as error:
@@ -458,24 +495,20 @@ class Client:
         return connection
 
     def _checked(self, status: int, text: bytes) -> Json:
-        """The content of an answer, if it is one of this etcd."""
-        try:
-            document = json.loads(text)
-        except ValueError:
-            document = None
-        if not isinstance(document, dict) and (status >= 500 or not text):
-            raise Silent(self.endpoint, f'status {status}', may_be_done=True)
-        if isinstance(document, dict) and ('error' in document or 'code' in document):
+        """The content of an answer, if it is one of this etcd. Any other one may come from a proxy before it."""
+        document = document_in(text)
+        if 'error' in document or 'code' in document:
             raise refusal_of(document['error'] if isinstance(document.get('error'), dict) else document)
-        answer: Json = document.get('result', document) if isinstance(document, dict) else {}
-        if status != 200 or 'raft_term' not in answer.get('header', {}):
-            what = f'with status {status}: {text[:80]!r}'
-            raise LogError(f'{self.endpoint}: it does not answer as etcd 3.4 or later does, but {what}')
-        cluster = answer['header'].get('cluster_id')
+        answer = document.get('result', document)
+        header = answer.get('header') if isinstance(answer, dict) else None
+        if status != 200 or not isinstance(header, dict) or not HEADER <= header.keys():
+            what = f'with status {status}: {text[:80]!r}' if text else f'with status {status}'
+            raise Silent(self.endpoint, f'it does not answer as etcd 3.4 or later does, but {what}', may_be_done=True)
+        cluster = header['cluster_id']
         if self._cluster not in (None, cluster):
             raise ForeignLog(f'{self.endpoint}: it is a server of another etcd cluster')
         self._cluster = cluster
-        return answer
+        return dict(answer)
 
 
 class Subscription:
@@ -524,18 +557,22 @@ class Subscription:
         return lines
 
     def _events_of(self, line: bytes) -> list[Json]:
-        try:
-            document = json.loads(line)
-        except ValueError as error:
-            raise Silent(self.endpoint, f'the answer is no watch, but {line[:80]!r}', may_be_done=False) from error
-        result = document.get('result', {})
-        if 'error' in document or result.get('canceled'):
-            why = refusal_of(document['error']) if 'error' in document else result.get('cancel_reason', 'compacted')
-            said = f'the server closed the watch: {why}'
-            is_denied = 'permission' in said
-            raise Denied(f'{self.endpoint}: {said}') if is_denied else Silent(self.endpoint, said, may_be_done=False)
+        document = document_in(line)
+        result = document.get('result')
+        if 'error' in document:
+            raise self._closed(refusal_of(document['error']))
+        if not isinstance(result, dict):
+            raise Silent(self.endpoint, f'the answer is no watch, but {line[:80]!r}', may_be_done=False)
+        if result.get('canceled'):
+            raise self._closed(result.get('cancel_reason', 'compacted'))
         events: list[Json] = result.get('events', [])
         return events
+
+    def _closed(self, why: object) -> Exception:
+        """The exception for a watch that the server has closed for this reason."""
+        said = f'the server closed the watch: {why}'
+        is_denied = f'{OWN_WORDS}permission' in said
+        return Denied(f'{self.endpoint}: {said}') if is_denied else Silent(self.endpoint, said, may_be_done=False)
 
 
 def limit(connection: http.client.HTTPConnection, end: float) -> None:

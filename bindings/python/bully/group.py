@@ -27,11 +27,18 @@ class Setup:
     keeps: bool = False
 
     def header(self) -> str:
-        """The header of a log with this setup, without its line end: of version 1 if that can express the setup, and
-        else of version 2, as `docs/FORMATS.md` says. `events_max` isn't in it: the bound of a log is always EVENTS_MAX.
+        """The header of a log with this setup, for the rows of replicas, without its line end: of version 1 if that can
+        express the setup, and else of version 2, as `docs/FORMATS.md` says. `events_max` isn't in it: the bound of a
+        log is always EVENTS_MAX.
 
         Raises BadNodes, BadPartitions, BadLimit, BadWeights, OutOfMemory."""
         return Room().row(loaded().bully_header, *setup_parts(self))
+
+    def detailed_header(self) -> str:
+        """The header of version 3 with this setup, for the rows that an `Agent` returns, without its line end.
+
+        Raises BadNodes, BadPartitions, BadLimit, BadWeights, OutOfMemory."""
+        return Room().row(loaded().bully_detailed_header, *setup_parts(self))
 
 
 def setup_parts(setup: Setup) -> tuple[Any, ...]:

@@ -5,10 +5,10 @@ In that form rows weren't compressed, and some columns and keys had other names.
 from __future__ import annotations
 
 import contextlib
-import time
 import zlib
 from collections.abc import Mapping, Sequence
 
+from .display import time_text
 from .encoding import BEFORE
 from .etcd import EtcdLog, Keys
 from .etcd_client import Pair
@@ -31,13 +31,6 @@ def timed(rows: Sequence[str], times: Mapping[int, int | None]) -> list[str]:
         told = time_text(times[offset]) if offset in times else told
         lines.append(f'{told},{row}')
     return lines
-
-
-def time_text(milliseconds: int | None) -> str:
-    """A time of UTC by ISO 8601; empty if there is none."""
-    if milliseconds is None:
-        return ''
-    return time.strftime('%Y-%m-%dT%H:%M:%S', time.gmtime(milliseconds // 1000)) + f'.{milliseconds % 1000:03}Z'
 
 
 # The tables of the form before, with the names of today.

@@ -13,8 +13,10 @@ from .header import HERE, own, top_of_tree, type_of
 from .values import Call, CallKind, Line, Owned, Rows, State, Status, Want
 
 FILE = 'libbully.so'
-WHERE = f'the wheel of a release has it, and an archive, in lib; in the sources run bin/library, which builds {FILE}'
-HOW_TO_FIND = f'{WHERE}, and then pip install bindings/python; or set BULLY_LIBRARY to the folder that has it'
+UNPROVED = os.path.join('out', 'unproved', 'library')  # in the sources: what the demo builds
+WHERE = f'the wheel of a release has it, and an archive, in lib; in the sources run bin/library, which proves and builds {FILE}'
+SOONER = f'or bin/library --unproved {UNPROVED}, which builds it without proofs in minutes'
+HOW_TO_FIND = f'{WHERE}, {SOONER}, and then pip install bindings/python; or set BULLY_LIBRARY to the folder that has it'
 ROOM_MIN = 256
 UINT16_MAX = 0xFFFF
 UINT32_MAX = 0xFFFF_FFFF
@@ -56,6 +58,7 @@ def _own_places() -> Iterator[str]:
     for top in top_of_tree():
         yield os.path.join(top, 'lib')
         yield os.path.join(top, 'out', 'library', 'lib')
+        yield os.path.join(top, UNPROVED, 'lib')
 
 
 def _place_of(path: str | os.PathLike[str] | None) -> str:
@@ -73,7 +76,8 @@ def _place_of(path: str | os.PathLike[str] | None) -> str:
 def load(path: str | os.PathLike[str] | None = None) -> None:
     """Loads the library from this path: its file, the folder of that, or a folder that has it in `lib`. Without a path
     it is BULLY_LIBRARY of the environment, or else libbully.so in the folder of this package, in `lib` of an archive or
-    in `out/library` of the repository, or else the one that the system finds by that name.
+    in `out/library` of the repository, or in its `out/unproved/library`, which isn't proved; or else the one that the
+    system finds by that name.
 
     Raises NoLibrary, an OSError, if the library isn't there."""
     place, prototypes = _place_of(path), _prototypes()

@@ -13,20 +13,15 @@ from contextlib import ExitStack, suppress
 from functools import partial
 from typing import Deque, TypeVar
 
-from .adapter import (
-    Leases, Requester, awaited, core_opening_of, known_of, needs_promises, note_leaving, seen_of,
-)  # fmt: skip
 from .clocks import SECOND, nanoseconds_of_boot, seconds_of_boot, sleep_until_ready
-from .core import (
-    Activity, Ask, BackOff, Begin, Core, End, Ending, Live, Promise, Reason, Request, Seen, Session, Step, Stop, StoreAnswer,
-    Until, Wait,
-)  # fmt: skip
+from .core import BackOff, Core, End, Ending, Reason, Request, Session
 from .display import shown_name
+from .driver import Call, Driver, Note, Start, Step, StopWork, WaitForNews
 from .epochs import Opening, Token
 from .faults import OutOfMemory
 from .observer import waits_for
 from .settings import Settings
-from .shared_log import DamagedLog, Holder, Known, Log, LogError, Snapshot, Unanswered, found_in, openings_of
+from .shared_log import DamagedLog, Log, LogError, Snapshot, Unanswered, found_in, openings_of
 from .values import Status
 from .view import Behind
 from .work_failures import Failures, GivingUp
@@ -41,7 +36,6 @@ ENDINGS = {
 
 
 NOTHING = None, 0.0, False  # what a member without a lease shows
-NONE: frozenset[int] = frozenset()  # no partitions
 _Answered = TypeVar('_Answered')
 _logger = logging.getLogger('bully')
 
@@ -82,6 +76,9 @@ class Member:
         with Member(SqliteLog('group.db'), 2, start, stop) as member:
             member.run()
 
+    `run` returns after `leave`, which another thread or a signal handler calls. A call of the log must not take longer
+    than a fifth of the ttl, 1 s by default. `examples/members/embedded.py` is a whole program.
+
     In a cooperative group they are called if the set of partitions changes; the work goes on by its earlier token if it
     doesn't. Callbacks by partition stop only what moves. They are on the same terms:
 
@@ -99,10 +96,10 @@ class Member:
         """A member of the log's group, for the node of this name, or of this number in the current epoch. When the
         group's settings change it keeps the name; `run` returns if the group has no such node any more. The work is
         done by `start` and `stop`, by `on_assigned` and `on_revoked`, or by `work`. If `settings` are given, which may
-        be those of an earlier epoch, the log must belong to that group. After each renewal `sure` is called with the
-        time until which ownership is sure, by `clocks.seconds_of_boot`; before a lease is requested `acquires` is, with
-        the session that may hold it. With `failures`, which the code that does the work counts, the member notes in the
-        log that its work fails, and its node may give up.
+        be those of an earlier epoch, the log must belong to that group. After each renewal, and if its lease was taken
+        away, `sure` is called with the time until which ownership is sure, by `clocks.seconds_of_boot`; before a lease
+        is requested `acquires` is, with the session that may hold it. With `failures`, which the code that does the work
+        counts, the member notes in the log that its work fails, and its node may give up.
 
         Raises TypeError if it isn't given exactly one of these kinds of work; OtherGroup, NotInGroup, BadHeader,
         BadNode, BadTtl, OutOfMemory, and what the log raises."""
@@ -114,8 +111,8 @@ class Member:
         self._other: Session | None = None  # the session of another process that was last seen for its node
         self.failure: BaseException | None = None
         self.behind = Behind()
-        self._take_part(opening, node_number(opening, node))
-        self.name = opening.names[self.core.node - 1]
+        self._driver = self._driver_of(opening, node)
+        self.name = self._driver.name
         self._does = self._work_by((start, stop), (on_assigned, on_revoked), on_lost, work)
         self.is_drained = False  # whether it does nothing because its node is drained
         self.gave_up = False  # whether it does nothing for a while because its work fails, and its node gave up
@@ -124,7 +121,6 @@ class Member:
         self._is_leaving = False
         self._is_stuck = False  # whether a stop failed, so that work may never stop
         self._work: Assignment | None = None  # what its node owned when it last began; on some of it work may have ended
-        self._working = self._stopping = NONE  # the partitions on which it works, and those of which work has to end
         self._to_call: queue.SimpleQueue[Callable[[], None] | None] = queue.SimpleQueue()
         self._reports: Deque[Collection[int]] = collections.deque()  # partitions on which work has ended
         self._woken: socket.socket  # while it runs: can be read once it is woken
@@ -149,21 +145,19 @@ class Member:
             raise TypeError('a member needs start and stop, or on_assigned and on_revoked, or work')
         return kinds[0]
 
-    def _take_part(self, opening: Opening, number: int) -> None:
-        """It takes part for the node of this number, with a process number of its own."""
-        self._process = secrets.randbits(63)
-        self._has_announced = False  # whether it has noted in the log that it leaves
-        self.core = Core(core_opening_of(opening, number), self._process, int(self.ttl * SECOND))
-        self._enter(opening)
+    def _driver_of(self, opening: Opening, node: int | str) -> Driver:
+        """A driver that takes part from this epoch on, as a process with a number of its own."""
+        return Driver(self.log, opening, node_number(opening, node), secrets.randbits(63), int(self.ttl * SECOND))
 
-    def _enter(self, opening: Opening) -> None:
-        self.opening = opening
-        self._numbers = {name: number for number, name in enumerate(opening.names, 1)}
-        self._found = Snapshot(opening.epoch, (), {}, None)  # the last snapshot
-        self._sessions = self._found.sessions  # in that
-        self._seen = Seen(opening.epoch)  # what the core was shown of that
-        self._leases = Leases()
-        self._own: Holder | None = None  # its own lease, with its last promise that was done
+    @property
+    def core(self) -> Core:
+        """The rules that it follows."""
+        return self._driver.core
+
+    @property
+    def opening(self) -> Opening:
+        """The opening of its epoch."""
+        return self._driver.opening
 
     # Any thread may call these.
 
@@ -188,12 +182,17 @@ class Member:
     @property
     def node(self) -> int:
         """The number of its node in this epoch."""
-        return self._numbers[self.name]
+        return self._driver.numbers[self.name]
 
     @property
     def sure_until(self) -> float:
         """Until when the node is surely live, by `clocks.seconds_of_boot`."""
         return self._shown[1]
+
+    @property
+    def stopping(self) -> frozenset[int]:
+        """The partitions on which its work has to end, and hasn't."""
+        return self._driver.stopping
 
     @property
     def is_leaving(self) -> bool:
@@ -206,12 +205,12 @@ class Member:
         self._wake()
 
     def fail(self, failure: BaseException) -> None:
-        """The same, and `run` raises this."""
+        """Ends the member in order, as `leave` does; `run` then raises this."""
         self.failure = self.failure or failure
         self.leave()
 
     def end_with(self, failure: BaseException) -> None:
-        """The same, unless the member is already leaving."""
+        """Ends the member in order, and `run` then raises this; does nothing if the member is already leaving."""
         if not self._is_leaving:
             self.fail(failure)
 
@@ -283,7 +282,7 @@ class Member:
         while not self._is_stuck:
             self._hear()
             self.stepped = seconds_of_boot()
-            step = self.core.next(nanoseconds_of_boot())
+            step = self._driver.next(nanoseconds_of_boot())
             if not isinstance(step, End):
                 self._show()  # before a promise or a release ends its lead
                 self._do(step)
@@ -299,6 +298,8 @@ class Member:
         if not self.gave_up:  # that was logged before
             level = logging.WARNING if ending is Ending.NOT_THERE else logging.INFO
             why = 'it is drained, and does nothing' if self.is_drained else ENDINGS[ending]
+            if ending is Ending.LEFT and self.failure is not None:
+                why = f'it has left, because {str(self.failure) or type(self.failure).__name__}'
             _logger.log(level, 'node %s: %s', shown_name(self.name), why)
         if ending is Ending.BROKEN:
             self.failure = self.failure or self.core.fault or DamagedLog('the log has a row that is not an event')
@@ -306,7 +307,7 @@ class Member:
         while is_away and not self._is_leaving:
             opening, before = self._answer(self._returned), self.core
             if opening is not None:
-                self._take_part(opening, node_number(opening, self.name))
+                self._driver = self._driver_of(opening, self.name)
                 before.close()
                 self.is_drained = self.gave_up = False
                 return True
@@ -329,27 +330,17 @@ class Member:
         return opening
 
     def _hear(self) -> None:
-        """Reports to the core what has happened meanwhile."""
+        """Reports what has happened meanwhile."""
         with suppress(BlockingIOError):
             self._woken.recv(4096, socket.MSG_DONTWAIT)
         if self._is_leaving:
-            self.core.leave()
+            self._driver.leave()
         while self._reports:
-            self._hear_ended(self._reports.popleft())
-
-    def _hear_ended(self, partitions: Collection[int]) -> None:
-        """Reports to the core that the work on these partitions has ended."""
-        self._working, self._stopping = self._working.difference(partitions), self._stopping.difference(partitions)
-        if self._working or self._stopping:
-            for partition in partitions:
-                self.core.stopped_on(partition)
-        else:
-            self._work = None
-            self.core.stopped()
+            self._driver.ended(self._reports.popleft())
 
     def _show(self) -> None:
-        shown = None if self._work is None else self._work.left(self._working)
-        leads = not (self._stopping or self.opening.is_cooperative) and self._is_coordinator(shown)
+        shown = None if self._work is None else self._work.left(self._driver.working)
+        leads = not (self._driver.stopping or self.opening.is_cooperative) and self._is_coordinator(shown)
         self._shown = shown, self.core.sure_until / SECOND, leads
 
     def _is_coordinator(self, work: Assignment | None) -> bool:
@@ -363,159 +354,100 @@ class Member:
     # Its steps.
 
     def _do(self, step: Step) -> None:
-        if isinstance(step, Ask):
+        if isinstance(step, Call):
             self._ask(step)
-        elif isinstance(step, Begin):
-            self._begin()
-        elif isinstance(step, Stop):
-            self._stop()
+        elif isinstance(step, Note):
+            self._answer(step.call)
+        elif isinstance(step, Start):
+            self._start(step)
+        elif isinstance(step, StopWork):
+            self._stop(step.partitions)
         elif isinstance(step, BackOff):
-            if not self._announces(step.reason):
-                sleep_until_ready(step.at_most / SECOND, self._woken.fileno())
-        elif isinstance(step, Wait):
+            sleep_until_ready(step.at_most / SECOND, self._woken.fileno())
+        elif isinstance(step, WaitForNews):
             self._wait(step)
 
-    def _begin(self) -> None:
+    def _start(self, step: Start) -> None:
         """Starts the work on what its node owns, and goes on where it works already."""
-        owned, planner = self.core.owned(), self.core.planner
-        assert owned is not None and planner is not None
-        token, before = Token.of(self.opening.epoch, owned.token), self._working
-        work = Assignment(token, planner, owned.partitions, self.opening.settings)
-        self._work, self._working = work, frozenset(owned.partitions)
+        token, partitions = Token.of(self.opening.epoch, step.owned.token), step.owned.partitions
+        self._work = work = Assignment(token, step.coordinator, partitions, self.opening.settings)
         self._show()
-        self._to_call.put(partial(self._does.start, work, self._working - before))
+        self._to_call.put(partial(self._does.start, work, step.added))
 
-    def _stop(self) -> None:
+    def _stop(self, partitions: frozenset[int]) -> None:
         """Stops the work that it may not go on with. It isn't shown any more."""
-        activities = enumerate(self.core.activities())
-        stopping = frozenset(partition for partition, activity in activities if activity is Activity.STOPPING)
-        stopped, self._stopping = stopping - self._stopping, stopping
-        self._working -= stopping
         self._show()
-        left = None if self._work is None else self._work.left(self._working)
-        self._to_call.put(partial(self._does.stop, left, stopped))
+        left = None if self._work is None else self._work.left(self._driver.working)
+        self._to_call.put(partial(self._does.stop, left, partitions))
 
-    def _wait(self, step: Wait) -> None:
-        """Waits for news in the log, or until it is woken; unless it must note something in the log, or read promises
-        that the last snapshot left out."""
-        found, needs = self._found, self._needs_promises()
-        if self._notes() or self._announces(step.reason) or needs and not found.has_promises:
-            self.core.woke()
-            return
-        self._see_behind(step.reason)
-        epoch, offset = self.opening.epoch, self.core.offset
-        until, seconds = awaited(step.until, self._seen, needs), step.at_most / SECOND
-        self._answer(lambda: self.log.wait(epoch, offset, self._sessions, until, seconds, self._woken.fileno()))
-        self.core.woke()
-
-    def _needs_promises(self) -> bool:
-        """Whether the core must be shown what others have promised."""
-        return needs_promises(self.core, self._found, nanoseconds_of_boot())
+    def _wait(self, step: WaitForNews) -> None:
+        """Waits for news in the log, or until it is woken; unless it must note something in the log."""
+        if not self._notes():
+            self._see_behind(step.reason)
+            seconds = step.at_most / SECOND
+            self._answer(lambda: self.log.wait(*step[:4], seconds, self._woken.fileno()))
+        self._driver.woke()
 
     def _see_behind(self, reason: Reason) -> None:
         """Notes for whom the change waits that is under way, if one is. Without promises it isn't known for whom; what
         was noted before stays until the change is over."""
-        core, found, end = self.core, self._found, Promise(self.opening.epoch, self.core.offset)
+        core, found, end = self.core, self._driver.found, self._driver.end
         is_over = reason is Reason.STABLE or core.session is None or found.is_frozen(end)
         if not is_over and not found.has_promises:
             return
         with suppress(OutOfMemory):  # then that isn't shown
             self.behind.see(end, {} if is_over else waits_for(core, self.opening, found))
 
-    def _announces(self, reason: Reason) -> bool:
-        """Whether it made a call to the log to note that it leaves: once, while its work stops."""
-        core = self.core
-        is_due = reason is Reason.STOP and core.ending is Ending.LEFT and core.sure_until > nanoseconds_of_boot()
-        live = None if self._has_announced or not is_due else core.session
-        if not isinstance(live, Live):
-            return False
-        self._has_announced, session = True, live.session
-        self._answer(lambda: note_leaving(self.log, self.name, session))
-        return True
-
     def _notes(self) -> bool:
         """Whether it made a call to the log to note how its work goes. Its node may have given up by that."""
         if self.core.sure_until <= nanoseconds_of_boot() or self.core.ending is not None:
             return False
         leads = self.core.planner == self.core.node
-        asked = self._giving_up.due(self._found, self._numbers.keys(), leads)
+        asked = self._giving_up.due(self._driver.found, self._driver.numbers.keys(), leads)
         if asked is not None and self._answer(asked):
             self.gave_up = True
-            self.core.leave()
+            self._driver.leave()
             who, seconds = shown_name(self.name), self._giving_up.go_away()
             said = 'node %s: its worker keeps failing; it gives up what it owns, and tries again in %.1f s'
             _logger.warning(said, who, seconds)
         return asked is not None
 
-    def _ask(self, ask: Ask) -> None:
-        """Makes a request to the log, and reports the result to the core."""
-        if ask.request is Request.ACQUIRE and self._acquires is not None:
-            self._acquires(ask.session)
-        result = self._answer(self._requester().call(ask))
+    def _ask(self, step: Call) -> None:
+        """Makes a call of the log, and reports the result."""
+        request, session = step.ask.request, step.ask.session
+        if request is Request.ACQUIRE and self._acquires is not None:
+            self._acquires(session)
+        sure_until, epoch = self.core.sure_until, self.opening.epoch
+        result = self._answer(step.call)
         if isinstance(result, Snapshot):
-            self._snapshot_read(result)
-        elif isinstance(result, Opening):
-            self._followed(result)
-        else:
-            answer = StoreAnswer.UNANSWERED if result is None else StoreAnswer.DONE if result else StoreAnswer.REFUSED
-            self.core.answered(nanoseconds_of_boot(), answer)
-        if result and ask.request in (Request.ACQUIRE, Request.PROMISE):
-            kept = self.core.works() if ask.request is Request.PROMISE else ()
-            self._own = Holder(ask.session, Promise(self.opening.epoch, ask.offset), kept)
-        if result and ask.request is Request.ACQUIRE:
-            _logger.info('node %s: live as %d.%d', shown_name(self.name), ask.session.process, ask.session.number)
-        if result and ask.request in (Request.ACQUIRE, Request.RENEW) and self._sure is not None:
+            self._giving_up.see(result)
+            self._see_other(result)
+        self._driver.answered(nanoseconds_of_boot(), step.ask, result)
+        if self.opening.epoch != epoch:
+            _logger.info('node %s: continues in epoch %d as number %d', shown_name(self.name), self.opening.epoch, self.node)
+        if result and request is Request.ACQUIRE:
+            _logger.info('node %s: live as %d.%d', shown_name(self.name), session.process, session.number)
+        if result and request in (Request.ACQUIRE, Request.RENEW) and self._sure is not None:
             self._sure(self.core.sure_until / SECOND)
+        if sure_until > nanoseconds_of_boot() and self.core.session is None and request is not Request.RELEASE:
+            self._lose_lease()
 
-    def _requester(self) -> Requester:
-        ttl, core = int(self.ttl * SECOND), self.core
-        return Requester(
-            self.log, self.name, self.opening, core.offset, lambda: ttl, self._needs_promises(), core.rebalance,
-            self._after, core.works, self._known,
-        )  # fmt: skip
+    def _lose_lease(self) -> None:
+        """Its lease is gone, though it was sure, and the member hasn't released it: others may work from now on, so the
+        time of its work is over at once."""
+        _logger.warning('node %s: somebody took its lease away, so its work is ended at once', shown_name(self.name))
+        self._show()
+        if self._sure is not None:
+            self._sure(seconds_of_boot())
 
-    def _known(self) -> Known | None:
-        """What a change of the log compares of leases."""
-        return known_of(self.core, self.opening, self._found, self.name, self._own)
-
-    def _after(self) -> Opening:
-        """The opening of the next epoch."""
-        return self.opening.next(self._found.requested, self.core.last_table or self.opening.table)
-
-    def _snapshot_read(self, found: Snapshot) -> None:
-        """Takes in a snapshot."""
-        if found.holders is not self._found.holders:
-            self._sessions = found.sessions
-        self._found, self._own = found, None  # its own lease is in the snapshot
-        self._giving_up.see(found)
-        holder = found.holders.get(self.name)
-        self._see_other(holder.session if holder is not None else None)
-        self.core.learn(found.rows)
-        end = Promise(self.opening.epoch, self.core.offset)
-        self._seen = seen_of(found, end, self.name, self._numbers, self._is_up, self._leases)
-        self.core.snapshot_read(nanoseconds_of_boot(), self._seen)
-        if found.maintenance.takes_out(self.name, self.core.sure_until > 0):
-            self.core.leave()
-
-    def _is_up(self, number: int) -> bool:
-        return self.core.state(number).status is not Status.DOWN
-
-    def _see_other(self, session: Session | None) -> None:
+    def _see_other(self, found: Snapshot) -> None:
         """Logs once for each session of another process that it holds the lease of this member's node."""
-        if session is not None and session.process != self._process and session != self._other:
-            self._other = session
+        holder = found.holders.get(self.name)
+        if holder is not None and holder.session.process != self._driver.process and holder.session != self._other:
+            self._other = session = holder.session
             who = shown_name(self.name), session.process, session.number
             said = 'node %s: another process is live for it, as %d.%d, and this one waits until that one ends'
             _logger.warning(said, *who)
-
-    def _followed(self, opening: Opening) -> None:
-        """Takes in the opening of the current epoch."""
-        is_in = self.name in opening.names
-        there = core_opening_of(opening, node_number(opening, self.name)) if is_in else None
-        self.core.followed(nanoseconds_of_boot(), there)
-        if is_in and opening.epoch != self.opening.epoch:
-            self._enter(opening)
-            _logger.info('node %s: continues in epoch %d as number %d', shown_name(self.name), opening.epoch, self.node)
 
     def _answer(self, call: Callable[[], _Answered]) -> _Answered | None:
         """The answer of the log; None if it doesn't answer."""

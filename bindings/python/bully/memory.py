@@ -140,9 +140,9 @@ class MemoryLog:
             see_end('the log', self._end(), Promise(epoch, offset))
             return self._rows[epoch][offset:]
 
-    def times(self, epoch: int) -> dict[int, int | None]:
+    def times(self, epoch: int, offset: int = 0) -> dict[int, int | None]:
         with self._changed:
-            return dict(self._times.get(epoch, {}))
+            return {begin: time for begin, time in self._times.get(epoch, {}).items() if begin >= offset}
 
     def prune(self, first: int) -> None:
         with self._changed:

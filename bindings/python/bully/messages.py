@@ -1,7 +1,6 @@
 """What a member writes on standard error. A thread of its own writes that, so that no reader holds up the member."""
 from __future__ import annotations
 
-import json
 import logging
 import os
 import queue
@@ -9,7 +8,7 @@ import select
 import threading
 from contextlib import suppress
 
-from .display import shown_name
+from .display import json_line, shown_name
 
 
 WAITING_MAX = 1000  # messages that wait to be written; if there are more, the newest are left out
@@ -31,9 +30,7 @@ class JsonLines(logging.Formatter):
     """Each message as a line of JSON: its time, its level and its text."""
 
     def format(self, record: logging.LogRecord) -> str:
-        text = super().format(record)  # with the exception, if there is one
-        line = {'time': round(record.created, 3), 'level': record.levelname.lower(), 'message': text}
-        return json.dumps(line, ensure_ascii=False)
+        return json_line(record.created, record.levelname.lower(), super().format(record))  # with its exception, if any
 
 
 def write(text: bytes) -> None:
@@ -50,12 +47,12 @@ class Messages(logging.Handler):
     """Writes messages, and never blocks the code that logs them."""
 
     def __init__(self, formatter: logging.Formatter) -> None:
-        super().__init__()
-        self.setFormatter(formatter)
         self._lines: queue.Queue[str | None] = queue.Queue(WAITING_MAX)
         self._left_out = 0
         self._writer = threading.Thread(target=self._write_all, name='bully messages', daemon=True)
         self._writer.start()
+        super().__init__()  # so a handler whose thread can't be started isn't there
+        self.setFormatter(formatter)
 
     def emit(self, record: logging.LogRecord) -> None:
         try:

@@ -62,7 +62,7 @@ def waits_for(core: Core, opening: Opening, found: Snapshot) -> dict[str, Holder
 class Observer(Core):
     """The rules of a member in one epoch, for a process that acquires no lease. It admits sessions as a member does
     that reads snapshots as often: so a session whose node was Down in its first snapshot isn't admitted at that
-    time. It has the rules of the highest node, which goes by all promises."""
+    time, unless a change is under way. It has the rules of the highest node, which goes by all promises."""
 
     def __init__(self, opening: Opening, ttl: float) -> None:
         super().__init__(core_opening_of(opening, len(opening.names)), NO_PROCESS, int(ttl * SECOND))

@@ -3,6 +3,7 @@ there."""
 from __future__ import annotations
 
 import base64
+import enum
 import functools
 import hashlib
 import html
@@ -13,7 +14,8 @@ import socketserver
 import sys
 import threading
 import time
-from collections.abc import Callable, Iterable
+from collections import Counter
+from collections.abc import Callable, Iterable, Mapping
 from contextlib import suppress
 from email.message import Message
 from http.server import BaseHTTPRequestHandler, ThreadingHTTPServer
@@ -21,6 +23,7 @@ from typing import Any, NamedTuple
 from urllib.parse import parse_qs
 
 from .clocks import seconds_of_boot
+from .display import shown_name, time_text
 from .faults import BullyError
 from .hosts import BadRequest, Hosts, Target
 from .member import Member
@@ -35,7 +38,8 @@ POLL_SECONDS = 25.0  # the longest wait of a request for news
 POLLS_MAX = 64  # requests that wait at the same time
 SNAPSHOT_SECONDS = 0.1  # between two snapshots of the log, at least, however many requests there are
 SNAPSHOT_MAX = 2.0  # seconds for which a request waits until another one has read a snapshot
-CONNECTIONS_MAX = 100  # at the same time; one more closes the longest silent one, or itself if all have asked
+CONNECTIONS_MAX = 100  # at the same time; one more closes one that has its answer, or else the longest silent one
+SHOWING_MAX = 80  # of these, that are answered at the same time with more than a status: the others are kept for probes
 ASK_SECONDS = 10.0  # for which a connection may send nothing, or take nothing
 REST_SECONDS, REST_MAX = 1.0, 1_000_000  # for how long, and how many bytes, the unused rest of a request is read
 METHODS = 'GET, HEAD, OPTIONS'
@@ -43,6 +47,15 @@ PARTITION = '/partitions/'  # and a number
 STATUSES = ('/livez', '/readyz', '/healthz', '/leader')  # the answer of these, and of a partition, is the status
 SHOWN = ('/', '/group', '/assignment')  # these show the log as it is now
 PATHS = (*STATUSES, *SHOWN, '/metrics', '*')
+
+OWNERS_MAX = 8  # whose partitions of a plan are counted in words, at most
+# What an event is, in words, for its node.
+EVENTS = {
+    'recover': '{} is up', 'crash': '{} counts as down', 'check': '{} checks whether all is well',
+    'timeout': '{} has waited for too long', 'start': '{} starts a call to another node', 'run': 'a call of {} is carried out',
+    'lose': 'a call of {} fails', 'return': 'a call of {} returns', 'drop': 'an old call of {} is dropped',
+    'move': '{} takes its next step', 'plan': '{} plans how many partitions each node owns',
+}  # fmt: skip
 
 STYLE = """
 body { font: 15px/1.45 system-ui, sans-serif; margin: 1.5rem auto; max-width: 72rem; padding: 0 1rem; }
@@ -103,12 +116,12 @@ def told(status: int, text: str) -> Answer:
 def page_of(name: str, group: GroupView, told_worker: str) -> str:
     """The page of the member of this name, with a text about its worker."""
     live = sum(node.is_live for node in group.nodes)
-    title = f'{html.escape(name)}: token {group.token or "-"}, coordinator {html.escape(group.coordinator or "-")}'
+    title = f'{shown(name)}: token {group.token or "-"}, coordinator {shown(group.coordinator)}'
     return (
         '<!doctype html><html lang="en"><meta charset="utf-8"><meta name="viewport" content="width=device-width">'
         f'<title>{title}</title><noscript><meta http-equiv="refresh" content="3"></noscript><style>{STYLE}</style>'
-        f'<body data-events="{group.events}" data-epoch="{group.epoch}"><h1>Group, as {html.escape(name)} sees it</h1>'
-        f'<p class="small">coordinator <b>{html.escape(group.coordinator or "none")}</b>, '
+        f'<body data-events="{group.events}" data-epoch="{group.epoch}"><h1>Group, as {shown(name)} sees it</h1>'
+        f'<p class="small">coordinator <b>{shown(group.coordinator or "none")}</b>, '
         f'token <b>{group.token or "none"}</b>, {group.events} events in epoch {group.epoch}, '
         f'{group.mode}, {live} of {len(group.nodes)} nodes live{html.escape(group.told_more + told_worker)}</p>'
         f'<h2>Nodes</h2>{nodes_of(group)}<h2>Partitions</h2>{partitions_of(group)}'
@@ -123,12 +136,14 @@ def nodes_of(group: GroupView) -> str:
 
 
 def row_of(node: NodeView) -> str:
-    """The row of a node."""
-    status = str(node.status)
-    owns = ' '.join(map(str, node.partitions)) or '-'
+    """The row of a node. What the log says of one that isn't live may be of before its end, as in a pause."""
+    status, owns = str(node.status), ' '.join(map(str, node.partitions)) or '-'
+    is_gone = not node.is_live and node.status is not Status.DOWN
+    colour, told_status = (str(Status.DOWN), f'not live, {status} before') if is_gone else (status, status)
+    idle = ' (nobody works on these)' if is_gone and node.partitions else ''
     return (
-        f'<tr><td>{html.escape(node.name)}<td><span class="dot {status}"></span>{status}<td>{node.told_live}'
-        f'<td>{html.escape(node.coordinator or "-")}<td>{owns}</tr>'
+        f'<tr><td>{shown(node.name)}<td><span class="dot {colour}"></span>{told_status}<td>{node.told_live}'
+        f'<td>{shown(node.coordinator)}<td>{owns}{idle}</tr>'
     )
 
 
@@ -140,18 +155,38 @@ def partitions_of(group: GroupView) -> str:
 
 def cell_of(partition: int, view: PartitionView) -> str:
     """A partition, with who may work on it by which token, and to whom it moves."""
-    moves = '' if view.coming is None or view.coming == view.owner else f' to {html.escape(view.coming)}'
+    moves = '' if view.coming is None or view.coming == view.owner else f' to {shown(view.coming)}'
     stops = ', stops' if view.doing is Doing.STOPPING else ''
-    owner = html.escape(view.owner or '-')
+    owner = shown(view.owner)
     token = '' if view.token is None else f' title="token {view.token}"'
     return f'<span class="cell {view.doing.value}"{token}>{partition} <b>{owner}</b>{moves}{stops}</span>'
 
 
 def last_of(group: GroupView) -> str:
     """The last rows, the newest first."""
-    last = reversed(group.last)
-    rows = ''.join(f'<tr><td class="small">{number}<td><code>{html.escape(row)}</code></tr>' for number, row in last)
-    return f'<table><tr><th>row<th>event</tr>{rows}</table>'
+    names = {str(node.node): node.name for node in group.nodes}
+    rows = ''.join(
+        f'<tr><td class="small">{row.number}<td class="small">{time_text(row.time) or "-"}<td>{told_event(row.text, names)}'
+        f'<td><code class="small">{html.escape(row.text)}</code></tr>'
+        for row in reversed(group.last)
+    )
+    return f'<table><tr><th>row<th>time (UTC)<th>event<th>as in the log</tr>{rows}</table>'
+
+
+def told_event(row: str, names: Mapping[str, str]) -> str:
+    """The event of a row in words, with the names of its nodes."""
+    event, node, *more = [*row.split(','), '']
+    words = EVENTS.get(event, event).format(f'<b>{shown(names.get(node, node))}</b>')
+    if event != 'plan':
+        return words
+    counts = Counter(names.get(owner, owner) for owner in more[0].split())
+    first = ', '.join(f'{shown(name)} {count}' for name, count in counts.most_common(OWNERS_MAX))
+    return f'{words}: {first}{", .." if len(counts) > OWNERS_MAX else ""}'
+
+
+def shown(name: str | None) -> str:
+    """A name in a page: signs that can't be printed, or that change the direction of what follows, are shown as `?`."""
+    return html.escape(shown_name(name))
 
 
 def labels(name: str) -> str:
@@ -183,6 +218,8 @@ def metrics_of(known: Known, name: str, sure_seconds: float, workers: Workers | 
         stopping, wait = [(mine, workers.stopping_seconds)], [(mine, workers.backoff_seconds)]
         tell('bully_stopping_seconds', 'How many seconds ago its worker was told to stop, if it has not.', stopping)
         tell('bully_worker_backoff_seconds', 'For how many seconds its worker still backs off after a failure.', wait)
+        about = 'How often the watchdog killed a worker because the lease was not sure any more.'
+        tell('bully_work_killed_total', about, [(mine, workers.killed)], 'counter')
     if known.group is not None:
         tell('bully_group_age_seconds', 'How many seconds ago the metrics of the group were read.', [('', known.age)])
         tell_group(tell, known.group)
@@ -282,9 +319,16 @@ class Reader:
             self._lock.release()
 
 
+class Asked(enum.Enum):
+    """What a connection has asked: nothing; a status, or something else, that isn't answered yet; or what has been
+    answered."""
+
+    NOTHING, STATUS, OTHER, ANSWERED = range(4)
+
+
 class Server(ThreadingHTTPServer):
-    """A server whose requests end with it. It has a bound on connections, and a client that asks at once gets
-    through."""
+    """A server whose requests end with it. It has a bound on connections, and a client that asks at once gets through,
+    at least if it asks for a status."""
 
     daemon_threads = True
     block_on_close = False
@@ -292,7 +336,7 @@ class Server(ThreadingHTTPServer):
 
     def __init__(self, address: tuple[str, int], handler: Callable[..., BaseHTTPRequestHandler]) -> None:
         self.address_family = socket.AF_INET6 if ':' in address[0] else socket.AF_INET
-        self._open: dict[Any, bool] = {}  # connections, the oldest first, and whether each has asked
+        self._open: dict[Any, Asked] = {}  # connections, the oldest first
         self._lock = threading.Lock()
         super().__init__(address, handler)
 
@@ -303,9 +347,9 @@ class Server(ThreadingHTTPServer):
 
     def process_request(self, request: Any, client_address: Any) -> None:
         with self._lock:
-            self._open[request] = False
-            silent = (each for each, has_asked in self._open.items() if not has_asked)
-            closed = next(silent) if len(self._open) > CONNECTIONS_MAX else None
+            self._open[request] = Asked.NOTHING
+            useless = (each for kind in (Asked.ANSWERED, Asked.NOTHING) for each, asked in self._open.items() if asked is kind)
+            closed = next(useless) if len(self._open) > CONNECTIONS_MAX else None
             self._open.pop(closed, None)
         if closed is request:
             self.shutdown_request(request)
@@ -313,13 +357,18 @@ class Server(ThreadingHTTPServer):
         if closed is not None:
             with suppress(OSError):
                 closed.shutdown(socket.SHUT_RDWR)  # this ends its thread
-        super().process_request(request, client_address)
+        try:
+            super().process_request(request, client_address)
+        except RuntimeError:  # no thread can be started
+            self.shutdown_request(request)
 
-    def asks(self, request: Any) -> None:
-        """The connection has asked, and waits for the answer."""
+    def asks(self, request: Any, asked: Asked) -> bool:
+        """The connection has asked this, or was answered. Whether it may be answered at the same time as others."""
         with self._lock:
-            if request in self._open:
-                self._open[request] = True
+            is_free = asked is not Asked.OTHER or list(self._open.values()).count(asked) < SHOWING_MAX
+            if request in self._open and is_free:
+                self._open[request] = asked
+        return is_free
 
     def shutdown_request(self, request: Any) -> None:
         with self._lock:
@@ -403,7 +452,8 @@ class MemberAnswers(Answers):
             return told(200, 'drained' if self._member.is_drained else 'gave up: its worker fails')
         if self._workers.is_failing:
             return told(503, 'its worker fails')
-        return told(200, 'live') if self._sure_seconds() > 0 else super()._health()
+        status, kind, text = told(200, 'live') if self._sure_seconds() > 0 else super()._health()
+        return status, kind, f'stopping work; {text}' if self._member.stopping else text
 
     def _leader(self) -> Answer:
         return told(200, 'the node leads') if self._member.leads else super()._leader()
@@ -413,6 +463,8 @@ class MemberAnswers(Answers):
         if not (word.isascii() and word.isdecimal() and word == str(int(word[:9])) and int(word) < partitions):
             return told(404, 'the group has no such partition')
         owned = self._member.assignment()
+        if int(word) in self._member.stopping:
+            return told(503, 'stopping: work on it has to end, and has not')
         if owned is None or int(word) not in owned.partitions:
             return super()._partition(word)
         return told(200, f'this member may work on it by token {owned.token}')
@@ -497,8 +549,7 @@ class Page:
             return told(400, str(fault))
         if not self._hosts.takes(host):
             return told(403, 'this host is not allowed; bully-member run --allow-host allows it')
-        is_status = target.path in STATUSES or target.path.startswith(PARTITION)
-        if method == 'OPTIONS' and not is_status:
+        if method == 'OPTIONS' and not is_of_status(target.path):
             return told(204 if target.path in PATHS else 404, '')
         return self._answered(target)
 
@@ -510,6 +561,11 @@ class Page:
             return told(503, 'the store does not answer')
         except (LogError, BullyError):
             return told(503, 'the log can not be read')
+
+
+def is_of_status(path: str) -> bool:
+    """Whether the answer to a request for this is a status, which is known at once."""
+    return path in STATUSES or path.startswith(PARTITION)
 
 
 def check_length(told_lengths: list[str]) -> None:
@@ -542,9 +598,12 @@ class PageHandler(BaseHTTPRequestHandler):
         return is_request
 
     def do_GET(self) -> None:
-        self.server.asks(self.connection)
+        asked = Asked.STATUS if is_of_status(self.path.partition('?')[0]) else Asked.OTHER
         self._has_rest = 'Content-Length' in self.headers or 'Transfer-Encoding' in self.headers
-        self.send(*self.page.answer(self.command, self.path, self.headers))
+        if self.server.asks(self.connection, asked):
+            self.send(*self.page.answer(self.command, self.path, self.headers))
+        else:
+            self.send(*told(503, 'too many requests at the same time'))
 
     do_HEAD = do_OPTIONS = do_GET
 
@@ -575,6 +634,7 @@ class PageHandler(BaseHTTPRequestHandler):
     def finish(self) -> None:
         """Reads and drops the rest of the request: otherwise the answer may be lost with it."""
         super().finish()
+        self.server.asks(self.connection, Asked.ANSWERED)
         with suppress(OSError):
             if self._has_rest:
                 self.connection.shutdown(socket.SHUT_WR)

@@ -1,6 +1,6 @@
 """Processes of Linux: signals that wait, children with their descendants, and who has a lock on a file.
 
-The watchdog runs with this module and `clocks` alone, so this module imports nothing else of the package.
+The watchdog runs with this module, `clocks` and `display` alone, so this module imports nothing else of the package.
 """
 from __future__ import annotations
 
@@ -21,6 +21,8 @@ ANY_CHILD = -1
 LONGEST_SLEEP = 0.02  # seconds between two checks of what was killed
 WRITE, READ = 'WRITE', 'READ'  # kinds of locks
 WRITER_BYTE = 120  # of the file: the writer has a lock on it
+STILL = frozenset('TtF')  # states of a thread that is stopped
+FROZEN = ('refrigerator', 'freezer_trap', 'get_signal')  # parts of what a frozen thread waits in, by the control group's kind
 TIMES = 5  # how often the locks are read: while others come and go, a line may be left out
 
 LIBC = ctypes.CDLL(None, use_errno=True)
@@ -31,6 +33,13 @@ def checked(result: int) -> int:
     if result < 0:
         raise OSError(ctypes.get_errno(), os.strerror(ctypes.get_errno()))
     return result
+
+
+def default_signals(numbers: AbstractSet[signal.Signals]) -> None:
+    """Gives these signals their default dispositions. Who started this process may have ignored some: for example Linux
+    keeps no exit status of a child if SIGCHLD is ignored."""
+    for number in numbers - {signal.SIGKILL, signal.SIGSTOP}:
+        signal.signal(number, signal.SIG_DFL)
 
 
 @contextlib.contextmanager
@@ -53,7 +62,23 @@ def signal_at_end_of_parent(number: int) -> None:
 
 
 def children() -> set[int]:
-    """The children of this process, also adopted ones. Raises OSError if the kernel doesn't list them."""
+    """The children of this process, also adopted ones. If the kernel doesn't list them, all processes are asked for
+    their parents; that may leave out one that has just started. Raises OSError."""
+    with contextlib.suppress(OSError):
+        return listed_children()
+    return {process for process in map(int, filter(str.isdecimal, os.listdir('/proc'))) if parent_of(process) == os.getpid()}
+
+
+def parent_of(process: int) -> int | None:
+    """The parent of a process; None if there is no such process."""
+    with contextlib.suppress(OSError):
+        status = Path(f'/proc/{process}/status').read_text(encoding='utf-8', errors='replace')
+        return int(status.partition('\nPPid:')[2].split(None, 1)[0])
+    return None
+
+
+def listed_children() -> set[int]:
+    """The children of this process, as the kernel lists them. Raises OSError if it doesn't."""
     found: list[str] = []
     for task in Path('/proc/self/task').iterdir():
         try:
@@ -128,6 +153,14 @@ def reap(child: int) -> dict[int, int]:
     return {}
 
 
+def signal_of(process: int) -> int:
+    """The signal by which the process ended, if it was one and its parent hasn't waited for it; or else 0."""
+    with contextlib.suppress(OSError, ValueError, IndexError):
+        status = Path(f'/proc/{process}/stat').read_text(encoding='ascii', errors='replace')
+        return int(status.rsplit(')', 1)[1].split()[49]) & 0x7F
+    return 0
+
+
 def is_there(process: int) -> bool:
     """Whether there is such a process, or its status is still there."""
     return os.path.exists(f'/proc/{process}')
@@ -170,9 +203,40 @@ def is_within(first: str, last: str) -> bool:
     return int(first) <= WRITER_BYTE and (last == 'EOF' or WRITER_BYTE <= int(last))
 
 
-def is_stopped(process: int) -> bool:
-    """Whether the process is stopped by a signal."""
+# ---- Processes that don't run
+
+
+def states(process: int) -> str:
+    """A letter for each thread of the process, as in /proc/PID/stat: T or t if it is stopped by a signal or a debugger,
+    D if it waits for a disk; and F if its control group has frozen it."""
+    found = ''
+    with contextlib.suppress(OSError):  # it ends
+        for task in sorted(Path(f'/proc/{process}/task').iterdir()):
+            state = (task / 'stat').read_text(encoding='ascii', errors='replace').rsplit(')', 1)[1].split()[0]
+            found += 'F' if state in 'DS' and is_frozen(task) else state
+    return found
+
+
+def is_frozen(task: Path) -> bool:
+    """Whether the control group of a thread that waits has frozen it, if the kernel shows where it waits."""
     with contextlib.suppress(OSError):
-        status = Path(f'/proc/{process}/stat').read_text(encoding='ascii', errors='replace')
-        return status.rsplit(')', 1)[1].split()[0] == 'T'
+        waits = (task / 'wchan').read_text(encoding='ascii')
+        return any(each in waits for each in FROZEN)
     return False
+
+
+def is_stopped(process: int) -> bool:
+    """Whether the process is stopped, by a signal, a debugger or its control group."""
+    found = states(process)
+    return bool(found) and STILL.issuperset(found)
+
+
+def runs_of(process: int) -> list[str]:
+    """How often each of its threads has begun to wait, or was interrupted. While this is the same none has run, unless
+    one runs now."""
+    found: list[str] = []
+    with contextlib.suppress(OSError):  # it ends
+        for task in sorted(Path(f'/proc/{process}/task').iterdir()):
+            lines = (task / 'status').read_text(encoding='utf-8', errors='replace').splitlines()
+            found += [f'{task.name} {line}' for line in lines if 'ctxt_switches' in line]
+    return found

@@ -6,6 +6,7 @@ this module and a few small ones alone, so this module loads what takes much mem
 """
 from __future__ import annotations
 
+import contextlib
 import json
 import os
 import signal
@@ -13,10 +14,17 @@ import sys
 from collections.abc import Mapping, Sequence
 from typing import TYPE_CHECKING
 
+from .clocks import nanoseconds_of_boot
+from .display import message_line
+
 if TYPE_CHECKING:
     import sqlite3
 
+LOST = ' lost'  # the end of the name of a boot whose leases were in a -wal that was lost
 HELD = 'delete from leases where name = ? and session = ?'
+LOSE = 'update leases set until = ? + until - since, since = ?, boot = ? where boot not like ?'
+COUNT = 'select count(*) from leases'
+BOOT = 'select boot from leases where name = ? and session = ?'
 COUNTED = 'update changes set sessions = sessions + 1'
 NAME = 'select name from changes'
 
@@ -43,30 +51,62 @@ def release(told: bytes, seconds: float) -> None:
         else:
             become(what['command'], what['more'])
     except Exception as fault:
-        sys.stderr.write(f'bully: a lease is not released, and ends by itself: {fault}\n')
+        sys.stderr.write(f'{message_line("bully", f"a lease is not released, and ends by itself: {fault}")}\n')
 
 
 def become(words: Sequence[str], more: Mapping[str, str]) -> None:
-    """This process becomes the command, which finds the package where this one does. Only its errors are read."""
+    """This process becomes the command. Only its errors are read."""
     os.dup2(os.open(os.devnull, os.O_WRONLY), 1)
-    here = os.path.dirname(os.path.dirname(os.path.abspath(__file__)))
-    folders = [here, *filter(None, [os.environ.get('PYTHONPATH')])]
-    os.execve(words[0], list(words), {**os.environ, 'PYTHONPATH': os.pathsep.join(folders), **more})
+    os.execve(words[0], list(words), {**os.environ, **more})
 
 
 def release_from_file(path: str, log: str, node: str, session: str, seconds: float) -> None:
     """Releases the lease of a session from the log in this file, if that has this name. It waits for others for so many
     seconds, at most."""
+    file = connected(path, seconds)
+    file.execute('pragma synchronous = normal')
+    file.execute('begin immediate')
+    found = file.execute(BOOT, (node, session)).fetchone()
+    if file.execute(NAME).fetchone()[0] == log and found is not None:
+        see_lost(file, f'{path}-wal', found[0], nanoseconds_of_boot())
+        release_in(file, node, session)
+    file.execute('commit')
+    close(file, path)
+
+
+def connected(path: str, seconds: float, mode: str = 'rw') -> sqlite3.Connection:
+    """A connection to this file, whose path is absolute. Each statement is a transaction of its own unless one is
+    begun."""
     import sqlite3
 
     quoted = path.replace('%', '%25').replace('?', '%3f').replace('#', '%23')
-    file = sqlite3.connect(f'file:{quoted}?mode=rw', timeout=seconds, isolation_level=None, uri=True)
-    file.execute('pragma synchronous = normal')
-    file.execute('begin immediate')
-    if file.execute(NAME).fetchone()[0] == log:
-        release_in(file, node, session)
-    file.execute('commit')
+    name = f'file:{quoted}?mode={mode}'
+    return sqlite3.connect(name, timeout=seconds, isolation_level=None, check_same_thread=False, uri=True)
+
+
+def close(file: sqlite3.Connection, path: str) -> None:
+    """Closes the file. While a lease is noted in it, its -wal stays, so one that isn't there was lost. (SQLite removes
+    it with the last connection, unless that one only reads.)"""
+    import sqlite3
+
+    keeps = None
+    with contextlib.suppress(sqlite3.Error):  # the file is gone, or of another kind
+        if file.execute(COUNT).fetchone()[0]:
+            keeps = connected(path, 0.0, 'ro')
+            keeps.execute(COUNT).fetchone()
     file.close()
+    if keeps is not None:
+        keeps.close()
+
+
+def see_lost(file: sqlite3.Connection, wal: str, boot: str, now: int) -> None:
+    """If nobody has written to this -wal yet, but leases are noted in the file itself, which has each, the one before was
+    lost (`close`), with renewals and rows, and processes may still use it. So these leases last for another ttl, as
+    those of another boot. In a transaction that writes."""
+    lost = boot.removesuffix(LOST) + LOST
+    if os.stat(wal).st_size == 0 and file.execute(LOSE, (now, now, lost, f'%{LOST}')).rowcount:
+        file.execute('delete from boots where boot = ?', (lost,))
+        file.execute('insert into boots (boot) values (?)', (lost,))
 
 
 def release_in(file: sqlite3.Connection, node: str, session: str) -> None:

@@ -22,15 +22,20 @@ if TYPE_CHECKING:
     from .worker import Workers
 
 ALONE_WAIT = 0.02  # seconds between two looks for other processes
+# Runs the command by Python's own modules and those of one folder: no file of the working directory, and no path of the environment, counts.
+COMMAND = 'import sys; sys.path.append(sys.argv.pop(1)); from bully_member import main; sys.exit(main())'
 CONTROL = '.control'  # the part of a unit's control group in which systemd may start a command of its own
 
 
 class SessionNotes:
     """Notes the session of a member before it may hold the lease of its node: in a file, if one is wanted, and at the
-    watchdog."""
+    watchdog. While no session may hold it the file is empty."""
 
     def __init__(self, file: str | None, workers: Workers) -> None:
+        """Raises OSError."""
         self._file, self._workers = file, workers
+        if file is not None and not os.path.exists(file):
+            write_session(file, None)
 
     def acquires(self, session: Session) -> None:
         """This session may hold the lease from now on. Raises OSError."""
@@ -43,25 +48,24 @@ class SessionNotes:
         self._workers.forget_session()
         if self._file is not None:
             with suppress(OSError):
-                os.remove(self._file)
+                write_session(self._file, None)
 
 
-def write_session(path: str, session: Session) -> None:
-    """Writes the session into a file of its user alone: all of it, or nothing if the process is killed."""
+def write_session(path: str, session: Session | None) -> None:
+    """Writes the session, or nothing, into a file of its user alone: all of it, unless the process is killed."""
     room = f'{path}.{os.getpid()}.new'
     with open(os.open(room, os.O_WRONLY | os.O_CREAT | os.O_TRUNC | os.O_CLOEXEC, 0o600), 'w', encoding='ascii') as file:
         os.fchmod(file.fileno(), 0o600)
-        file.write(f'{session_text(session)}\n')
+        file.write('' if session is None else f'{session_text(session)}\n')
     os.replace(room, path)
 
 
 def session_in(path: str) -> Session | None:
-    """The session in a file; None if there is no such file, because no session has begun, or the last one has ended in
-    order. Raises BadWords, OSError."""
+    """The session in a file; None if it is empty, because no session has begun, or the last one has ended in order.
+    Raises BadWords, OSError."""
     try:
-        return session_of(Path(path).read_text(encoding='ascii').strip())
-    except FileNotFoundError:
-        return None
+        text = Path(path).read_text(encoding='ascii').strip()
+        return session_of(text) if text else None
     except ValueError as fault:
         raise BadWords(f'--session-file {path}: it has no session: {fault}') from fault
 
@@ -77,7 +81,8 @@ def releases_of(
     if isinstance(store, FileStore):
         path, name = os.path.realpath(store.path), log.name if isinstance(log, SqliteLog) else ''
         return lambda session: told_file(path, name, options.node, session_text(session))
-    words = [sys.executable, '-m', 'bully_member', 'release', f'--log={options.log}', f'--node={options.node}']
+    python = [sys.executable, '-I', '-S', '-c', COMMAND, str(Path(__file__).resolve().parents[1])]
+    words = [*python, 'release', f'--log={options.log}', f'--node={options.node}']
     for word, _, _ in OF_ETCD:
         given = getattr(options, name_of(word))
         words += [f'{word}={given}'] if given else []

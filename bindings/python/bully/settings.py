@@ -4,6 +4,7 @@ from __future__ import annotations
 import json
 from collections.abc import Iterator
 from dataclasses import dataclass
+from typing import Any
 
 from .faults import BadConfig
 from .group import Setup, setup_of
@@ -30,11 +31,12 @@ class Settings:
 
     def text(self, ttl: float, margin: float) -> str:
         """The settings as JSON, for a worker."""
-        document = {
-            'names': self.names, 'weights': self.setup.weights or (1,) * self.setup.nodes,
-            'partitions': self.setup.partitions, 'keep': self.setup.keeps, 'ttl': ttl, 'margin': margin,
-        }  # fmt: skip
-        return json.dumps(document, ensure_ascii=False)
+        return json.dumps({**self.document(), 'ttl': ttl, 'margin': margin}, ensure_ascii=False)
+
+    def document(self) -> dict[str, Any]:
+        """The settings for JSON."""
+        weights = self.setup.weights or (1,) * self.setup.nodes
+        return {'names': self.names, 'weights': weights, 'partitions': self.setup.partitions, 'keep': self.setup.keeps}
 
 
 def read_settings(text: bytes) -> Settings:

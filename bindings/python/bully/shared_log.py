@@ -222,8 +222,8 @@ class Log(Protocol):
         """Notes that the node has given up, if that session holds the lease of its heir, and there is no note of the
         heir. Returns whether it did."""
 
-    def times(self, epoch: int) -> Mapping[int, int | None]:
-        """When the appends of an epoch were done, by their offsets: in milliseconds since 1970, by the wall clock of
+    def times(self, epoch: int, offset: int = 0) -> Mapping[int, int | None]:
+        """When the appends of an epoch from that offset on were done, by their offsets: in milliseconds since 1970, by the wall clock of
         the process that appended; None for an append whose time isn't kept."""
 
     def read(self, epoch: int, offset: int) -> Sequence[str]:

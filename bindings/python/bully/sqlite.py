@@ -12,7 +12,6 @@ import time
 from collections.abc import Iterator, Mapping, Sequence
 from contextlib import closing, contextmanager
 from typing import NamedTuple
-from urllib.parse import quote
 
 from .boots import boot_name, machine_boot, moment_of
 from .clocks import SECOND, nanoseconds_of_boot, sleep_until_ready, wall_clock
@@ -23,14 +22,15 @@ from .encoding import (
 )  # fmt: skip
 from .epochs import Opening
 from .maintenance import Maintenance
-from .releasing import release_in
+from .releasing import LOST, close, connected, release_in, see_lost
 from .repair import Kept
 from .shared_log import (
     NOBODY, BadLease, DamagedLog, DiskFull, ForeignLog, Holder, Known, LogBusy, LogExists, OtherLog, ReadOnlyLog,
     Sessions, Snapshot, Unanswered, is_awaited, kept_same, may_change, promises_of, shown_in,
 )  # fmt: skip
 from .sqlite_file import (
-    NEW, OWNER_ALONE, beside, identity, keep_name, make, remove, see_alone, see_disk, told_holder, told_owner,
+    NEW, OTHERS_BESIDE, OWNER_ALONE, Identity, are_open, beside, identity_of, keep_name, make, remove, see_alone,
+    see_disk, see_file, told_holder, told_owner,
 )  # fmt: skip
 from .values import Rows
 
@@ -39,13 +39,15 @@ SHORTEST_SLEEP, LONGEST_SLEEP = 0.001, 0.05  # seconds between two polls of a fi
 MANY = 128  # leases: while there are more, each wait polls less often, so that all together poll no more often
 SIGHT = SECOND // 4  # nanoseconds between two checks of which files are there, at most
 PRUNED_AT_ONCE = 100  # appends
+TRIES = 100  # how often what was committed is moved from the -wal into the file
 NEVER = 2**63 - 1
 
 # `changes` also has the name of the log and the maintenance. `boots` has the boots of the machine that have used the
-# log, in order: an earlier one is over, unless it is another time namespace of the same boot, which may come again. A
-# record of `log` has the rows of one append, each with its line end and all compressed, the offset of the first one,
-# and the time of the append. An epoch that was pruned keeps its opening, without a count. `kept` has the partitions
-# that a promise keeps, `failing` the nodes whose work fails.
+# log, in order: an earlier one is over, unless it is another time namespace of the same boot, which may come again. One
+# whose name ends with LOST stands for those who used a -wal that was lost. A record of `log` has the rows of one
+# append, each with its line end and all compressed, the offset of the first one, and the time of the append. An epoch
+# that was pruned keeps its opening, without a count. `kept` has the partitions that a promise keeps, `failing` the
+# nodes whose work fails.
 TABLES = """
 create table epochs (epoch integer primary key, opening text not null, requested text, count integer);
 create table log (epoch integer, offset integer, rows blob not null, time integer, primary key (epoch, offset));
@@ -61,6 +63,8 @@ create table failing (name text primary key, gave_up integer not null);
 """
 LEASES = 'select name, session, epoch, offset, kept, until from leases where boot = ? and until > ?'
 OTHER_CLOCK = 'another time namespace holds leases: all members must share one, /proc/self/ns/time'
+REMOVED = 'its -wal or its -shm was removed, and others use another one'
+STILL_WORK = 'its -wal was lost, and members that used it may still work'
 OTHER_BOOT = 'another boot has used it after this one: all members must see one /proc/sys/kernel/random/boot_id'
 
 # Errors of SQLite, by a part of the message, and what they mean. The first that matches counts.
@@ -72,8 +76,7 @@ MEANINGS = (
 
 def connection(path: str, patience: float, mode: str = 'rw') -> sqlite3.Connection:
     """A connection to this file. Each statement is a transaction of its own unless one is begun."""
-    name = f'file:{quote(os.path.abspath(path))}?mode={mode}'
-    return sqlite3.connect(name, timeout=patience, isolation_level=None, check_same_thread=False, uri=True)
+    return connected(os.path.abspath(path), patience, mode)
 
 
 def open_epoch(file: sqlite3.Connection, opening: Opening) -> None:
@@ -150,9 +153,8 @@ class SqliteLog:
 
         Raises NoLog, ForeignLog, DamagedLog, ReadOnlyLog, Unanswered."""
         self.path = os.fspath(path)
-        self._identity = identity(self.path)
-        self._real = os.path.realpath(self.path)  # the other files are beside it, also if the path is a symbolic link
-        self._beside: list[tuple[int, int]] | None = None  # these files, once the log is used
+        self._identity = identity_of(see_file(self.path))
+        self._beside: list[Identity] | None = None  # the files beside it, once the log is used
         see_alone(self.path)
         self._boot = boot_name()
         self._sight = 0  # when it must check again which files are there
@@ -171,7 +173,7 @@ class SqliteLog:
         try:
             self._open('deferred' if reads else 'immediate')  # so that it notices at once a file that can't be written
         except BaseException:
-            self._file.close()
+            self.close()
             raise
 
     @staticmethod
@@ -206,8 +208,11 @@ class SqliteLog:
                 raise ForeignLog(f'{self.path}: SQLite keeps a journal of mode {mode} here, and can not keep a -wal')
             self._file.execute('pragma synchronous = normal')
         with self._transaction(kind) as standing:
-            self._name = standing.name
-        self._beside = beside(self._real)
+            self._name, self._beside = standing.name, beside(self.path)
+            if len(self._beside) < 2 or not are_open(self._beside):
+                raise OtherLog(f'{self.path}: {REMOVED}')
+            if kind != 'deferred':
+                see_lost(self._file, f'{os.path.realpath(self.path)}-wal', self._boot, standing.now)
 
     @property
     def name(self) -> str:
@@ -290,22 +295,45 @@ class SqliteLog:
             asked = 'select count(*) from leases where name = ? and boot = ? and until > ?'
             if promise != standing.end or self._one(asked, name, self._boot, now):
                 return False
-            if standing.boot != self._boot:
-                self._enter_boot(standing)
+            if standing.boot != self._boot and self._enter_boot(standing):
+                return False
             held = name, session_text(session), promise.epoch, promise.offset, '', self._boot, now, now + ttl
             self._file.execute('insert or replace into leases values (?, ?, ?, ?, ?, ?, ?, ?)', held)
             self._file.execute('update changes set sessions = sessions + 1')
+        self._write_through()  # before anybody works by it: `see_lost`
         return True
 
-    def _enter_boot(self, standing: Standing) -> None:
-        """This boot uses the log from now on. Raises LogBusy or ForeignLog if another boot may still hold leases."""
+    def _enter_boot(self, standing: Standing) -> bool:
+        """This boot uses the log from now on. Whether a later epoch starts by that: a -wal was lost, maybe with rows,
+        and their tokens may not come again. Raises LogBusy or ForeignLog if others may still hold leases."""
         self._see_others(standing)
         self._file.execute('delete from boots where boot = ?', (self._boot,))
         self._file.execute('insert into boots (boot) values (?)', (self._boot,))
+        if not (standing.boot or '').endswith(LOST):
+            return False
+        epoch = standing.end.epoch
+        requested, opening = requested_of(self.path, epoch, standing.requested), self.opening(epoch)
+        self._file.execute('update epochs set requested = null')
+        open_epoch(self._file, opening.next(requested, opening.table))
+        return True
+
+    def _write_through(self) -> None:
+        """What was committed is in the file itself, and not only in its -wal. If a process is suspended while it reads,
+        that isn't to be had, and nobody waits for it."""
+        with calls(self.path):
+            wanted = 0  # frames of the -wal
+            for _ in range(TRIES):
+                is_busy, frames, done = self._file.execute('pragma wal_checkpoint(passive)').fetchone()
+                wanted = wanted if is_busy else wanted or frames
+                if not is_busy and (done >= wanted or frames < wanted):  # fewer, once all were moved
+                    return
+                time.sleep(SHORTEST_SLEEP)
 
     def _see_others(self, standing: Standing) -> None:
         """Raises LogBusy if another boot may hold leases; ForeignLog if another time namespace of this boot does."""
         if standing.boot != self._boot and self._are_elsewhere(standing.now):
+            if (standing.boot or '').endswith(LOST):
+                raise LogBusy(f'{self.path}: {STILL_WORK}')
             if self._is_same_boot(standing):
                 raise ForeignLog(f'{self.path}: {OTHER_CLOCK}')
             raise LogBusy(f'{self.path}: another boot may still hold leases')
@@ -360,16 +388,22 @@ class SqliteLog:
         return {name: lease_of(self.path, name, *told) for name, *told in found}
 
     def _see_files(self) -> None:
-        """Raises OtherLog if another file is in the place of one of its own: there may be two histories then."""
-        if identity(self.path) != self._identity:
+        """Raises OtherLog if another file is in the place of one of its own, or others may reach the file by another
+        path, which has other files beside it: there may be two histories then."""
+        found = see_file(self.path)
+        if identity_of(found) != self._identity:
             raise OtherLog(f'{self.path}: there is another file in its place')
-        if self._beside not in (None, beside(self._real)):
-            raise OtherLog(f'{self.path}: its -wal or its -shm was removed, and others use another one')
+        if found.st_nlink > 1:
+            raise OtherLog(f'{self.path}: it has another name, a hard link, {OTHERS_BESIDE}')
+        if self._beside not in (None, beside(self.path)):
+            raise OtherLog(f'{self.path}: {REMOVED}')
         self._sight = nanoseconds_of_boot() + SIGHT
 
     # The log.
 
     def append(self, epoch: int, offset: int, rows: Sequence[str], known: Known | None = None) -> bool:
+        if offset == 0:
+            self._write_through()  # so that no epoch comes again in which a member worked: `_enter_boot`
         value = packed(rows_text(rows))
         with self._syncing() as standing:
             if not self._may_change(standing, Promise(epoch, offset), known, is_append=True):
@@ -394,9 +428,10 @@ class SqliteLog:
             see_end(self.path, standing.end, Promise(epoch, offset))
             return self._rows(epoch, offset, found[0])
 
-    def times(self, epoch: int) -> dict[int, int | None]:
+    def times(self, epoch: int, offset: int = 0) -> dict[int, int | None]:
+        asked = 'select offset, time from log where epoch = ? and offset >= ?'
         with calls(self.path):
-            return dict(self._file.execute('select offset, time from log where epoch = ?', (epoch,)).fetchall())
+            return dict(self._file.execute(asked, (epoch, offset)).fetchall())
 
     def _rows(self, epoch: int, offset: int, count: int) -> Rows:
         """The rows of an epoch after that offset; the epoch has `count` rows."""
@@ -513,7 +548,7 @@ class SqliteLog:
         return is_awaited(until, promises_of(self._holders(standing)), (here, ()), promises_of(self._seen))
 
     def close(self) -> None:
-        self._file.close()
+        close(self._file, os.path.abspath(self.path))
 
     # Calls of SQLite.
 

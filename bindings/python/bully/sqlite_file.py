@@ -3,6 +3,7 @@ from __future__ import annotations
 
 import os
 import stat
+from collections.abc import Collection
 from contextlib import suppress
 from pathlib import Path
 
@@ -11,6 +12,7 @@ from .shared_log import ForeignLog, NoLog, ReadOnlyLog
 
 BESIDE = ('-wal', '-shm', '-journal')  # the ends of the files that SQLite puts beside a file, with its mode
 OWNER_ALONE, ITS_GROUP = 0o600, 0o660  # modes of a file
+OTHERS_BESIDE = 'so others would have another -wal and -shm beside it'
 NEW = '.new'  # the end of a file's name while it is made
 
 # File systems that machines share: each machine has its own boot, its own clock, and mostly its own locks and -shm.
@@ -24,25 +26,41 @@ SHARED = frozenset((
 # ---- Which file it is
 
 
-def identity(path: str) -> tuple[int, int]:
-    """The identity of this file, whatever its name. Raises NoLog, ForeignLog."""
+Identity = tuple[int, int]  # of a file, whatever its name
+
+
+def identity_of(found: os.stat_result) -> Identity:
+    return found.st_dev, found.st_ino
+
+
+def see_file(path: str) -> os.stat_result:
+    """What the system shows of this file. Raises NoLog, ForeignLog."""
     try:
         found = os.stat(path)
     except OSError as error:
         raise NoLog(f'{path}: {error.strerror}; bully-member init makes a log') from error
     if not stat.S_ISREG(found.st_mode):
         raise ForeignLog(f'{path}: it is not a file')
-    return found.st_dev, found.st_ino
+    return found
 
 
-def beside(path: str) -> list[tuple[int, int]]:
-    """The identities of the files beside this one while it is used, as far as they are there."""
-    found = []
+def beside(path: str) -> list[Identity]:
+    """The files beside the one of this path while it is used, as far as they are there. If the path leads elsewhere by
+    now, as by a symbolic link, these are other ones."""
+    real, found = os.path.realpath(path), []
     for end in ('-wal', '-shm'):
         with suppress(OSError):
-            there = os.stat(path + end)
-            found.append((there.st_dev, there.st_ino))
+            found.append(identity_of(os.stat(real + end)))
     return found
+
+
+def are_open(files: Collection[Identity]) -> bool:
+    """Whether this process has these files open."""
+    own: set[Identity] = set()
+    for descriptor in os.listdir('/proc/self/fd'):
+        with suppress(OSError):  # it was that of the list
+            own.add(identity_of(os.stat(f'/proc/self/fd/{descriptor}')))
+    return own.issuperset(files)
 
 
 def see_alone(path: str) -> None:
@@ -60,8 +78,7 @@ def see_mounts(path: str, real: str) -> None:
     for each in (path, *(real + end for end in BESIDE)):
         with suppress(FileNotFoundError):  # it isn't there, or not any more
             if mount_of(each) != folder:
-                others = 'so others would have another -wal and -shm beside it; mount its folder'
-                raise ForeignLog(f'{each}: it is mounted alone, {others}')
+                raise ForeignLog(f'{each}: it is mounted alone, {OTHERS_BESIDE}; mount its folder')
 
 
 def see_one_name(path: str) -> None:
@@ -74,8 +91,7 @@ def see_one_name(path: str) -> None:
                 os.remove(os.path.join(folder, other))
     if os.stat(path).st_nlink > 1:
         names = ', '.join(other_names(path)) or 'in another folder'
-        others = 'so others would have another -wal and -shm beside it'
-        raise ForeignLog(f'{path}: it has another name, a hard link, {others}: {names}')
+        raise ForeignLog(f'{path}: it has another name, a hard link, {OTHERS_BESIDE}: {names}')
 
 
 def other_names(path: str) -> list[str]:

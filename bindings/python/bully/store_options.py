@@ -98,13 +98,13 @@ class EtcdStore:
     told_readers = ''  # etcd has permissions of its own
 
     def create(self, opening: Opening) -> Log:
-        """Makes a log. Raises BadWords for a prefix below keys of another log that older versions took, whose logs have
-        a history still."""
+        """Makes a log. Raises BadWords for a prefix below which another log may have keys."""
         from .etcd import EtcdLog
 
-        if not {'failing', 'lease', 'rows'}.isdisjoint(self.address.split('/')):
-            raise BadWords(f'--log is {self.address}, and no part of a new prefix may be `failing`, `lease` or `rows`')
-        return EtcdLog.create(self.address, opening, 1.0, self.tls, self.user, self.password)
+        try:
+            return EtcdLog.create(self.address, opening, 1.0, self.tls, self.user, self.password)
+        except ValueError as fault:
+            raise BadWords(f'--log is {fault}') from fault
 
     def open(self, patience: float = 1.0, reads: bool = False) -> Repairable:
         """Opens the log."""

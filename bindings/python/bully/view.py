@@ -5,20 +5,22 @@ import collections
 import enum
 import threading
 import time
-from collections.abc import Iterable, Mapping, Sequence
+from collections.abc import Iterable, Iterator, Mapping, Sequence
+from contextlib import suppress
 from dataclasses import dataclass
 from itertools import zip_longest
-from typing import Any, Deque
+from typing import Any, Deque, NamedTuple
 
 from .clocks import seconds_of_boot
 from .core import Promise, Session
-from .display import shown_name
+from .display import shown_name, time_text
 from .epochs import TTL, Token
 from .observer import Observer, Owner, Table
-from .shared_log import Holder, Log, Snapshot
+from .shared_log import Holder, Log, LogError, Snapshot
 from .values import Status
 
 LAST_ROWS = 20
+APPEND_MAX = 11  # rows for each node, that are appended at once at most
 ADMITTED = 0.01  # of a ttl: after that an observer admits a session that it saw for the first time
 ADMITTED_MAX = 0.1  # seconds for which a view waits for that, at most
 
@@ -65,6 +67,15 @@ class PartitionView:
     owner: str | None = None
     token: Token | None = None
     coming: str | None = None
+
+
+class LastRow(NamedTuple):
+    """One of the last rows: its number in the trace, its text, and when it was appended, in milliseconds since 1970, if
+    that is known."""
+
+    number: int
+    text: str
+    time: int | None = None
 
 
 @dataclass(frozen=True)
@@ -114,7 +125,7 @@ class GroupView:
     is_frozen: bool  # whether it is paused, and no change is under way that is completed first
     behind: dict[str, float]  # the nodes for which a change waits, with the seconds of each
     stops: dict[str, tuple[int, ...]]  # on which partitions each of these must stop, as far as that is known
-    last: tuple[tuple[int, str], ...]  # the last rows, with their numbers in the trace
+    last: tuple[LastRow, ...]
 
     @property
     def owners(self) -> tuple[str | None, ...]:
@@ -161,7 +172,7 @@ class GroupView:
             'paused': self.is_paused, 'frozen': self.is_frozen,
             'behind': {name: round(seconds, 3) for name, seconds in self.behind.items()},
             'stops': {name: list(partitions) for name, partitions in self.stops.items()},
-            'last': [{'row': number, 'text': row} for number, row in self.last],
+            'last': [{'row': row.number, 'text': row.text, 'time': time_text(row.time) or None} for row in self.last],
         }  # fmt: skip
 
 
@@ -184,7 +195,7 @@ class LogView:
         Raises what the log raises."""
         self._log, self._ttl = log, ttl or TTL
         self._told, self._behind = behind or Behind(), Behind()
-        self._last: Deque[tuple[int, str]] = collections.deque(maxlen=LAST_ROWS)
+        self._last: Deque[LastRow] = collections.deque(maxlen=LAST_ROWS)
         self._lock = threading.Lock()
         self._enter()
 
@@ -221,8 +232,18 @@ class LogView:
             before.close()
         self._observer.see(found)
         last = found.rows[-LAST_ROWS:]
-        self._last.extend(enumerate(last, self._observer.rows + 2 - len(last)))
+        if last:
+            self._last.extend(self._timed(self._observer.rows - len(last), last))
         return found
+
+    def _timed(self, offset: int, rows: Sequence[str]) -> Iterator[LastRow]:
+        """The rows from that offset on, which were just read, with their times, if the log says these."""
+        times: Mapping[int, int | None] = {}
+        with suppress(LogError):
+            times = self._log.times(self._opening.epoch, max(0, offset - APPEND_MAX * self._observer.nodes))
+        for each, row in enumerate(rows, offset):
+            append = max((begin for begin in times if begin <= each), default=None)
+            yield LastRow(each + 2, row, None if append is None else times[append])
 
     def _shown(self, found: Snapshot) -> GroupView:
         observer, opening = self._observer, self._opening

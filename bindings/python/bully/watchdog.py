@@ -1,4 +1,4 @@
-"""The watchdog: one small process beside a member, which starts, stops and kills its workers.
+"""The watchdog: a small process beside a member, which starts, stops and kills its workers.
 
     watchdog.py CHANNEL PATIENCE KIND FILE TTL WORKER ARGS..
 
@@ -14,7 +14,8 @@ dropped, by both sides. The member sends
     release WORDS            the lease that is released when the member is gone (`bully.releasing`); none without words
 
 and the watchdog sends, each followed by KEY SERIAL: `begun`; `stopped` after a stop, once nothing of the process is
-left; `lost` if it has killed the process because its time was over; `ended .. STATUS` if that ended by itself; and
+left; `lost .. NS` if it has killed the process, because its time was over, or without NS if it hasn't started it for
+that reason; `ended .. STATUS` if that ended by itself; and
 before these `held .. PROCESSES` if these are still there a twentieth of the ttl after SIGKILL, for example because they
 belong to another user. PROCESSES is empty if the kernel doesn't list them. The watchdog kills a worker with all that it
 started, also while the member is stopped or dead, and after a sleep of the machine. When the member is gone the
@@ -25,13 +26,14 @@ process is a further line. A stop is `stop KEY SERIAL LINE`, and the line {"stop
 each stop by a line `stopped` on the descriptor BULLY_ANSWERS, in their order, or it ends. Earlier answers don't count.
 The watchdog sends `answered KEY SERIAL` for each. A worker that has stopped all isn't killed when its time is over.
 
-If KIND is `each`, there may be many workers. Each has a *keeper*, a fork of the watchdog between the two: to it falls
-what the worker leaves, so nobody kills what another worker started. A keeper does for its worker all of the above. If
-one dies, its worker does, and the watchdog ends: its member then kills all that is left.
+A worker has a *keeper*, a fork of the watchdog between the two, to which falls what the worker leaves. The keeper does
+for its worker all of the above. If it dies, its worker does, and the watchdog kills what is left, and ends. If the
+watchdog dies, the keeper stops its worker, and ends. Each of these ends makes a member kill all that is left; but a
+member that is suspended can't. If KIND is `each`, there may be many workers, each with a keeper, and the watchdog is
+between these and the member. Otherwise there is one keeper, which hears the member itself.
 
-The watchdog also kills a member that stays stopped in the middle of a write, within two fifths of the ttl: otherwise
-other members couldn't renew their leases in time. FILE is the file of SQLite with the end `-shm`, on which a writer has
-a lock.
+The watchdog also kills a member that doesn't run in the middle of a write, within two fifths of the ttl: otherwise other
+members couldn't renew their leases in time. FILE is the file of SQLite with the end `-shm`, on which a writer has a lock.
 """
 from __future__ import annotations
 
@@ -47,6 +49,7 @@ import time
 import types
 from collections import deque
 from collections.abc import Callable, Sequence
+from typing import Any
 
 if __name__ == '__main__':  # `bully` without its __init__, so that the process starts faster, and is smaller
     alone = types.ModuleType('bully')
@@ -54,11 +57,13 @@ if __name__ == '__main__':  # `bully` without its __init__, so that the process 
     sys.modules['bully'] = alone
 
 from bully.clocks import SECOND, nanoseconds_of_boot
+from bully.display import message_line
 from bully.processes import (
-    ENDS, LIBC, adopt, checked, children, end_children, held_back, is_stopped, kill, lock_holder,
-    signal_at_end_of_parent,
+    ENDS, LIBC, adopt, checked, default_signals, end_children, held_back, kill, lock_holder, runs_of,
+    signal_at_end_of_parent, signal_of, states,
 )  # fmt: skip
 
+PROGRAM = 'bully'  # as its messages name it
 TIMER_ABSOLUTE = 1
 MILLISECOND = 1_000_000  # nanoseconds
 MESSAGE_MAX = 1 << 20  # bytes
@@ -67,41 +72,63 @@ STOP_ALL, STOPPED = b'{"stop": true}', b'stopped'
 NOT_STARTED = 127  # the exit status of a worker that can't be started
 BEATS = 20  # parts of a ttl: a watchdog may be late by one
 CHECKS = 5  # of a member in a ttl; it may stay stopped in a write from one to the next
+GOES_ON = frozenset('RD')  # states of a thread: it runs, or waits for a disk
+LEAST = 1 << 15  # bytes of the end `-shm` of a file of SQLite that is used
 TOLD = 20  # processes in a message, at most
+SAID_MAX = select.PIPE_BUF // 2 - 100  # bytes of a message, which as JSON may become twice as long
+REAPED = 100  # processes that a worker left and that have ended, in a turn, at most
 LAST = b'stopped ', b'lost ', b'ended '  # words of the last message of a keeper
 
 
-def say(text: str) -> None:
-    """Writes this to standard error, if that takes it at once."""
+def say(text: str, program: str = PROGRAM) -> None:
+    """Writes this message on standard error, if that takes it at once: of a long one the end, because a pipe that takes
+    anything takes only so many bytes."""
     poll = select.poll()
     poll.register(2, select.POLLOUT)
     with contextlib.suppress(OSError):  # nobody reads any more
         if poll.poll(0):
-            os.write(2, text.encode())
+            line = message_line(program, text.encode('utf-8', 'replace')[-SAID_MAX:].decode('utf-8', 'ignore'))
+            os.write(2, f'{line}\n'.encode('utf-8', 'replace'))
+
+
+def say_fault(*fault: Any) -> None:
+    """Says which exception ended this process, as `sys.excepthook`."""
+    import traceback  # it takes memory
+
+    say(''.join(traceback.format_exception(*fault)).rstrip())
 
 
 class MemberWatchdog:
-    """Watches a member, which may not stay stopped in the middle of a write."""
+    """Watches a member, which may not stay in the middle of a write without running: stopped by a signal or a debugger,
+    or frozen. One that waits for a disk is slow, and nobody would gain by its end. No thread of it has run between two
+    looks that find the same, so that is one write."""
 
     def __init__(self, file: str, ttl: float) -> None:
         self.member, self.file, self.span = os.getppid(), file, int(ttl / CHECKS * SECOND)
-        self.stopped_at: int | None = None
+        self.looks = bool(file)  # whether this process looks at the member
+        self.next_look = 0
+        self.found: list[str] = []  # the states and the runs of its threads, at the last look
 
     def pause(self) -> int | None:
         """For how many milliseconds it needn't check, at most."""
-        if not self.file:
-            return None
-        left = self.span if self.stopped_at is None else max(0, self.stopped_at + self.span - nanoseconds_of_boot())
-        return left // MILLISECOND + 1
+        return max(0, self.next_look - nanoseconds_of_boot()) // MILLISECOND + 1 if self.looks else None
 
     def look(self) -> None:
-        if not self.file or not is_stopped(self.member) or lock_holder(self.file) != self.member:
-            self.stopped_at = None
-        elif self.stopped_at is None:
-            self.stopped_at = nanoseconds_of_boot()
-        elif nanoseconds_of_boot() >= self.stopped_at + self.span and os.getppid() == self.member:
+        now = nanoseconds_of_boot()
+        if not self.looks or now < self.next_look:
+            return
+        self.next_look, before = now + self.span, self.found
+        self.found = [states(self.member), *runs_of(self.member)]
+        if self.found == before and not GOES_ON & set(before[0]) and lock_holder(self.file) == self.member == os.getppid():
             os.kill(self.member, signal.SIGKILL)
-            say(f'bully: process {self.member} was stopped in the middle of a write, and is killed\n')
+            say(f'process {self.member} was stopped in the middle of a write, and is killed')
+
+    def see_end(self) -> None:
+        """The member is gone, and didn't leave. Says so if it touched a part of its file that isn't there any more, by
+        which a process ends without a word. Another one that begins gives the file its length again."""
+        with contextlib.suppress(OSError):
+            if self.file and (signal_of(self.member) == signal.SIGBUS or os.stat(self.file).st_size < LEAST):
+                say(f'process {self.member} ended by a bus error, as if {self.file} was truncated')
 
 
 # ---- A worker
@@ -147,7 +174,7 @@ class Worker:
         if self.lines is not None:
             with contextlib.suppress(BrokenPipeError, ConnectionResetError):  # it doesn't read any more
                 if not has_room(self.lines, line + b'\n'):
-                    say(f'bully: there is no room for a line of {len(line)} bytes to the worker, which is killed\n')
+                    say(f'there is no room for a line of {len(line)} bytes to the worker, which is killed')
                     with contextlib.suppress(PermissionError):
                         os.kill(self.process, signal.SIGKILL)
 
@@ -242,15 +269,13 @@ def become(words: Sequence[str], environment: list[bytes], pipes: Sequence[int],
         copies = [os.dup(pipe) for pipe in pipes]
         for copy, wanted in zip(copies, (0, ANSWERS)):
             os.dup2(copy, wanted)
-        for number in (*ENDS, signal.SIGPIPE, signal.SIGXFSZ):
-            signal.signal(number, signal.SIG_DFL)
-        signal.pthread_sigmask(signal.SIG_UNBLOCK, ENDS)
+        default_signals(signal.valid_signals())
+        signal.pthread_sigmask(signal.SIG_SETMASK, ())
         parts = [entry.partition(b'=') for entry in environment]
         os.execvpe(words[0], list(words), {**os.environb, **{name: value for name, _, value in parts}})
     except OSError as error:
         word = ''.join(each if each.isprintable() else '?' for each in words[0])
-        sys.stderr.write(f'bully: {word}: {error.strerror}\n')
-        sys.stderr.flush()
+        say(f'{word}: {error.strerror}')
     finally:
         os._exit(NOT_STARTED)
 
@@ -270,8 +295,8 @@ class Rules:
 class Watchdog:
     """What hears a member, or the watchdog of one."""
 
-    def __init__(self, channel: socket.socket, rules: Rules, until: int = 0) -> None:
-        self.channel, self.rules, self.until = channel, rules, until
+    def __init__(self, channel: socket.socket, rules: Rules, of_member: MemberWatchdog, until: int = 0) -> None:
+        self.channel, self.rules, self.of_member, self.until = channel, rules, of_member, until
         self.parts = self.shared = self.release = b''
         self.is_alone = False  # whether who it hears is gone
 
@@ -297,6 +322,8 @@ class Watchdog:
             self.release = more
         elif not message:
             self.is_alone = True
+            if self.release:
+                self.of_member.see_end()
             self.leave()
 
     def go_on(self) -> None:
@@ -323,8 +350,8 @@ class Keeper(Watchdog):
     """Starts, stops and ends one worker at a time."""
 
     def __init__(self, channel: socket.socket, rules: Rules, of_member: MemberWatchdog, until: int = 0) -> None:
-        super().__init__(channel, rules, until)
-        self.of_member = of_member
+        super().__init__(channel, rules, of_member, until)
+        self.watchdog = self.woken = -1  # can be read once the watchdog above it has died; and once a child has
         self.timer = checked(LIBC.timerfd_create(time.CLOCK_BOOTTIME, os.O_CLOEXEC | os.O_NONBLOCK))
         self.worker: Worker | None = None
         self.name = b''  # of its process, or of the last one
@@ -336,9 +363,13 @@ class Keeper(Watchdog):
     def turn(self) -> None:
         """Waits until something happens, and handles it."""
         ready = self.awaited()
+        if self.woken in ready:
+            os.read(self.woken, select.PIPE_BUF)
+        if self.watchdog in ready:
+            self.lose_watchdog()
         if self.worker is not None:
             self.see(self.worker, ready)
-        if self.channel.fileno() in ready:
+        if self.channel.fileno() in ready and not self.is_alone:
             self.receive()
         self.of_member.look()
 
@@ -346,7 +377,7 @@ class Keeper(Watchdog):
         """The descriptors that are ready, once some are, or the member must be checked."""
         setting = struct.pack('qqqq', 0, 0, *divmod(self.last_moment() or 0, SECOND))  # 0 is never
         checked(LIBC.timerfd_settime(self.timer, TIMER_ABSOLUTE, setting, None))
-        there = [self.timer, *([] if self.is_alone else [self.channel.fileno()])]
+        there = [self.timer, self.watchdog, self.woken, *([] if self.is_alone else [self.channel.fileno()])]
         there += [] if self.worker is None else [self.worker.end, self.worker.answers]
         poll = select.poll()
         for descriptor in there:
@@ -362,18 +393,23 @@ class Keeper(Watchdog):
 
     def see(self, worker: Worker, ready: set[int]) -> None:
         """Handles what became of the worker, and of the processes that it left."""
-        with contextlib.suppress(OSError):  # the kernel doesn't list them now
-            for child in children() - {worker.process}:
-                os.waitpid(child, os.WNOHANG)
+        for _ in range(REAPED):
+            ended = os.waitid(os.P_ALL, 0, os.WEXITED | os.WNOHANG | os.WNOWAIT)
+            if ended is None or ended.si_pid == worker.process:
+                break
+            os.waitpid(ended.si_pid, 0)
+        else:
+            signal.raise_signal(signal.SIGCHLD)  # the rest in the next turn
         moment = self.last_moment()
         if moment is not None and nanoseconds_of_boot() >= moment or worker.end in ready:
-            by_itself = moment is None or nanoseconds_of_boot() < moment
+            now = nanoseconds_of_boot()
+            by_itself = moment is None or now < moment
             status = worker.end_all(self.rules.ttl / BEATS, self.hold)
             self.worker = None
             if by_itself and not worker.stops:
                 self.say('ended', status)
             else:
-                self.say('stopped' if worker.stops else 'lost')
+                self.say('stopped') if worker.stops else self.say('lost', now)
         elif worker.answers in ready:
             for _ in range(worker.answers_stops()):
                 self.say('answered')
@@ -407,7 +443,7 @@ class Keeper(Watchdog):
         try:
             return Worker(self.rules.words, environment, self.rules.talks)
         except NotStarted as failure:
-            say(f'bully: {self.rules.words[0]}: {failure}\n')
+            say(f'{self.rules.words[0]}: {failure}')
             self.say('ended', NOT_STARTED, name=name)
             return None
 
@@ -418,10 +454,56 @@ class Keeper(Watchdog):
     def leave(self) -> None:
         self.stop(self.name, b'')
 
+    def lose_watchdog(self) -> None:
+        """Its watchdog has died, so if it died, too, nobody would kill what is left. The member hears that it ends."""
+        self.watchdog, self.is_alone = close(self.watchdog), True
+        with contextlib.suppress(OSError):  # the member is gone, too
+            self.channel.shutdown(socket.SHUT_WR)
+        self.leave()
+
+    @property
+    def may_release(self) -> bool:
+        """Whether the member is gone, once nothing is left to be done."""
+        return self.watchdog >= 0 or hangs_up(self.channel, self.rules.ttl / BEATS)  # it may just be dying
+
     def say(self, word: str, *more: int, name: bytes = b'') -> None:
         message = b' '.join([word.encode(), name or self.name, *(b'%d' % each for each in more)])
         with contextlib.suppress(OSError):  # the member may be gone
             self.channel.send(message)
+
+
+def hangs_up(channel: socket.socket, seconds: float) -> bool:
+    """Whether the process at the other end is gone, within so many seconds."""
+    poll = select.poll()
+    poll.register(channel, 0)
+    return bool(poll.poll(1000 * seconds))
+
+
+def woken_by_children() -> int:
+    """A descriptor that can be read once a child of this process has ended."""
+    woken, wakes = os.pipe()
+    for pipe in (woken, wakes):
+        os.set_blocking(pipe, False)
+    signal.set_wakeup_fd(wakes, warn_on_full_buffer=False)
+    signal.signal(signal.SIGCHLD, lambda *_: None)
+    return woken
+
+
+def fork_keeper(keep: Callable[[], object]) -> int:
+    """The number of a new process, a keeper: it does this, and ends. Raises OSError if there is none."""
+    process = os.fork()
+    if process == 0:
+        status = 1
+        try:
+            adopt()
+            signal_at_end_of_parent(signal.SIGCONT)
+            keep()
+            status = 0
+        except BaseException:
+            say_fault(*sys.exc_info())
+        finally:
+            os._exit(status)
+    return process
 
 
 def limit_descriptors(most: int, highest: int) -> None:
@@ -450,8 +532,7 @@ class Hub(Watchdog):
     """Has a keeper for each worker."""
 
     def __init__(self, channel: socket.socket, rules: Rules, of_member: MemberWatchdog) -> None:
-        super().__init__(channel, rules)
-        self.of_member = of_member
+        super().__init__(channel, rules, of_member)
         self.room = more_descriptors()
         self.keepers: dict[int, Kept] = {}  # by the descriptors of their sockets
         self.by_key: dict[bytes, Kept] = {}
@@ -486,7 +567,7 @@ class Hub(Watchdog):
         try:
             kept = self.kept(name, words)
         except OSError as error:
-            say(f'bully: {self.rules.words[0]}: {error.strerror}\n')
+            say(f'{self.rules.words[0]}: {error.strerror}')
             self.say(b'ended %s %d' % (name, NOT_STARTED))
             return
         self.keepers[kept.channel.fileno()] = self.by_key[key] = kept
@@ -497,34 +578,21 @@ class Hub(Watchdog):
         mine, given = socket.socketpair(socket.AF_UNIX, socket.SOCK_SEQPACKET)
         with given:
             try:
-                process = os.fork()
+                return Kept(name, mine, fork_keeper(lambda: self.keep(given, mine, name, words)))
             except OSError:
                 mine.close()
                 raise
-            if process == 0:
-                mine.close()
-                self.keep(given, name, words)
-        return Kept(name, mine, process)
 
-    def keep(self, channel: socket.socket, name: bytes, words: bytes) -> None:
-        """This process becomes a keeper. It ends with its worker."""
-        status = 1
-        try:
-            adopt()
-            signal_at_end_of_parent(signal.SIGCONT)
-            limit_descriptors(*self.room)
-            for each in (self.channel, *(kept.channel for kept in self.keepers.values())):
-                each.close()
-            keeper = Keeper(channel, self.rules, MemberWatchdog('', self.rules.ttl), self.until)
-            keeper.shared = self.shared
-            keeper.begin(name, words)
-            while keeper.worker is not None:
-                keeper.turn()
-            status = 0
-        except BaseException:
-            sys.excepthook(*sys.exc_info())
-        finally:
-            os._exit(status)
+    def keep(self, channel: socket.socket, other: socket.socket, name: bytes, words: bytes) -> None:
+        """This process is a keeper, with its worker."""
+        limit_descriptors(*self.room)
+        for each in (other, self.channel, *(kept.channel for kept in self.keepers.values())):
+            each.close()
+        keeper = Keeper(channel, self.rules, MemberWatchdog('', self.rules.ttl), self.until)
+        keeper.shared, keeper.woken = self.shared, woken_by_children()
+        keeper.begin(name, words)
+        while keeper.worker is not None:
+            keeper.turn()
 
     def hear_keeper(self, kept: Kept) -> None:
         """Passes on what a keeper reports. Its last report waits for its end: another one may begin then."""
@@ -581,22 +649,71 @@ class Hub(Watchdog):
             self.poll.modify(self.channel, select.POLLIN | (select.POLLOUT if self.unsent else 0))
 
 
+class Sentinel:
+    """The watchdog of a member whose one keeper hears the member itself."""
+
+    def __init__(self, channel: socket.socket, rules: Rules, of_member: MemberWatchdog) -> None:
+        """Raises OSError if there can be no keeper."""
+        self.rules, self.of_member = rules, of_member
+        here = os.pidfd_open(os.getpid())
+        self.process = fork_keeper(lambda: self.keep(channel, here))
+        self.end = os.pidfd_open(self.process)
+        os.close(here)
+        channel.close()  # so the member hears of the keeper's end
+        signal.signal(signal.SIGCONT, self.wake_keeper)
+
+    def wake_keeper(self, *_: object) -> None:
+        """This process was continued, as it is when its member dies: a keeper that is stopped must see to its worker."""
+        with contextlib.suppress(ProcessLookupError):
+            signal.pidfd_send_signal(self.end, signal.SIGCONT)
+
+    def keep(self, channel: socket.socket, watchdog: int) -> None:
+        """This process is the keeper."""
+        self.of_member.looks = False  # the watchdog does
+        keeper = Keeper(channel, self.rules, self.of_member)
+        keeper.watchdog, keeper.woken = watchdog, woken_by_children()
+        keeper.go_on()
+        if keeper.may_release:
+            release(keeper)
+
+    def go_on(self) -> None:
+        """Runs until the keeper has ended, and nothing is left. If the keeper died, the member, which hears of it, may
+        be suspended."""
+        poll = select.poll()
+        poll.register(self.end, select.POLLIN)
+        while not poll.poll(self.of_member.pause()):
+            self.of_member.look()
+        if os.waitpid(self.process, 0)[1]:
+            end_children(frozenset(), self.rules.ttl / BEATS, lambda _: os._exit(1))
+            os._exit(1)
+
+
+def release(watchdog: Watchdog) -> None:
+    """Releases the lease of a member that is gone, if it was told how."""
+    if watchdog.release:
+        from bully import releasing  # it takes much memory
+
+        releasing.release(watchdog.release, watchdog.rules.ttl)
+
+
 def main() -> None:
+    sys.excepthook = say_fault
     descriptor, patience, kind, file, ttl, *words = sys.argv[1:]
     channel = socket.socket(fileno=int(descriptor))
     channel.set_inheritable(False)
+    default_signals(signal.valid_signals() - {signal.SIGPIPE, signal.SIGXFSZ})  # Python ignores these: a write fails then
     for number in ENDS:
         signal.signal(number, signal.SIG_IGN)
-    signal.pthread_sigmask(signal.SIG_UNBLOCK, ENDS)  # they were held back since before its first line
+    signal.pthread_sigmask(signal.SIG_SETMASK, ())  # they were held back since before its first line
     adopt()
     signal_at_end_of_parent(signal.SIGCONT)
-    rules = Rules(float(patience), kind == 'talks', float(ttl), words)
-    watchdog = (Hub if kind == 'each' else Keeper)(channel, rules, MemberWatchdog(file, float(ttl)))
-    watchdog.go_on()
-    if watchdog.release:
-        from bully.releasing import release  # it takes much memory
-
-        release(watchdog.release, rules.ttl)
+    rules, of_member = Rules(float(patience), kind == 'talks', float(ttl), words), MemberWatchdog(file, float(ttl))
+    if kind == 'each':
+        hub = Hub(channel, rules, of_member)
+        hub.go_on()
+        release(hub)
+    else:
+        Sentinel(channel, rules, of_member).go_on()
 
 
 if __name__ == '__main__':

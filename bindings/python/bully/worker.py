@@ -20,13 +20,12 @@ from typing import BinaryIO, Deque
 from .boots import see_one_clock
 from .clocks import SECOND, seconds_of_boot, sleep_until_ready
 from .core import Session
-from .display import shown_name
 from .member import Member
-from .processes import adopt, children, end_children, held_back, is_there, may_kill
+from .processes import adopt, end_children, held_back, is_there, listed_children, may_kill
 from .watchdog import BEATS
 from .work_failures import ALL, Failures
 from .worker_states import PartitionState, TalkerState, WorkerState
-from .working import Assignment
+from .working import Assignment, log_work
 
 WATCHDOG = str(Path(__file__).with_name('watchdog.py'))
 SILENT = 2  # checks, a twentieth of the ttl apart, after which a silent watchdog is killed
@@ -35,9 +34,14 @@ STUCK_WAIT = 0.1  # seconds between two checks of processes that don't end
 PART_MAX = 100_000  # bytes of a part of a message to the watchdog: every socket has room for so many
 MESSAGE_MAX = 1000  # bytes of a message of the watchdog
 SETTINGS_MAX = (1 << 17) - len('BULLY_SETTINGS=') - 1  # bytes: a variable of an environment can't have more
+OF_WORK = {
+    f'BULLY_{name}'
+    for name in ('NODE', 'TOKEN', 'PARTITIONS', 'PARTITION', 'COORDINATOR', 'SETTINGS', 'SETTINGS_FILE', 'ANSWERS')
+}  # fmt: skip
 SURVIVORS_TOLD = (
     'these processes may work on, because SIGKILL has not ended them; nothing is started here before they end: %s'
 )
+UNSURE = 'this process was suspended, or could not renew it'
 UNLISTED = 'the kernel does not list the children of a process, so the processes of a worker could not be ended'
 
 _logger = logging.getLogger('bully')
@@ -70,10 +74,10 @@ class WorkerEnded(Exception):
         self.status = status
 
 
-def listed_children() -> set[int]:
+def children_listed() -> set[int]:
     """The children of this process. Raises ChildrenUnlisted."""
     try:
-        return children()
+        return listed_children()
     except OSError as fault:
         raise ChildrenUnlisted(f'{UNLISTED}: {fault} (the kernel needs CONFIG_PROC_CHILDREN)') from fault
 
@@ -97,10 +101,10 @@ class Workers:
         self._settings: BinaryIO  # the file with the settings, which the workers read
         self._woken: socket.socket  # can be read once there is something to do
         self._wakes: socket.socket
-        self._driver: threading.Thread  # does what is asked for, and receives the messages of the watchdog
+        self._thread: threading.Thread  # does what is asked for, and receives the messages of the watchdog
         self._releases: Callable[[Session], bytes] | None = None
         self._workers: dict[str, WorkerState] = {}  # by their keys
-        self._asked: Deque[Callable[[], object]] = deque()  # what the driver has to do
+        self._asked: Deque[Callable[[], object]] = deque()  # what the thread has to do
         self._unsent: Deque[bytes] = deque()  # what the watchdog hasn't taken yet
         self._shared = b''  # what the watchdog was told to share
         self._until = 0  # in nanoseconds of CLOCK_BOOTTIME
@@ -109,6 +113,7 @@ class Workers:
         self._survivors: list[int] = []  # processes of workers that are still there, though this process killed them
         self._is_lost = self._is_closed = self._is_given_up = False
         self._waiting: list[threading.Event] = []  # set once nothing is worked on
+        self.killed = 0  # how often the watchdog killed a worker, because the lease wasn't sure any more
         self._ending = threading.Lock()  # held by the thread that waits for children
 
     def begin(self, member: Member, file: str = '', releases: Callable[[Session], bytes] | None = None) -> None:
@@ -117,7 +122,7 @@ class Workers:
         watchdog does that once this process is gone, and nothing is left of a worker. This process kills what a
         watchdog that died leaves. Raises ForeignLog and ChildrenUnlisted."""
         see_one_clock()
-        self._member, self._others, self._failures.ttl = member, listed_children(), member.ttl
+        self._member, self._others, self._failures.ttl = member, children_listed(), member.ttl
         self._releases = releases
         adopt()
         self._settings = os.fdopen(os.memfd_create('settings'), 'wb')
@@ -125,13 +130,14 @@ class Workers:
         self._channel, given = socket.socketpair(socket.AF_UNIX, socket.SOCK_SEQPACKET)
         more = [self._kind.value, f'{os.path.realpath(file)}-shm' if file else '', str(member.ttl)]
         command = [sys.executable, '-I', '-S', WATCHDOG, str(given.fileno()), str(self._patience), *more, *self._words]
-        environment = {**os.environ, 'BULLY_NODE': self._node}
+        others = {name: value for name, value in os.environ.items() if name not in OF_WORK}  # not of another member
+        environment = {**others, 'BULLY_NODE': self._node}
         with given, held_back():  # these signals would end a watchdog that hasn't come to its first line
             self._watchdog = subprocess.Popen(
                 command, env=environment, stdin=subprocess.DEVNULL, pass_fds=[given.fileno()], start_new_session=True
             )
-        self._driver = threading.Thread(target=self._drive, name='bully watchdog', daemon=True)
-        self._driver.start()
+        self._thread = threading.Thread(target=self._run, name='bully watchdog', daemon=True)
+        self._thread.start()
 
     # What the member asks for, in threads of its own.
 
@@ -140,20 +146,23 @@ class Workers:
         self._ask(lambda: self._start(assignment, added))
 
     def stop(self, assignment: Assignment | None, partitions: frozenset[int]) -> None:
-        self._log('stops', partitions, assignment)
+        if partitions:
+            self._log('stops', partitions, assignment)
         self._ask(lambda: self._stop(assignment, partitions))
 
     def end(self) -> None:
         """Returns once nothing is worked on any more; or if the member can't wait for that."""
         done = threading.Event()
         self._ask(lambda: self._stop_all(done))
-        while not done.wait(STUCK_WAIT) and self._driver.is_alive() and not self._is_given_up:
+        while not done.wait(STUCK_WAIT) and self._thread.is_alive() and not self._is_given_up:
             pass
 
     def hear_until(self, until: float) -> None:
         """The workers may go on until then, in seconds of CLOCK_BOOTTIME."""
-        self._until = int(until * SECOND)
+        before, self._until = self._until, int(until * SECOND)
         self._tell_now(f'until {self._until}'.encode())  # if that isn't taken an earlier moment applies
+        if self._until < before:  # what isn't sent yet may have the later one
+            self._ask(lambda: self._send(f'until {self._until}'.encode()))
 
     def hear_session(self, session: Session) -> None:
         """This session may hold the lease of the node from now on."""
@@ -176,15 +185,15 @@ class Workers:
         self._wake()
         if self.is_stuck:
             return
-        self._driver.join(self._patience + self._member.ttl)  # until the watchdog has ended
+        self._thread.join(self._patience + self._member.ttl)  # until the watchdog has ended
         self._end_all()
-        self._driver.join()
+        self._thread.join()
         for each in (self._channel, self._woken, self._wakes):
             each.close()
         self._settings.close()
 
     def _ask(self, call: Callable[[], object]) -> None:
-        """The driver calls this soon."""
+        """The thread calls this soon."""
         self._asked.append(call)
         self._wake()
 
@@ -193,8 +202,7 @@ class Workers:
             self._wakes.send(b'.', socket.MSG_DONTWAIT)
 
     def _log(self, does: str, partitions: Collection[int], assignment: Assignment | None) -> None:
-        by = '' if assignment is None else f' by token {assignment.token}'
-        _logger.info('node %s: %s work on partitions %s%s', shown_name(self._node), does, sorted(partitions), by)
+        log_work(self._node, does, partitions, None if assignment is None else assignment.token)
 
     # How it goes, for any thread.
 
@@ -240,9 +248,9 @@ class Workers:
         """For how many seconds a worker still backs off after a failure: the longest of these times."""
         return self._failures.backoff_seconds(seconds_of_boot())
 
-    # The driver, a thread. It does for its workers what their states ask for.
+    # The thread. It does for its workers what their states ask for.
 
-    def _drive(self) -> None:
+    def _run(self) -> None:
         """Does its work up to `close`. If that raises an exception, which is a bug, the member ends; the watchdog then
         ends the workers."""
         try:
@@ -352,9 +360,8 @@ class Workers:
         self._member.end_with(WorkerEnded(0))
 
     def report_failure(self, worker: WorkerState, status: int, backoff: float) -> None:
-        which = '' if worker.key == ALL else f' of partition {worker.key}'
         said = 'the worker%s failed, with status %d, and is started again in %.1f s'
-        _logger.warning(said, which, status, backoff)
+        _logger.warning(said, told_of(worker), status, backoff)
 
     def _send_long(self, begin: str, words: bytes) -> None:
         """A message in parts, each of which the channel has room for."""
@@ -364,7 +371,7 @@ class Workers:
         self._send(begin.encode() + last)
 
     def _send(self, message: bytes) -> None:
-        """Sends it before the driver waits again, or once the watchdog takes it."""
+        """Sends it before the thread waits again, or once the watchdog takes it."""
         self._unsent.append(message)
 
     def _flush(self) -> None:
@@ -398,7 +405,15 @@ class Workers:
         elif word == 'answered':
             worker.answered(seconds_of_boot())
         elif word != 'begun':
+            if word == 'lost' and more:
+                self._say_killed(worker, int(more[0]) / SECOND)
             worker.gone(word, int(more[0]) if more else 0, seconds_of_boot())
+
+    def _say_killed(self, worker: WorkerState, moment: float) -> None:
+        """The watchdog killed it at that moment, in seconds of CLOCK_BOOTTIME."""
+        self.killed += 1
+        said = 'the watchdog killed the worker%s %.1f s ago, because the lease was not sure any more: %s'
+        _logger.warning(said, told_of(worker), seconds_of_boot() - moment, UNSURE)
 
     def _see_time(self) -> None:
         """Looks after workers that back off, or don't end, and after the watchdog. A silent one is killed."""
@@ -463,6 +478,11 @@ class Workers:
 
     def _say_survivors(self, processes: list[int]) -> None:
         _logger.error(SURVIVORS_TOLD, processes or 'they are not listed')
+
+
+def told_of(worker: WorkerState) -> str:
+    """Which of the node's workers it is."""
+    return '' if worker.key == ALL else f' of partition {worker.key}'
 
 
 def variables(named: dict[str, str]) -> bytes:

@@ -18,7 +18,7 @@ STOP_ALL = json.dumps({'stop': True})
 NONE: frozenset[int] = frozenset()
 
 
-class Driver(Protocol):
+class Runner(Protocol):
     """What does for a worker what its state asks for."""
 
     def begin_process(self, worker: WorkerState, assignment: Assignment) -> bool:
@@ -41,8 +41,8 @@ class Driver(Protocol):
 class WorkerState:
     """A worker that ends when something of its work has to stop. It starts again with what is left, or with more."""
 
-    def __init__(self, key: str, driver: Driver, failures: Failures) -> None:
-        self.key, self._driver, self._failures = key, driver, failures
+    def __init__(self, key: str, runner: Runner, failures: Failures) -> None:
+        self.key, self._runner, self._failures = key, runner, failures
         self.serial = 0  # of its last process
         self.is_there = False  # whether that may be there
         self.is_unheard = False  # whether it was begun, and nothing was heard of that
@@ -98,7 +98,7 @@ class WorkerState:
             return
         self.serial += 1
         self.begun, self._runs = now, work.partitions
-        self.is_there = self.is_unheard = self._driver.begin_process(self, work)
+        self.is_there = self.is_unheard = self._runner.begin_process(self, work)
         self._failures.began(now, self.key)
 
     def _stop(self, partitions: frozenset[int], now: float) -> None:
@@ -108,14 +108,14 @@ class WorkerState:
 
     def _end_process(self, now: float) -> None:
         self.stop_begun = now
-        self._driver.stop_process(self, '')
+        self._runner.stop_process(self, '')
 
     def _report(self, partitions: frozenset[int]) -> None:
         """The work on these partitions has ended."""
         if partitions:
             self.working, self._stopping = self.working - partitions, self._stopping - partitions
             self.retry_at = self.retry_at if self.working else None
-            self._driver.report(partitions)
+            self._runner.report(partitions)
 
     # What is heard of its process.
 
@@ -147,10 +147,10 @@ class WorkerState:
         """The process ended by itself. If it failed it is started again, later and later, and its node keeps what it
         owns unless it gives up; otherwise its member ends, too."""
         if status == ENDED_WELL:
-            self._driver.report_end()
+            self._runner.report_end()
             return
         backoff = self._failures.failed(now, self.key)
-        self._driver.report_failure(self, status, backoff)
+        self._runner.report_failure(self, status, backoff)
         if self.working:
             self.retry_at = now + backoff
 
@@ -171,8 +171,8 @@ class PartitionState(WorkerState):
 class TalkerState(WorkerState):
     """A worker that stays over changes, and is told of them by lines."""
 
-    def __init__(self, key: str, driver: Driver, failures: Failures) -> None:
-        super().__init__(key, driver, failures)
+    def __init__(self, key: str, runner: Runner, failures: Failures) -> None:
+        super().__init__(key, runner, failures)
         self._stops: Deque[tuple[frozenset[int], float]] = deque()  # those that it hasn't answered, each with its time
 
     def _go_on(self, now: float) -> None:
@@ -182,7 +182,7 @@ class TalkerState(WorkerState):
             return
         if not self.is_there:
             self._begin(work, now)
-        elif self._driver.begin_process(self, work):
+        elif self._runner.begin_process(self, work):
             self.begun, self.is_unheard = now, True
             self._failures.began(now, self.key)
 
@@ -190,7 +190,7 @@ class TalkerState(WorkerState):
         self._stops.append((partitions, now))
         self.stop_begun = self._stops[0][1]
         is_all = self.working == self._stopping
-        self._driver.stop_process(self, STOP_ALL if is_all else json.dumps({'stop': sorted(partitions)}))
+        self._runner.stop_process(self, STOP_ALL if is_all else json.dumps({'stop': sorted(partitions)}))
 
     def answered(self, now: float) -> None:
         if self._stops:

@@ -73,6 +73,14 @@ Revoked = Callable[[Tuple[int, ...]], object]
 Report = Callable[[Collection[int]], object]
 
 
+def log_work(name: str, does: str, partitions: Collection[int], token: Token | None) -> None:
+    """Logs that the node of this name starts or stops work on these partitions, by this token. If none are added, it
+    goes on with those that it has."""
+    what = f'{does} work on partitions {", ".join(map(str, sorted(partitions)))}'
+    by = '' if token is None else f' by token {token}'
+    _logger.info('node %s: %s%s', shown_name(name), what if partitions else 'continues with the same partitions', by)
+
+
 class Callbacks:
     """Callbacks that do the work of a node. Each returns once what it has to do is done. One thread makes all calls."""
 
@@ -118,8 +126,7 @@ class Callbacks:
         return True
 
     def _say(self, words: str, partitions: Collection[int], token: Token) -> None:
-        who, what = shown_name(self._name), sorted(partitions)
-        _logger.info('node %s: %s work on partitions %s by token %d', who, words, what, token)
+        log_work(self._name, words, partitions, token)
 
 
 class WholeCallbacks(Callbacks):

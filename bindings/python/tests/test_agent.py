@@ -10,7 +10,7 @@ from contextlib import closing
 from pathlib import Path
 
 import bully
-from bully import Agent, Answer, Call, CallKind, Setup, State, Status, Want, check, plan_table
+from bully import Agent, Answer, Call, CallKind, Setup, Want, check, plan_table
 from .replay import replay
 from .traces import EXAMPLES, LARGEST, TWO, end_of
 
@@ -58,18 +58,6 @@ class Following(unittest.TestCase):
 class Agents(unittest.TestCase):
     """What an agent does and shows."""
 
-    def test_alone(self) -> None:
-        with Agent(Setup(1, 2), 1) as agent:
-            self.assertEqual((agent.status, agent.wants, agent.events), (Status.DOWN, Want.NOTHING, 0))
-            self.assertEqual((agent.rows(), agent.request(), agent.call), ([], None, None))
-            agent.recover()
-            self.assertEqual((agent.status, agent.rows()), (Status.ELECTION, ['recover,1']))
-            led(agent)
-            self.assertEqual((agent.status, agent.coordinator, agent.halter), (Status.NORMAL, 1, 1))
-            self.assertEqual((agent.up, agent.task, agent.events), ((), (1, 1), 6))
-            self.assertEqual(agent.claim(), 'saw,1,normal,1,1,-,1 1')
-        self.assertTrue(agent.is_closed)
-
     def test_call(self) -> None:
         with recovered(TWO, 1) as caller, recovered(TWO, 2) as callee:
             self.assertIs(caller.wants, Want.START)
@@ -83,70 +71,12 @@ class Agents(unittest.TestCase):
             self.assertEqual(caller.rows(), ['return,1,are-you-up,2,yes'])
             self.assertEqual((caller.wants, caller.request(), caller.call), (Want.NOTHING, None, None))
 
-    def test_failure(self) -> None:
-        with recovered(TWO, 1) as agent:
-            agent.start()
-            self.assertIs(agent.failed(1), Answer.FAILED)
-            self.assertEqual(agent.rows(), ['lose,1,are-you-up,2', 'return,1,are-you-up,2,failed'])
-            self.assertEqual((agent.events, agent.wants), (4, Want.MOVE))
-
-    def test_orphan(self) -> None:
-        """A node that is halted while its call is under way has an orphan, whose outcome is discarded."""
-        with recovered(TWO, 1) as agent:
-            agent.start()
-            self.assertEqual(agent.serve('ask,2,7,1,halt'), 'tell,2,7,yes')
-            self.assertEqual(agent.call, Call(CallKind.ARE_YOU_UP, 2, True))
-            self.assertEqual((agent.generation, agent.halter, agent.status), (1, 2, Status.ELECTION))
-            self.assertEqual(agent.state, State(1, Status.ELECTION, None, 2, Want.AWAIT, agent.call, 1))
-            self.assertIs(agent.replied('tell,1,1,yes'), Answer.DISCARDED)
-            self.assertEqual(agent.rows(), ['return,1,are-you-up,2,discarded'])
-
-    def test_dropped(self) -> None:
-        with recovered(TWO, 1) as agent:
-            agent.start()
-            agent.serve(b'ask,2,7,1,halt')
-            agent.drop_orphan()
-            self.assertEqual((agent.rows(), agent.call), (['drop,1,are-you-up,2'], None))
-
-    def test_halted_to_normal(self) -> None:
-        with recovered(TWO, 1) as agent:
-            agent.serve('ask,2,1,1,halt')
-            agent.serve('ask,2,3,1,new-coordinator')
-            self.assertEqual((agent.status, agent.coordinator), (Status.REORGANIZATION, 2))
-            self.assertEqual(agent.serve('ask,2,4,1,are-you-normal'), 'tell,2,4,no')
-            agent.serve('ask,2,5,1,ready,2 1 2')
-            self.assertEqual((agent.status, agent.task), (Status.NORMAL, (2, 1, 2)))
-            self.assertEqual(agent.serve('ask,2,6,1,are-you-normal'), 'tell,2,6,yes')
-            self.assertEqual(agent.claim(), 'saw,1,normal,2,2,-,2 1 2')
-
-    def test_kept(self) -> None:
-        setup = Setup(2, 2, keeps=True)
-        with Agent(setup, 2, 9, (2, 1)) as agent:
-            self.assertEqual((agent.events, agent.number, agent.task), (9, 9, (2, 1)))
-            self.assertEqual(agent.claim(), 'saw,2,down,-,-,-,2 1')
-            agent.recover()
-            self.assertEqual((agent.task, agent.events), ((2, 1), 10))
-            led(agent)
-            agent.crash()
-            self.assertEqual((agent.task, agent.status), ((2, 2), Status.DOWN))
-
     def test_setup(self) -> None:
         with Agent(TWO, 2) as agent:
             self.assertIs(agent.setup, TWO)
             self.assertEqual(agent.node, 2)
             self.assertEqual(repr(agent), '<Agent of node 2, down, 0 events>')
         self.assertEqual(repr(agent), '<Agent closed>')
-
-    def test_prepare(self) -> None:
-        with recovered(Setup(3, 7, weights=(1, 2, 1)), 3) as agent:
-            self.assertEqual(agent.prepare(), (3,) * 7)
-            agent.advance()
-            for callee in (2, 1):
-                agent.start()
-                agent.replied(f'tell,3,{agent.number},yes')
-            self.assertEqual(agent.up, (1, 2))
-            self.assertEqual(agent.prepare(), (1, 1, 2, 2, 2, 2, 3))
-            self.assertEqual(agent.prepare([3, 3, 3, 2, 2, 2, 2]), (3, 3, 1, 2, 2, 2, 2))
 
     def test_largest(self) -> None:
         """Room grows by what the library says that it wants."""
@@ -178,17 +108,6 @@ class Agents(unittest.TestCase):
             agent.replied(f'tell,{agent.node},{agent.number},yes')
 
 
-# Lines that are no requests, by what they are refused as.
-BAD_REQUESTS: dict[type, list[str | bytes]] = {
-    bully.LineWord: ['', 'tell,2,0,yes', 'asks,2,0,1,halt', ' ask,2,0,1,halt', '\u00e9', '\ud800', b'ask\xff'],
-    bully.LineCaller: ['ask', 'ask,', 'ask,3,0,1,halt', 'ask,0,0,1,halt', 'ask,02,0,1,halt', 'ask,x,0,1,halt'],
-    bully.LineNumber: ['ask,2', 'ask,2,,1,halt', 'ask,2,00,1,halt', 'ask,2,1000000,1,halt', 'ask,2,-1,1,halt'],
-    bully.LineCallee: ['ask,2,0', 'ask,2,0,3,halt', 'ask,2,0,0,halt', 'ask,2,0,,halt'],
-    bully.LineKind: ['ask,2,0,1', 'ask,2,0,1,Halt', 'ask,2,0,1,halt,1 1 1', 'ask,2,0,1,halt\n', 'ask,2,0,1,halt '],
-    bully.LineTable: ['ask,2,0,1,ready', 'ask,2,0,1,ready,1 1', 'ask,2,0,1,ready,1 1 3', 'ask,2,0,1,ready,1  1 1'],
-}
-
-
 class AgentFaults(unittest.TestCase):
     """Each exception of an agent's calls, which change nothing then."""
 
@@ -202,16 +121,7 @@ class AgentFaults(unittest.TestCase):
 
     def test_open(self) -> None:
         wanted: list[tuple[type, Callable[[], object]]] = [
-            (bully.BadNodes, lambda: Agent(Setup(0, 3), 1)),
-            (bully.BadPartitions, lambda: Agent(Setup(2, 0), 1)),
-            (bully.BadLimit, lambda: Agent(Setup(2, 3, 0), 1)),
-            (bully.BadWeights, lambda: Agent(Setup(2, 3, weights=(1,)), 1)),
-            (bully.BadNode, lambda: Agent(TWO, 0)),
-            (bully.BadNode, lambda: Agent(TWO, 3)),
-            (bully.TableLength, lambda: Agent(TWO, 1, 0, [1, 2])),
-            (bully.TableLength, lambda: Agent(TWO, 1, 0, [])),
-            (bully.TableOwner, lambda: Agent(TWO, 1, 0, [1, 2, 3])),
-            (bully.TableOwner, lambda: Agent(TWO, 1, 0, [1, 2, 0])),
+            (bully.TableLength, lambda: Agent(TWO, 1, 0, [])),  # which isn't None
             (ValueError, lambda: Agent(TWO, 65_537)),
             (ValueError, lambda: Agent(TWO, -1)),
             (ValueError, lambda: Agent(TWO, 1, 2**32)),
@@ -225,93 +135,17 @@ class AgentFaults(unittest.TestCase):
             with self.subTest(place=place, fault=fault.__name__), self.assertRaises(fault):
                 call()
 
-    def test_down(self) -> None:
-        with Agent(TWO, 2) as agent:
-            own = (agent.crash, agent.check, agent.timeout, agent.start, agent.advance, agent.drop_orphan)
-            self.expect(agent, bully.IsDown, *own, lambda: agent.plan([2, 2, 2]))
-            self.expect(agent, bully.CalleeDown, lambda: agent.serve('ask,1,0,2,are-you-up'))
-            self.expect(agent, bully.NoCall, lambda: agent.failed(0), lambda: agent.replied('tell,2,0,yes'))
-
-    def test_up(self) -> None:
+    def test_lines(self) -> None:
+        """Texts are taken as their bytes are, also one that has none in UTF-8."""
         with recovered(TWO, 1) as agent:
-            self.expect(agent, bully.IsUp, agent.recover)
-            self.expect(agent, bully.Busy, agent.check, agent.timeout)
-            self.expect(agent, bully.NoStep, agent.advance, lambda: agent.plan([1, 1, 1]))
-            self.expect(agent, bully.NoCall, agent.drop_orphan, lambda: agent.failed(0))
-            agent.start()
-            self.expect(agent, bully.SlotBusy, agent.start)
-            self.expect(agent, bully.NotOrphan, agent.drop_orphan)
-            self.expect(agent, bully.NoCall, lambda: agent.failed(0), lambda: agent.failed(2))
-
-    def test_full(self) -> None:
-        with Agent(Setup(2, 3, 4), 2, 4) as agent:
-            own = (
-                agent.recover, agent.crash, agent.check, agent.timeout, agent.start, agent.advance, agent.drop_orphan,
-            )  # fmt: skip
-            self.expect(agent, bully.Full, *own, lambda: agent.plan([2, 2, 2]), lambda: agent.failed(0))
-            self.expect(
-                agent, bully.Full, lambda: agent.serve('ask,1,0,2,are-you-up'), lambda: agent.replied('tell,2,0,yes')
-            )
-
-    def test_full_of_one(self) -> None:
-        """A call that failed is two events, so room for one isn't enough."""
-        with Agent(Setup(2, 3, 3), 1) as agent:
-            agent.recover()
-            agent.start()
-            self.expect(agent, bully.Full, lambda: agent.failed(1))
-            self.assertIs(agent.replied('tell,1,1,yes'), Answer.YES)
-
-    def test_tables(self) -> None:
-        with recovered(TWO, 2) as agent:
-            wrong: dict[type, list[list[int]]] = {
-                bully.TableLength: [[], [2, 2], [2, 2, 2, 2]],
-                bully.TableOwner: [[2, 2, 3], [0, 2, 2]],
-                ValueError: [[2, 2, 65_538], [-1, 2, 2]],
-            }
-            for fault, tables in wrong.items():
-                for table in tables:
-                    self.expect(agent, fault, lambda: agent.plan(table), lambda: agent.prepare(table))
-            agent.advance()
-            agent.start()
-            agent.failed(agent.number)
-            agent.advance()
-            agent.advance()
-            self.expect(agent, bully.BadTable, lambda: agent.plan([1, 2, 2]))
-            agent.plan([2, 2, 2])
-
-    def test_requests(self) -> None:
-        with recovered(TWO, 1) as agent:
-            for fault, lines in BAD_REQUESTS.items():
-                for line in lines:
-                    self.expect(agent, fault, lambda: agent.serve(line))
-            strange = ['ask,2,0,2,are-you-up', 'ask,1,0,1,are-you-up']
-            self.expect(agent, bully.NoCall, *[lambda line=line: agent.serve(line) for line in strange])
-
-    def test_requests_of_lower_nodes(self) -> None:
-        """No node halts, announces itself to or readies a higher one."""
-        with recovered(TWO, 2) as agent:
-            for call in ('halt', 'new-coordinator', 'ready,1 1 1'):
-                self.expect(agent, bully.NoCall, lambda: agent.serve(f'ask,1,0,2,{call}'))
-
-    def test_replies(self) -> None:
-        with recovered(TWO, 1) as agent:
-            wrong: dict[type, list[str | bytes]] = {
-                bully.LineWord: ['', 'ask,1,1,2,are-you-up', 'tell!', '\u00e9', b'tell\xfe'],
-                bully.LineCaller: ['tell', 'tell,3,1,yes', 'tell,0,1,yes'],
-                bully.LineNumber: ['tell,1', 'tell,1,01,yes', 'tell,1,1000000,yes'],
-                bully.LineAnswer: ['tell,1,1', 'tell,1,1,Yes', 'tell,1,1,done', 'tell,1,1,yes,', 'tell,1,1,yes\n'],
-            }
-            for fault, lines in wrong.items():
-                for line in lines:
-                    self.expect(agent, fault, lambda: agent.replied(line))
-            agent.start()
-            strange = ['tell,2,1,yes', 'tell,1,0,yes', 'tell,1,2,yes', 'tell,1,1,no']
-            self.expect(agent, bully.NoCall, *[lambda line=line: agent.replied(line) for line in strange])
-            agent.replied('tell,1,1,yes')
-            self.expect(agent, bully.NoCall, lambda: agent.replied('tell,1,1,yes'))
+            self.expect(agent, bully.LineWord, lambda: agent.serve('\ud800'), lambda: agent.replied('\u00e9'))
+            self.assertEqual(agent.serve(b'ask,2,7,1,halt'), 'tell,2,7,yes')
 
     def test_wrong_kinds(self) -> None:
         with recovered(TWO, 1) as agent:
+            for table in ([2, 2, 65_538], [-1, 2, 2]):
+                self.expect(agent, ValueError, lambda: agent.plan(table), lambda: agent.prepare(table))
+            self.expect(agent, bully.TableLength, lambda: agent.prepare([]))  # which isn't None
             self.expect(agent, TypeError, lambda: agent.serve(None), lambda: agent.replied(7))  # type: ignore[arg-type]
             self.expect(agent, TypeError, lambda: agent.failed('1'))  # type: ignore[arg-type]
             self.expect(agent, TypeError, lambda: agent.failed(1.0))  # type: ignore[arg-type]

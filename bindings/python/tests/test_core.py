@@ -14,14 +14,13 @@ from enum import Enum
 
 import bully
 from bully import NotLearned, Owned, Replica, Status, check
-from bully.adapter import Requester, core_opening_of, seen_of
 from bully.core import (
-    TTL_MAX, TTL_MIN, Activity, Ask, BackOff, Begin, Core, CoreOpening, End, Ending, Lease, Live, Promise, Reason, Request,
+    TTL_MAX, TTL_MIN, Activity, Ask, BackOff, Begin, Core, CoreOpening, Ending, Lease, Live, Promise, Reason, Request,
     Seen, Session, Step, Stop, StoreAnswer, Unknown, Until, Wait, Way, Work,
 )  # fmt: skip
+from bully.driver import Call, Driver, StopWork, WaitForNews
 from bully.epochs import Opening
 from bully.memory import MemoryLog
-from bully.shared_log import Snapshot
 from places import ROOT
 
 TWO = 'bully,1,2,2'
@@ -68,22 +67,6 @@ class Rebalances(unittest.TestCase):
             self.assertEqual((replica.owned(1), replica.owned(2, 11)), (Owned(12, (0,)), Owned(12, (1,))))
             self.assertEqual((replica.owned(1, 12), replica.owned(2, 0xFFFF_FFFF)), (None, None))
 
-    def test_one_of_two_is_left(self) -> None:
-        wanted = [
-            'crash,1', 'recover,1', 'crash,2', 'start,1', 'lose,1', 'return,1', 'move,1', 'move,1', 'move,1',
-            'plan,1,1 1', 'move,1',
-        ]  # fmt: skip
-        with Replica(TWO) as replica:
-            replica.learn(rebalanced('1 2'))
-            self.assertEqual(replica.rebalance([1], [2, 2]), wanted)  # (a log with a plan plans from that)
-            replica.learn(wanted)
-            self.assertTrue(replica.is_stable([1], 25))
-            self.assertEqual(
-                (replica.owned(1, 25), replica.owned(1, 26), replica.owned(2)), (Owned(26, (0, 1)), None, None)
-            )
-            self.assertEqual(replica.rebalance([]), ['crash,1'])
-            self.assertTrue(check('\n'.join([TWO, *rebalanced('1 2'), *wanted, '']).encode()).is_lawful)
-
     def test_the_largest_group_keeps_an_owner_that_is_gone_at_node_1(self) -> None:
         header = bully.Setup(bully.NODES_MAX, 2).header()
         with Replica(header) as replica:
@@ -129,23 +112,13 @@ class Rebalances(unittest.TestCase):
 
     def test_refusals(self) -> None:
         with Replica(TWO) as replica:
-            cases: list[tuple[type[Exception], list[int], list[int] | None]] = [
-                (bully.BadNode, [0], None), (bully.BadNode, [1, 3], [1]), (bully.TableLength, [1], [1]),
-                (bully.TableLength, [1], []), (bully.TableLength, [], [1, 1, 1]), (bully.TableOwner, [1], [1, 3]),
-            ]  # fmt: skip
-            for fault, live, old in cases:
-                with self.subTest(live=live, old=old), self.assertRaises(fault):
-                    replica.rebalance(live, old)
+            with self.assertRaises(bully.TableLength):
+                replica.rebalance([1], [])  # which isn't None
             for wrong in (-1, 65536):
                 with self.assertRaises(ValueError):
                     replica.rebalance([wrong])
                 with self.assertRaises(ValueError):
                     replica.is_stable([wrong])
-            with self.assertRaises(bully.BadNode):
-                replica.is_stable([3])
-            for node in (0, 3):
-                with self.assertRaises(bully.BadNode):
-                    replica.owned(node)
             with self.assertRaises(ValueError):
                 replica.owned(1, 0x1_0000_0000)
             self.assertEqual((replica.rows, replica.events), (0, 0))
@@ -223,34 +196,6 @@ class Stories(unittest.TestCase):
         self.assertEqual((core.session, core.promised, core.work, core.sure_until), (Unknown(SECOND), 6, None, 0))
         self.ask(310_080, Request.RELEASE, SECOND)
 
-    def test_one_request_at_a_time(self) -> None:
-        """Until it is answered nothing else is asked for, and work that may not go on stops: its lease is sure up to
-        800,010."""
-        core = self.core
-        self.begin()
-        core.woke()
-        self.ask(100, Request.SNAPSHOT)
-        self.assertEqual(
-            [core.next(now) for now in (110, 260_010, 800_010, 800_020)],
-            [BackOff(799_900, Reason.ANSWER), BackOff(540_000, Reason.ANSWER), Stop(), BackOff(TTL_MIN, Reason.ANSWER)],
-        )
-        core.stopped()
-        self.assertEqual(core.next(800_030), BackOff(TTL_MIN, Reason.ANSWER))
-        core.answered(800_040, StoreAnswer.UNANSWERED)
-        self.assertEqual(core.next(800_040), BackOff(50_000, Reason.PAUSE))
-        self.ask(850_040, Request.RENEW, FIRST)
-
-    def test_who_owns(self) -> None:
-        """By a plan after what its session has promised of this epoch."""
-        self.begin()
-        for promise, owned in (
-            (Promise(7, 4), Owned(5, (0,))), (Promise(7, 5), None), (Promise(6, 5), Owned(5, (0,))),
-        ):  # fmt: skip
-            self.assertEqual(self.core.owned_of(Lease(1, FIRST, promise)), owned)
-        for node in (0, 2):
-            with self.assertRaises(bully.BadNode):
-                self.core.owned_of(Lease(node, FIRST, Promise(7, 0)))
-
     def test_is_stable(self) -> None:
         """A session that comes to a stable group is admitted once it has stayed for 10,000; and if another session came
         for its node not long before, for four times as long."""
@@ -275,120 +220,39 @@ class Stories(unittest.TestCase):
             self.assertEqual([snapshot(now, works, first) for now in (50, 10_049, 10_050)], [True, True, False])
             self.assertEqual([snapshot(now, works, again) for now in (20_000, 59_999, 60_000)], [True, True, False])
 
-    def test_needs_promises(self) -> None:
-        """In a cooperative group all but the highest live node need none, until it is their turn: after a change each
-        waits 200,000 for each higher one."""
+    def test_a_change_is_under_way(self) -> None:
+        """Then a node is admitted that came again, and would have to stay for 40,000. To see that, a member needs promises."""
         with Replica('bully,1,3,3') as replica:
-            rows = replica.rebalance([1, 2, 3])
-        three = tuple(Lease(node, Session(node, 1), Promise(7, 0)) for node in (1, 2, 3))
-        eager, late = replace(ONE, header='bully,1,3,3', rows_max=99), 10**15
-        for node, is_cooperative, turn in (
-            (1, True, 400_000), (2, True, 200_000), (3, True, 0), (1, False, 0), (2, False, 0), (3, False, 0),
-        ):  # fmt: skip
-            opening, always = replace(eager, node=node, is_cooperative=is_cooperative), turn == 0
-            with self.subTest(node, is_cooperative=is_cooperative), Core(opening, 5, TTL_MIN) as core:
+            rows = replica.rebalance([2, 3])
+        end, before = Promise(7, len(rows)), Promise(7, 0)
+        own, high = (Lease(node, Session(node, 1), before) for node in (2, 3))
+        opening = replace(ONE, header='bully,1,3,3', rows_max=99, node=2, is_cooperative=True)
+        with Core(opening, 5, TTL_MIN) as core:
 
-                def needs(*times: int) -> list[bool]:
-                    return [core.needs_promises(now) for now in times]
+            def snapshot(now: int, session: int, high: Lease, is_leaving: bool = False) -> bool:
+                core.woke()
+                self.assertEqual(core.next(now), Ask(Request.SNAPSHOT))
+                core.learn(rows[core.offset :])
+                core.snapshot_read(now, Seen(7, (Lease(1, Session(1, session), end, (), is_leaving), own, high)))
+                return core.is_stable()
 
-                def snapshot(now: int, *leases: Lease, has_request: bool = False) -> bool:
-                    core.woke()
-                    self.assertEqual(core.next(now), Ask(Request.SNAPSHOT))
-                    core.learn(rows[core.offset :])
-                    core.snapshot_read(now, Seen(7, leases, False, has_request))
-                    return core.is_stable()
-
-                self.assertEqual(needs(0, late), [True, True], 'it has seen no higher node')
-                self.assertTrue(snapshot(10, *three))
-                self.assertEqual(needs(0, 10, late), [always] * 3, 'the group is stable')
-                self.assertFalse(snapshot(1_000, *three, has_request=True))
-                self.assertEqual(needs(0, 1_000, 999 + turn, 1_000 + turn, late), [always] * 3 + [True] * 2)
-                self.assertFalse(snapshot(2_000, *three, has_request=True))
-                self.assertEqual(needs(999 + turn, 1_000 + turn), [always, True], 'nothing has changed')
-                self.assertTrue(snapshot(3_000, *three))
-                self.assertEqual(needs(3_000, late), [always] * 2, 'the group is stable again')
-                self.assertFalse(snapshot(4_000, *three[: node - 1]))
-                self.assertEqual(needs(4_000, late), [True, True], 'no higher node is live')
-
-    def test_its_work_ends_outside(self) -> None:
-        self.begin()
-        self.core.lost(4)
-        self.assertEqual(self.core.work, Work(Way.WORKING, 5))
-        self.core.lost(5)
-        self.assertEqual(
-            (self.core.work, self.core.next(110), self.core.next(120)),
-            (Work(Way.LOST, 5), Stop(), BackOff(249_890, Reason.STOP)),
-        )
-        self.core.stopped()
-        self.assertEqual(self.core.next(130), Begin(5))
-
-    def test_its_work_ends_on_a_partition(self) -> None:
-        """It begins again there, because its node owns the partition."""
-        self.begin()
-        self.assertEqual((self.core.activities(), self.core.works()), ([Activity.WORKING], (0,)))
-        self.core.stopped_on(1)  # which the group hasn't
-        self.assertEqual((self.core.activities(), self.core.works()), ([Activity.WORKING], (0,)))
-        self.core.stopped_on(0)
-        self.assertEqual((self.core.activities(), self.core.works(), self.core.work), ([Activity.IDLE], (), None))
-        self.assertEqual(self.core.next(100), Begin(5))
-        self.assertEqual(self.core.works(), (0,))
-
-    def test_it_leaves(self) -> None:
-        self.begin()
-        self.core.leave()
-        self.assertEqual((self.core.ending, self.core.next(100)), (Ending.LEFT, Stop()))
-        self.core.stopped()
-        self.ask(110, Request.PROMISE, FIRST, 6)
-        self.core.answered(120, StoreAnswer.DONE)
-        self.ask(130, Request.APPEND, offset=6)
-        self.assertEqual(self.core.rebalance(), ['crash,1'])
-        self.core.answered(140, StoreAnswer.DONE)
-        self.ask(150, Request.SNAPSHOT)
-        self.core.learn(['crash,1'])
-        self.snapshot_read(160, 6)
-        self.ask(170, Request.RELEASE, FIRST)
-        self.core.answered(180, StoreAnswer.DONE)
-        self.assertEqual(self.core.next(190), End(Ending.LEFT))
-
-    def test_it_goes_on_in_another_epoch(self) -> None:
-        self.begin()
-        self.core.woke()
-        self.ask(100, Request.SNAPSHOT)
-        self.snapshot_read(110, 0, True)
-        self.assertEqual((self.core.has_request, self.core.next(120)), (True, Stop()))
-        self.core.stopped()
-        self.ask(130, Request.PROMISE, FIRST, 6)
-        self.core.answered(140, StoreAnswer.DONE)
-        self.ask(150, Request.ROLL_OVER, offset=6)
-        self.core.answered(160, StoreAnswer.DONE)
-        self.ask(170, Request.FOLLOW)
-        with self.assertRaises(bully.BadNode):
-            self.core.followed(180, replace(ONE, epoch=8, node=2))
-        self.core.followed(180, CoreOpening('bully,1,1,3', 8, 1, 22, (1, 0, 0)))
-        self.assertEqual(
-            (self.core.epoch, self.core.offset, self.core.partitions, self.core.session), (8, 0, 3, Live(FIRST, 10))
-        )
-        self.ask(190, Request.SNAPSHOT)
-        self.core.passed()
-        self.ask(200, Request.FOLLOW)
-        self.core.followed(210, None)
-        self.assertEqual(self.core.ending, Ending.NOT_THERE)
-        self.ask(220, Request.RELEASE, FIRST)
+            self.assertTrue(snapshot(10, 1, high))
+            self.assertFalse(core.needs_promises(10), 'the first session is admitted soon')
+            self.assertTrue(snapshot(20, 2, high), 'the node that promised the end is down')
+            self.assertEqual([core.needs_promises(now) for now in (20, 40_019, 40_020)], [True, True, False])
+            self.assertFalse(snapshot(30, 2, replace(high, promise=end)))
+            self.assertTrue(snapshot(40, 2, replace(high, promise=end), is_leaving=True))
+            self.assertTrue(snapshot(50, 2, high), 'nobody has promised the end any more')
 
     def test_a_log_is_broken(self) -> None:
-        for rows, cause in (
-            (['recover,1', 'recover,1'], bully.IsUp),
-            (['nothing,1'], bully.BadRow),
-            (['\ufeffrecover,1'], bully.BadRow),
-        ):
-            with self.subTest(rows=rows), Core(ONE, 5, TTL_MIN) as core:
-                core.learn(rows)
-                self.assertEqual(core.ending, Ending.BROKEN)
-                assert isinstance(core.fault, NotLearned)
-                self.assertEqual((core.fault.cause, core.fault.row), (cause, len(rows) + 1))
+        """The exception of the row that isn't learned is kept. What isn't one row changes nothing."""
+        with Core(ONE, 5, TTL_MIN) as core:
+            core.learn(['recover,1', 'recover,1'])
+            assert isinstance(core.fault, NotLearned)
+            self.assertEqual((core.fault.cause, core.fault.row, core.ending), (bully.IsUp, 3, Ending.BROKEN))
         with Core(replace(ONE, header='bully,3,1,1,1,clear'), 5, TTL_MIN) as core:
             core.learn(['saw,1,down,-,-,-,-'])
-            self.assertEqual((core.ending, core.fault, core.rows, core.offset), (Ending.BROKEN, None, 1, 0))
+            self.assertEqual((core.ending, core.fault), (Ending.BROKEN, None))
         for wrong in (['recover,1', ''], ['recover,1\r']):
             with self.assertRaises(ValueError):
                 self.core.learn(wrong)
@@ -396,35 +260,17 @@ class Stories(unittest.TestCase):
             self.core.learn('recover,1')
         self.assertEqual((self.core.ending, self.core.rows), (None, 0))
 
-    def test_what_is_not_awaited_changes_nothing(self) -> None:
-        self.acquire()
-        self.snapshot_read(45)
-        self.core.followed(45, replace(ONE, epoch=8))
-        self.core.followed(45, None)
-        self.core.answered(45, StoreAnswer.UNANSWERED)
-        self.assertEqual((self.core.epoch, self.core.ending), (7, None))
-        self.ask(50, Request.APPEND, offset=0)
-
-    def test_refusals(self) -> None:
-        for fault, opening, ttl in (
-            (bully.BadHeader, replace(ONE, header=''), TTL_MIN),
-            (bully.BadHeader, replace(ONE, header='bully,1,1,1\nrecover,1\n'), TTL_MIN),
-            (bully.BadNode, replace(ONE, node=0), TTL_MIN), (bully.BadNode, replace(ONE, node=2), TTL_MIN),
-            (bully.TableLength, replace(ONE, old=(1, 1)), TTL_MIN), (bully.TableLength, replace(ONE, old=()), TTL_MIN),
-            (bully.TableOwner, replace(ONE, old=(2,)), TTL_MIN), (bully.BadRowsMax, replace(ONE, rows_max=21), TTL_MIN),
-            (bully.BadRowsMax, replace(ONE, rows_max=1_000_001), TTL_MIN), (bully.BadTtl, ONE, TTL_MIN - 1),
-            (bully.BadTtl, ONE, TTL_MAX + 1), (ValueError, replace(ONE, epoch=-1), TTL_MIN),
-            (ValueError, replace(ONE, node=65536), TTL_MIN), (ValueError, ONE, -1),
-        ):  # fmt: skip
-            with self.subTest(opening=opening, ttl=ttl), self.assertRaises(fault):
+    def test_numbers_that_do_not_fit(self) -> None:
+        for opening, ttl in ((replace(ONE, epoch=-1), TTL_MIN), (replace(ONE, node=65536), TTL_MIN), (ONE, -1)):
+            with self.subTest(opening=opening, ttl=ttl), self.assertRaises(ValueError):
                 Core(opening, 5, ttl)
         with self.assertRaises(ValueError):
             Core(ONE, 1 << 64, TTL_MIN)
-        Core(ONE, (1 << 64) - 1, TTL_MAX).close()
+        with self.assertRaises(bully.TableLength):
+            Core(replace(ONE, old=()), 5, TTL_MIN)  # which isn't None
         self.ask(0, Request.SNAPSHOT)
-        for node, fault in ((0, bully.BadNode), (2, bully.BadNode), (65536, ValueError)):
-            with self.assertRaises(fault):
-                self.core.snapshot_read(1, Seen(7, (Lease(node, FIRST, Promise(7, 0)),)))
+        with self.assertRaises(ValueError):
+            self.core.snapshot_read(1, Seen(7, (Lease(65536, FIRST, Promise(7, 0)),)))
         with self.assertRaises(ValueError):
             self.core.next(1 << 64)
 
@@ -638,66 +484,49 @@ class Leaves(unittest.TestCase):
         self.assertEqual(core.next(130), Ask(Request.APPEND, Session(0, 0), end))
 
 
-class Driver:
-    """Drives cores over one log in memory, whose clock stands, so that no lease ends."""
-
-    def __init__(self, opening: Opening) -> None:
-        self.opening, self.log = opening, MemoryLog(opening, lambda: 0)
-        self.numbers = {name: number for number, name in enumerate(opening.names, 1)}
-
-    def ask(self, core: Core, now: int, ask: Ask) -> None:
-        """Does what is asked, and says what became of it."""
-        name, here = self.opening.names[core.node - 1], self.opening
-        told = Requester(
-            self.log, name, here, core.offset, lambda: 1, True, core.rebalance, lambda: here, core.works, lambda: None
-        ).call(ask)()
-        if isinstance(told, Snapshot):
-            core.learn(told.rows)
-            end = Promise(here.epoch, core.offset)
-            core.snapshot_read(now, seen_of(told, end, name, self.numbers, lambda number: core.state(number).status != Status.DOWN))
-        else:
-            core.answered(now, StoreAnswer.DONE if told else StoreAnswer.REFUSED)
-
-
 class Groups(unittest.TestCase):
-    def run_until_stable(self, driver: Driver, cores: list[Core], now: int) -> int:
+    """Groups over a log in memory whose clock stands, so that no lease ends."""
+
+    def run_until_stable(self, drivers: list[Driver], now: int) -> int:
         """Runs all, each until it waits, and until each of them works. The time then."""
         for _ in range(200):
             waiting = 0
-            for core in cores:
-                step: Step = core.next(now := now + 1)
-                while isinstance(step, Ask):
-                    driver.ask(core, now, step)
-                    step = core.next(now := now + 1)
-                if isinstance(step, Stop):
-                    core.stopped()
-                elif isinstance(step, Wait):
+            for driver in drivers:
+                step = driver.next(now := now + 1)
+                while isinstance(step, Call):
+                    driver.answered(now, step.ask, step.call())
+                    step = driver.next(now := now + 1)
+                if isinstance(step, StopWork):
+                    driver.ended(step.partitions)
+                elif isinstance(step, WaitForNews):
                     waiting += step.reason is Reason.STABLE
-                    core.woke()
+                    driver.woke()
                     now += TTL_MIN // 50
-            if waiting == len(cores) and all(core.work for core in cores):
+            if waiting == len(drivers) and all(driver.core.work for driver in drivers):
                 return now
-        raise AssertionError(f'not stable after {driver.log.rows}')
+        raise AssertionError(f'not stable after {[driver.end for driver in drivers]}')
 
     def works(self, cores: list[Core]) -> tuple[int, ...]:
         owned = [core.owned() for core in cores]
         return tuple(sorted(part for each in owned if each for part in each.partitions))
 
     def test_a_group_works_and_goes_on_without_its_highest(self) -> None:
-        driver = Driver(Opening.first('bully,1,3,5', ('a', 'b', 'c'), 500))
-        cores = [Core(core_opening_of(driver.opening, node), node, TTL_MIN) for node in (1, 2, 3)]
-        now = self.run_until_stable(driver, cores, 0)
+        log = MemoryLog(Opening.first('bully,1,3,5', ('a', 'b', 'c'), 500), lambda: 0)
+        drivers = [Driver(log, log.opening(), node, node, TTL_MIN) for node in (1, 2, 3)]
+        cores = [driver.core for driver in drivers]
+        now = self.run_until_stable(drivers, 0)
         self.assertEqual(self.works(cores), (0, 1, 2, 3, 4))
         tokens = [core.token for core in cores]
-        driver.log.release('c', driver.log.holders['c'].session)
+        log.release('c', log.holders['c'].session)
+        drivers.pop()
         cores.pop().close()
-        for core in cores:
-            core.woke()
+        for driver in drivers:
+            driver.woke()
         for _ in range(3):  # (a renewal and a snapshot each)
-            now = self.run_until_stable(driver, cores, now)
+            now = self.run_until_stable(drivers, now)
         self.assertEqual(self.works(cores), (0, 1, 2, 3, 4))
         self.assertTrue(all(core.token and core.token > (tokens[0] or 0) for core in cores))
         self.assertEqual({core.state(3).status for core in cores}, {Status.DOWN})
-        self.assertTrue(check(''.join(f'{row}\n' for row in (driver.opening.header, *driver.log.rows)).encode()).is_lawful)
+        self.assertTrue(check(''.join(f'{row}\n' for row in (log.opening().header, *log.rows)).encode()).is_lawful)
         for core in cores:
             core.close()

@@ -9,7 +9,7 @@ import bully
 from bully import NotLearned, Refused, Replica, Setup, Status, check
 from places import ROOT
 from .replicas import Member, shown
-from .traces import BAD_ROWS, EXAMPLES, VERDICTS, end_of, log_of, text_of
+from .traces import text_of
 
 
 def judged(header: str | bytes, rows: Iterable[str | bytes]) -> str:
@@ -54,28 +54,6 @@ class Learning(unittest.TestCase):
             self.expect(replica, ['run,1'], 0, bully.NoCall)
             self.assertEqual((replica.learn(['return,1']), replica.rows), (1, 5))
 
-    def test_causes(self) -> None:
-        plans = log_of('recover,2', 'move,2', 'fail,2', 'move,2', 'move,2')
-        wanted: list[tuple[type[bully.BullyError], list[str], str]] = [
-            (bully.BadNode, [], 'recover,3'),
-            (bully.IsDown, [], 'crash,1'),
-            (bully.IsUp, ['recover,1'], 'recover,1'),
-            (bully.Busy, ['recover,1'], 'check,1'),
-            (bully.NoStep, ['recover,1'], 'move,1'),
-            (bully.SlotBusy, ['recover,1', 'start,1'], 'start,1'),
-            (bully.NoCall, ['recover,1'], 'return,1'),
-            (bully.CalleeDown, ['recover,1', 'start,1'], 'run,1'),
-            (bully.CalleeUp, ['recover,1', 'recover,2', 'start,1'], 'lose,1'),
-            (bully.BadTable, plans, 'plan,2,1 2 2'),
-            (bully.NotOrphan, ['recover,1', 'start,1'], 'drop,1'),
-            (bully.RowDiffers, ['recover,1'], 'saw,1,down,-'),
-            (bully.BadRow, ['recover,1'], 'halt,1'),
-        ]
-        for cause, before, row in wanted:
-            with self.subTest(cause=cause.__name__), Replica('bully,1,2,3') as replica:
-                self.expect(replica, [*before, row, 'recover,1'], len(before), cause)
-                self.assertEqual(issubclass(cause, Refused), cause not in (bully.RowDiffers, bully.BadRow))
-
     def test_bad_rows(self) -> None:
         """What is no row, also where it is the first of those that are told."""
         wrong: list[str | bytes] = [
@@ -88,11 +66,6 @@ class Learning(unittest.TestCase):
             with self.subTest(row=row), Replica('bully,1,2,3') as replica:
                 self.expect(replica, [row, 'recover,1'], 0, bully.BadRow)
                 self.expect(replica, ['recover,2', row, 'recover,1'], 1, bully.BadRow)
-
-    def test_quotes(self) -> None:
-        """As `csv` reads them."""
-        with Replica('"bully",1,"2",3') as replica:
-            self.assertEqual(replica.learn(['"recover",1', '"re"cover,"2"']), 2)
 
     def test_no_rows(self) -> None:
         """What isn't exactly one row is refused before anything is learned."""
@@ -109,29 +82,6 @@ class Learning(unittest.TestCase):
                 with self.subTest(wrong=wrong), self.assertRaises(TypeError):
                     replica.learn(wrong)  # type: ignore[arg-type]
             self.assertEqual(replica.rows, 0)
-
-    def test_examples(self) -> None:
-        for path in EXAMPLES:
-            wanted = path.with_suffix('.out').read_text().splitlines()
-            header, *rows = path.read_text().splitlines()
-            with self.subTest(path=path.name), Replica(header) as replica:
-                self.assertEqual(judged(header, rows), wanted[0])
-                self.assertEqual(judged(header, rows), str(check(path.read_bytes())))
-                if wanted[0].startswith('lawful'):
-                    self.assertEqual(replica.learn(rows), len(rows))
-                    nodes = range(1, replica.nodes + 1)
-                    self.assertEqual([end_of(replica.state(node), replica.task(node)) for node in nodes], wanted[1:])
-
-    def test_tables_of_formats(self) -> None:
-        for trace, verdict in VERDICTS:
-            with self.subTest(trace=trace):
-                header, *rows = trace.splitlines()
-                self.assertEqual(judged(header, rows), verdict)
-        for trace, number in BAD_ROWS:
-            header, *rows = trace.split('\n')
-            wanted = 'refused 2 IsDown' if 'crash' in trace else f'refused {number} BadRow'
-            with self.subTest(trace=trace):
-                self.assertEqual(judged(header, [row.encode('latin-1') for row in rows]), wanted)
 
     def test_spoiled(self) -> None:
         """A lawful log with another byte somewhere is learned as far as `check` takes it."""

@@ -86,6 +86,7 @@ class Memory(unittest.TestCase):
                     with self.assertRaises(NotLearned):
                         replica.learn(['crash,2'])
                     TWO.header()
+                    TWO.detailed_header()
 
         self.is_steady(calls, 50_000)
 

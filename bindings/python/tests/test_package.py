@@ -2,6 +2,8 @@
 found."""
 from __future__ import annotations
 
+import contextlib
+import io
 import os
 import re
 import shutil
@@ -30,6 +32,15 @@ class Head(unittest.TestCase):
                 program = re.search(rf'\n    {first}.*?\n\n', bully.__doc__ or '', re.DOTALL)
                 assert program is not None
                 exec(textwrap.dedent(program.group()), vars(bully).copy())
+
+    def test_page(self) -> None:
+        """The program of `docs/NODE.md` prints what its comment says."""
+        [program] = re.findall(r'^```python\n(.*?)^```$', (ROOT / 'docs' / 'NODE.md').read_text(), re.MULTILINE | re.DOTALL)
+        said = io.StringIO()
+        with contextlib.redirect_stdout(said):
+            exec(program, {})
+        self.assertEqual(said.getvalue(), program.rpartition('# ')[2])
+        self.assertEqual(said.getvalue(), 'lawful 2\n')
 
     def test_docstrings(self) -> None:
         """Everything public says what it is."""
@@ -148,6 +159,20 @@ class Loading(unittest.TestCase):
                 ran = self.run_with(library, 'import bully; bully.status_name(0)')
                 self.assertEqual(ran.returncode, 1)
                 self.assertRegex(ran.stderr, 'NoLibrary: .*bin/library.*BULLY_LIBRARY')
+
+    def test_what_the_demo_built(self) -> None:
+        """In the sources the library without proofs is found, if there is no other one, by the package and for a wheel,
+        which says so."""
+        with tempfile.TemporaryDirectory() as room:
+            top, python = Path(room).resolve(), Path(room, 'bindings', 'python').resolve()
+            shutil.copytree(PYTHON, python, ignore=shutil.ignore_patterns('__pycache__'))
+            shutil.copytree(ROOT / 'include', top / 'include')
+            shutil.copytree(os.environ['BULLY_LIBRARY'], top / 'out' / 'unproved' / 'library')
+            self.assertEqual(self.run_with(None, 'import bully; print(bully.status_name(0))', python).stdout, 'OK\n')
+            wheel = 'import sys; sys.path.append("building"); import wheel_of_bully; print(wheel_of_bully.find_library())'
+            ran = self.run_with(None, wheel, python)
+            self.assertEqual(ran.stdout, f'{top}/out/unproved/library/lib/libbully.so\n')
+            self.assertIn('which is not proved', ran.stderr)
 
     def test_a_package_alone(self) -> None:
         """One that was copied out of its tree takes the header that lies with the library, and says so if there is

@@ -152,8 +152,9 @@ impl Agent {
         (!owners.is_empty()).then_some(owners)
     }
 
-    /// The rows of its last event or events, for the log, each with its line end, in version 3 of `docs/FORMATS.md`.
-    /// Nothing, if there was none since it was opened.
+    /// The rows of its last event or events, for the log, each with its line end. They are of version 3 of
+    /// `docs/FORMATS.md`: [`Setup::detailed_header`] is the header of the log. Nothing, if there was none since it was
+    /// opened.
     pub fn rows(&self) -> Result<String, OutOfMemory> {
         self.handle.rows().map_err(OutOfMemory::told)
     }

@@ -18,7 +18,7 @@ use crate::raw::{
 use crate::setup::Setup;
 use crate::shown::Owned;
 use std::cell::UnsafeCell;
-use std::ffi::CStr;
+use std::ffi::{c_char, CStr};
 use std::ptr;
 
 // How many items the room has that is offered first.
@@ -463,16 +463,37 @@ pub(crate) fn check(trace: &[u8]) -> Result<bully_verdict, (bully_status, u32)> 
 
 /// The header of a trace of this setup, with its line end.
 pub(crate) fn header(setup: &Setup) -> Result<String, bully_status> {
+    header_by(raw::bully_header, setup)
+}
+
+/// The same of version 3.
+pub(crate) fn detailed_header(setup: &Setup) -> Result<String, bully_status> {
+    header_by(raw::bully_detailed_header, setup)
+}
+
+/// A function of the library that writes the header of a setup.
+type HeaderFunction = unsafe extern "C" fn(
+    *const raw::bully_setup,
+    *const u16,
+    usize,
+    *mut c_char,
+    usize,
+    *mut usize,
+) -> bully_status;
+
+/// The header that this function writes of a setup.
+fn header_by(function: HeaderFunction, setup: &Setup) -> Result<String, bully_status> {
     let (setup, weights) = (raw_setup(setup), &setup.weights);
     let bytes = filled(|room: &mut [u8], length| {
+        let (start, count) = (room.as_mut_ptr().cast(), room.len());
         // SAFETY: each pointer is that of a slice or a value. The room is as long as is said.
         unsafe {
-            raw::bully_header(
+            function(
                 &setup,
                 weights.as_ptr(),
                 weights.len(),
-                room.as_mut_ptr().cast(),
-                room.len(),
+                start,
+                count,
                 length,
             )
         }

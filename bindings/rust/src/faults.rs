@@ -65,7 +65,7 @@ faults! {
         Caller = BULLY_LINE_CALLER, "the line's caller is no node of the setup";
         Number = BULLY_LINE_NUMBER, "the line's number is none below the bound on events";
         Callee = BULLY_LINE_CALLEE, "the line's callee is no node of the setup";
-        Kind = BULLY_LINE_KIND, "the line has no word of a call, or a table behind another call than a Ready";
+        Kind = BULLY_LINE_KIND, "the line has no word of a call, or a table after another call than a Ready";
         Table = BULLY_LINE_TABLE, "the line is a Ready without a table of the setup";
         Answer = BULLY_LINE_ANSWER, "the line has neither `yes` nor `no`";
     }

@@ -443,8 +443,9 @@ impl Member {
 
     /// Whether the next snapshot must show what others have promised. In an eager group it must. In a cooperative group
     /// it must if no higher node is live, or if the group isn't stable for the member and its turn to change the log
-    /// has come. Otherwise these promises may be left out: the member does the same. A snapshot may change what this
-    /// returns. If that is true after one that left promises out, the member needs another one.
+    /// has come, or while the member keeps out a node that came again. Otherwise these promises may be left out: the
+    /// member does the same. A snapshot may change what this returns. If that is true after one that left promises out,
+    /// the member needs another one.
     pub fn needs_promises(&self, now: u64) -> bool {
         let needs_promises = self.handle.needs_promises(now);
         needs_promises.unwrap_or_else(|status| unexpected(status)) != 0

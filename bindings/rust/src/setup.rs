@@ -61,9 +61,9 @@ impl Setup {
         }
     }
 
-    /// The header of a log of this group, a row without its line end: of version 1 if that can express the setup, and
-    /// else of version 2, as `docs/FORMATS.md` says. A header doesn't have `events_max`: a log has room for
-    /// [`EVENTS_MAX`] events, whatever the bound of the setup.
+    /// The header of a log of this group for the rows of replicas, a row without its line end: of version 1 if that can
+    /// express the setup, and else of version 2, as `docs/FORMATS.md` says. A header doesn't have `events_max`: a log
+    /// has room for [`EVENTS_MAX`] events, whatever the bound of the setup.
     ///
     /// ```
     /// use bully::Setup;
@@ -75,6 +75,27 @@ impl Setup {
     /// ```
     pub fn header(&self) -> Result<String, HeaderError> {
         let header = calls::header(self).map_err(HeaderError::told)?;
+        Ok(calls::without_end(header))
+    }
+
+    /// The header of version 3 of this group, for the rows of an [`Agent`](crate::Agent), without its line end.
+    ///
+    /// ```
+    /// use bully::{Agent, Setup, Verdict, check};
+    ///
+    /// let setup = Setup::new(2, 3, 1000);
+    /// let mut agent = Agent::open(&setup, 1)?;
+    /// let mut trace = setup.detailed_header()? + "\n";
+    /// agent.recover()?;
+    /// trace += &agent.rows()?;
+    /// agent.start()?;
+    /// trace += &agent.rows()?;
+    /// assert_eq!(trace, "bully,3,2,3,1 1,clear\nrecover,1\nstart,1,are-you-up,2\n");
+    /// assert_eq!(check(trace.as_bytes())?, Verdict::Lawful { events: 2 });
+    /// # Ok::<(), Box<dyn std::error::Error>>(())
+    /// ```
+    pub fn detailed_header(&self) -> Result<String, HeaderError> {
+        let header = calls::detailed_header(self).map_err(HeaderError::told)?;
         Ok(calls::without_end(header))
     }
 }

@@ -143,7 +143,10 @@ fn their_rows_and_lines_are_those_of_an_election() {
 #[test]
 fn their_rows_are_lawful_behind_a_header() {
     let pair = elected();
-    let mut trace = format!("{HEADER}{}", pair.log);
+    let setup = Setup::new(2, 3, 1000);
+    let mut trace = setup.detailed_header().expect("a setup") + "\n";
+    assert_eq!(trace, HEADER);
+    trace.push_str(&pair.log);
     assert_eq!(check(trace.as_bytes()), Ok(Verdict::Lawful { events: 19 }));
     for agent in &pair.agents {
         trace.push_str(&agent.claim().expect("memory"));

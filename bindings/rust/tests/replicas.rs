@@ -4,11 +4,11 @@
 mod shown;
 
 use bully::{
-    check, Call, CallKind, FormFault, Group, LearnError, LearnFault, Refused, Replica,
-    ReplicaEvent, Setup, State, Status, TraceFault, Verdict, Want,
+    check, Call, CallKind, FormFault, Group, LearnError, LearnFault, Replica, ReplicaEvent, Setup,
+    State, Status, TraceFault, Verdict, Want,
 };
 use shown::line_of;
-use std::{fs, thread};
+use std::thread;
 
 /// A process: its node, and what it has read of the log.
 struct Member {
@@ -322,25 +322,6 @@ fn a_plan_goes_by_the_last_one() {
     cluster.assert_all_see(both, &[2, 2, 1]);
 }
 
-/// A kept task stays with a node that is down.
-#[test]
-fn a_task_is_kept() {
-    let header = Setup::new(2, 3, 1000).keeping().header();
-    let mut cluster = Cluster::open(&header.expect("a setup"));
-    cluster.recover(&[1, 2]);
-    cluster.take_turns();
-    cluster.happens(2, 1, ReplicaEvent::Crash);
-    cluster.take_turns();
-    assert_eq!(cluster.lines(), ["1 down - - 1,1,2", "2 normal 2 2 1,1,2"]);
-    let keeping = Group {
-        rows: 20,
-        events: 20,
-        keeps: true,
-        ..OF_TWO
-    };
-    cluster.assert_all_see(keeping, &[1, 1, 2]);
-}
-
 /// All members offer their rows at once, and one row alone gets in, that of the lowest node. The others read on.
 #[test]
 fn one_of_many_appends() {
@@ -372,18 +353,6 @@ fn one_of_many_appends() {
     assert_eq!(cluster.lines(), wanted);
 }
 
-/// A log of version 3 takes what its replicas give, too.
-#[test]
-fn a_log_of_version_3() {
-    let mut cluster = Cluster::open("bully,3,2,3,1 1,clear");
-    cluster.recover(&[1, 2]);
-    cluster.take_turns();
-    cluster.assert_all_see(OF_TWO, &[1, 1, 2]);
-    for (row, wanted) in cluster.log.iter().zip(rows_of(TWO_NODES)) {
-        assert!(row.starts_with(&wanted), "{row} isn't {wanted}");
-    }
-}
-
 /// The rows of a call and of its end, from the side of each node.
 #[test]
 fn a_call_under_way() {
@@ -408,32 +377,6 @@ fn a_call_under_way() {
     replica.learn(["crash,2"]).expect("a row");
     assert_eq!(replica.next(1), Ok(Some(String::from("lose,1"))));
     assert_eq!(replica.next(2), Ok(None));
-}
-
-/// An orphan may still run at its callee, and its own node drops it.
-#[test]
-fn an_orphan_is_dropped() {
-    let mut replica = opened("bully,1,3,2");
-    let rows = rows_of(
-        "recover,1 recover,2 start,2 lose,2 return,2 move,2 start,2 recover,3 move,3 start,3",
-    );
-    assert_eq!(replica.learn(&rows), Ok(10));
-    let row = |row: &str| Ok(Some(row.to_string()));
-    assert_eq!(replica.next(2), row("run,3"));
-    replica.learn(["run,3"]).expect("a row");
-    let call = Call {
-        kind: CallKind::Halt,
-        callee: 1,
-        orphan: true,
-    };
-    let state = replica.state(2).expect("a node of the group");
-    assert_eq!((state.call, state.wants), (Some(call), Want::Await));
-    assert_eq!(replica.next(1), row("run,2"));
-    assert_eq!(replica.next(2), row("drop,2"));
-    let dropped = replica.event(2, ReplicaEvent::Drop);
-    assert_eq!(dropped.as_deref(), Ok("drop,2"));
-    replica.learn(["drop,2"]).expect("a row");
-    assert_eq!(replica.state(2).map(|state| state.call), Ok(None));
 }
 
 /// A replica may go on in another thread, since it is `Send`.
@@ -485,87 +428,6 @@ fn long_texts() {
 
 fn stopped(taken: usize, fault: LearnFault) -> Result<usize, LearnError> {
     Err(LearnError { taken, fault })
-}
-
-/// Learning stops at the first row that isn't taken, and goes on after those before it.
-#[test]
-fn learning_stops_and_goes_on() {
-    let mut replica = opened("bully,1,2,3");
-    let rows = ["recover,1", "saw,1,election,-", "crash,2", "recover,2"];
-    let refused = LearnFault::Refused(Refused::IsDown);
-    assert_eq!(replica.learn(rows), stopped(2, refused));
-    let group = Group {
-        rows: 2,
-        events: 1,
-        token: None,
-        planner: None,
-        ..OF_TWO
-    };
-    assert_eq!((replica.group(), replica.planned()), (group, None));
-    assert_eq!(replica.learn(&rows[2..]), stopped(0, refused));
-    assert_eq!(replica.group(), group);
-    assert_eq!(replica.learn(&rows[3..]), Ok(1));
-    assert_eq!(replica.group().rows, 3);
-    assert_eq!(replica.learn(rows_of("start,1 run,1")), Ok(2));
-    assert_eq!(replica.group().events, 4);
-}
-
-#[test]
-fn no_rows_are_learned() {
-    let mut replica = opened("bully,1,2,3");
-    assert_eq!(replica.learn::<&str>([]), Ok(0));
-    assert_eq!(replica.learn(None::<String>), Ok(0));
-    assert_eq!(replica.group().rows, 0);
-}
-
-/// Each cause that a log can show: never Full.
-#[test]
-fn refused_rows() {
-    let cases = [
-        ("check,3", Refused::BadNode),
-        ("check,1", Refused::IsDown),
-        ("recover,1 recover,1", Refused::IsUp),
-        ("recover,1 check,1", Refused::Busy),
-        ("recover,1 move,1", Refused::NoStep),
-        ("recover,1 start,1 start,1", Refused::SlotBusy),
-        ("recover,1 run,1", Refused::NoCall),
-        ("recover,1 start,1 run,1", Refused::CalleeDown),
-        ("recover,1 recover,2 start,1 lose,1", Refused::CalleeUp),
-        (
-            "recover,2 move,2 start,2 lose,2 return,2 move,2 move,2 plan,2,1",
-            Refused::BadTable,
-        ),
-        ("recover,1 start,1 drop,1", Refused::NotOrphan),
-    ];
-    for (words, cause) in cases {
-        let (rows, mut replica) = (rows_of(words), opened("bully,1,2,1"));
-        let taken = rows.len() - 1;
-        let fault = LearnFault::Refused(cause);
-        assert_eq!(replica.learn(&rows), stopped(taken, fault), "{words}");
-        assert_eq!(replica.group().events as usize, taken);
-    }
-}
-
-/// Claims and details that aren't so. What is refused comes first.
-#[test]
-fn rows_that_differ() {
-    let differs = |header: &str, words: &str| {
-        let rows = rows_of(words);
-        let learned = opened(header).learn(&rows);
-        assert_eq!(learned, stopped(rows.len() - 1, LearnFault::Differs));
-    };
-    differs("bully,1,2,2", "saw,3,down,-");
-    differs("bully,1,2,2", "recover,1 saw,1,down,-");
-    let header = "bully,3,2,2,1 1,clear";
-    differs(header, "recover,1 start,1,halt,2");
-    differs(header, "recover,1 start,1,are-you-up,1024");
-    differs(header, "saw,1,down,-,-,1.2,-");
-    differs(header, "saw,1,down,-,-,-,1.1");
-    let refused = LearnFault::Refused(Refused::IsDown);
-    let learned = opened(header).learn(["run,1,halt,2,no"]);
-    assert_eq!(learned, stopped(0, refused));
-    let rows = ["recover,1", "start,1,are-you-up,2", "saw,2,down,-,-,-,-"];
-    assert_eq!(opened(header).learn(rows), Ok(3));
 }
 
 /// A row that has none of the forms, whatever comes before it or after it.
@@ -660,18 +522,6 @@ fn assert_header(setup: &Setup, header: &str) {
     }
 }
 
-#[test]
-fn headers_of_setups() {
-    let weighing = |weights: [u16; 3]| even(3, 7).with_weights(weights);
-    assert_header(&even(3, 7), "bully,1,3,7");
-    assert_header(&weighing([1, 1, 1]), "bully,1,3,7");
-    assert_header(&weighing([1, 2, 1]), "bully,2,3,7,1 2 1,clear");
-    assert_header(&weighing([2, 2, 2]), "bully,2,3,7,2 2 2,clear");
-    assert_header(&even(3, 7).keeping(), "bully,2,3,7,1 1 1,keep");
-    let both = weighing([1000, 1, 20]).keeping();
-    assert_header(&both, "bully,2,3,7,1000 1 20,keep");
-}
-
 /// Version 1 tells of 64 nodes and 256 partitions at most.
 #[test]
 fn headers_of_large_setups() {
@@ -686,76 +536,8 @@ fn headers_of_large_setups() {
     }
 }
 
-/// A header doesn't tell the bound on events.
-#[test]
-fn headers_without_the_bound() {
-    for events_max in [1, 1000, 1_000_000] {
-        let header = Setup::new(3, 7, events_max).header();
-        assert_eq!(header.as_deref(), Ok("bully,1,3,7"));
-    }
-    let mut replica = opened(&Setup::new(1, 1, 1).header().expect("a setup"));
-    assert_eq!(replica.learn(["recover,1", "crash,1"]), Ok(2));
-}
-
 /// The crate has the version of the library.
 #[test]
 fn the_version() {
     assert_eq!(bully::version(), env!("CARGO_PKG_VERSION"));
-}
-
-// ---- Examples ----
-
-// What the replica makes of a trace that it learns row by row, spelled as a verdict. Rows of a trace are counted from 1, with the
-// header.
-fn verdict_of_rows(trace: &str) -> (Replica, Verdict) {
-    let mut lines = trace.lines();
-    let mut replica = opened(lines.next().expect("a header"));
-    for (line, row) in lines.zip(2..) {
-        let Err(LearnError { taken, fault }) = replica.learn([line]) else {
-            continue;
-        };
-        assert_eq!(taken, 0);
-        return match fault {
-            LearnFault::Refused(cause) => (replica, Verdict::Refused { row, cause }),
-            LearnFault::Differs => (replica, Verdict::Differs { row }),
-            other => panic!("{other}"),
-        };
-    }
-    let events = replica.group().events;
-    (replica, lawful(events))
-}
-
-// The same of one that it learns at once.
-fn taken_at_once(trace: &str) -> usize {
-    let mut lines = trace.lines();
-    let mut replica = opened(lines.next().expect("a header"));
-    let learned = replica.learn(lines);
-    let taken = learned.unwrap_or_else(|error| error.taken);
-    assert_eq!(replica.group().rows as usize, taken);
-    taken
-}
-
-/// A replica takes each trace of `examples/` as `check` does, up to its end or to the row that is refused there.
-#[test]
-fn traces_of_the_examples() {
-    let folder = concat!(env!("CARGO_MANIFEST_DIR"), "/../../examples");
-    let mut learned = 0;
-    for entry in fs::read_dir(folder).expect("the examples") {
-        let path = entry.expect("an entry").path();
-        if path.extension().is_none_or(|ending| ending != "csv") {
-            continue;
-        }
-        let trace = fs::read_to_string(&path).expect("a trace");
-        let wanted = fs::read_to_string(path.with_extension("out")).expect("its verdict");
-        let (replica, verdict) = verdict_of_rows(&trace);
-        assert_eq!(check(trace.as_bytes()), Ok(verdict));
-        let mut lines = wanted.lines();
-        assert_eq!(lines.next(), Some(verdict.to_string().as_str()));
-        for (line, node) in lines.zip(1..) {
-            assert_eq!(line_in(&replica, node), line);
-        }
-        assert_eq!(taken_at_once(&trace), replica.group().rows as usize);
-        learned += 1;
-    }
-    assert!(learned >= 12);
 }

@@ -8,4 +8,5 @@ pub mod PossibleLemmas
 pub mod RowsLemmas
 pub mod ShownLemmas
 pub mod StepLemmas
+pub mod TailLemmas
 pub mod ToldLemmas

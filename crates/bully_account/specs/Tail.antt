@@ -23,9 +23,10 @@ end_of tail = tail.before + tail.count
 abbrev pub is_at_end : {R : Type 0} → TailReader R → Bool
 is_at_end tail = tail.is_at_end
 
--- so many bytes were asked for, and these were given: they are kept, and where they stand; or that there are no more
+-- so many bytes were asked for, and these were given: as many of the first as there is room for are kept, and where
+-- they stand; or that there are no more
 pub record Notes {R : Type 0} (asked : ℕ) (given : List ℕ) (old new : TailReader R) : Type 0 where
-  pub last : 0 < length given → length given ≤ BYTES_KEPT → last_of new ≡ given
+  pub last : 0 < length given → last_of new ≡ take BYTES_KEPT given
   pub before : 0 < length given → end_of old < 2 ^ 64 → before_of new ≡ end_of old
   pub end : 0 < asked → is_at_end new ≡ (length given == 0)
 

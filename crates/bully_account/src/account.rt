@@ -7,6 +7,7 @@ ghost use Rattle.bully_world.specs.State.{world_of};
 
 use crate::memory::Memories;
 use crate::moving::{Moves, moves_by, no_moves};
+use crate::order::may_belong_after;
 use crate::showing::node_sheets;
 use crate::tail::{TailReader, line_of};
 use crate::{Memory, NodeSheet};
@@ -28,12 +29,13 @@ pub struct Stop {
 }
 
 /// What the rows of a trace came to: the judge that took them, the row that decided, where one did, and what is
-/// remembered of each node's rows.
+/// remembered of each node's rows. And which later row may belong before that one.
 #[derive(Drop)]
 pub struct Account {
     judge: Judge,
     memories: Memories,
     stop: Option<Stop>,
+    wanted: Option<u32>,
 }
 
 impl Model for Account {
@@ -69,6 +71,7 @@ impl Account {
             judge: Judge::new(alloc, header)?,
             memories,
             stop: None,
+            wanted: None,
         })
     }
 
@@ -83,6 +86,7 @@ impl Account {
         let moves = moves_of(self.judge.world(), &row);
         self.judge.feed_row(number, &row);
         if self.judge.stopped().is_some() {
+            note_wanted(&mut self.wanted, &self.judge, &self.stop, number, &row);
             keep(&mut self.stop, rows, rows.source(), rows.end(), row);
         } else {
             self.memories
@@ -130,6 +134,12 @@ impl Account {
         self.stop.as_ref()
     }
 
+    /// The number of the first row after the refused one that may belong before it: that waits for such an event, which
+    /// was possible there. So the rows may be out of order.
+    pub fn wanted(&self) -> Option<u32> {
+        self.wanted
+    }
+
     /// What is remembered of the node's rows: of all that were taken, or of those before the one that decided. None of
     /// a node that the group doesn't have.
     pub fn memory(&self, node: Node) -> Option<&Memory>
@@ -162,6 +172,27 @@ fn keep<R: Read + Drop>(
     let number = rows.number();
     let line = line_of(source, end, rows.fields());
     *stop = Some(Stop { number, line, row });
+}
+
+// Notes the number of this row after the one that decided, if it is the first that may belong before that.
+fn note_wanted(
+    wanted: &mut Option<u32>,
+    judge: &Judge,
+    stop: &Option<Stop>,
+    number: u32,
+    row: &Row,
+) {
+    if wanted.is_some() {
+        return;
+    }
+    match (judge.stopped(), stop) {
+        (Some(Verdict::Refused(_, cause)), Some(stop)) => {
+            if may_belong_after(judge.world(), cause, &stop.row, row) {
+                *wanted = Some(number);
+            }
+        }
+        _ => {}
+    }
 }
 
 // Which nodes the row takes to another point, where it doesn't decide.

@@ -11,6 +11,7 @@
 mod account;
 mod memory;
 mod moving;
+mod order;
 mod possible;
 mod reading;
 mod showing;

@@ -43,7 +43,7 @@ impl<R: Read> Read for TailReader<R> {
 }
 
 impl<R: Read> TailReader<R> {
-    ghost use Rattle.std.specs.Prelude.{◌^◌, ◌<◌, ◌≤◌, length};
+    ghost use Rattle.std.specs.Prelude.{◌^◌, ◌<◌, length, take};
     ghost use Rattle.bully_account.specs.Tail.{Notes, before_of, end_of, is_at_end, last_of, source_of};
 
     /// A reader of the same bytes that hasn't given any of them yet.
@@ -74,12 +74,12 @@ impl<R: Read> TailReader<R> {
 
     // Keeps these bytes as those that were given last.
     fn keep(&mut self, given: &[u8])
-        ensures last { length given.now ≤ BYTES_KEPT → last_of self.new ≡ given.now }
+        ensures last { last_of self.new ≡ take BYTES_KEPT given.now }
         ensures before { end_of self.old < 2 ^ 64 → before_of self.new ≡ end_of self.old }
         ensures end { is_at_end self.new ≡ is_at_end self.old }
         ensures source { source_of self.new ≡ source_of self.old }
     {
-        let kept = given.len().min(BYTES_KEPT);
+        let kept = BYTES_KEPT.min(given.len());
         self.before = self.before.saturating_add(self.count as u64);
         self.last[..kept].copy_from_slice(&given[..kept]);
         self.count = kept;

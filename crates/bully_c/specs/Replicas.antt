@@ -18,6 +18,7 @@ use Rattle.bully_rows.specs.Trace.{headed}
 use Rattle.bully_rows.specs.TraceText.{event_fields, header_fields, line_of}
 use Rattle.bully_rows.specs.declared.TheConstants.{ROWS_MAX}
 use Rattle.bully_rows.specs.declared.header.Header.{Header}
+use Rattle.bully_rows.specs.declared.header.Version.{Version}
 use Rattle.bully_rows.specs.declared.trace.TraceCause.{TraceCause}
 use Rattle.bully_world.specs.State.{WorldState, cause_in, state_at}
 use Rattle.bully_c.specs.Arguments.{IsCopied, IsSetupRefusal}
@@ -137,9 +138,17 @@ IsWritten Is Refuses before count_before status after count =
     ((text : List ℕ) × Is text × IsCopied text before status after count)
     ⊎ (Refuses status × (after ≡ before) × (count ≡ count_before))
 
+-- the header of this version and this setup
+abbrev pub IsHeaderIn : Version → Setup → List ℕ → Type 0
+IsHeaderIn version s text = text ≡ line_of (header_fields version s)
+
 -- the header of a setup
 abbrev pub IsHeaderRow : Setup → List ℕ → Type 0
-IsHeaderRow s text = IsSetup s × (text ≡ line_of (header_fields (version_for s) s))
+IsHeaderRow s text = IsSetup s × IsHeaderIn (version_for s) s text
+
+-- the header of a setup for rows that say more
+abbrev pub IsDetailedHeaderRow : Setup → List ℕ → Type 0
+IsDetailedHeaderRow s text = IsSetup s × IsHeaderIn Version.Three s text
 
 abbrev pub RefusesHeaderRow : Setup → ℕ → Type 0
 RefusesHeaderRow s status = IsSetupRefusal s status ⊎ (IsSetup s × (status ≡ OUT_OF_MEMORY))

@@ -2,11 +2,12 @@
 ghost use Rattle.std.specs.Prelude.{◌≡◌, None, IfErr, IfOk, string_bytes};
 ghost use Rattle.bully_c.specs.Arguments.{IsCopied, setup_given};
 ghost use Rattle.bully_c.specs.Exports.{IsClosing};
-ghost use Rattle.bully_c.specs.Replicas.{AtLog, IsEventRow, IsHeaderRow, IsLearning, IsLogOpening, IsNextRow};
+ghost use Rattle.bully_c.specs.Replicas.{AtLog, IsDetailedHeaderRow, IsEventRow, IsHeaderIn, IsHeaderRow, IsLearning};
+ghost use Rattle.bully_c.specs.Replicas.{IsLogOpening, IsNextRow};
 ghost use Rattle.bully_c.specs.Replicas.{IsWritten, RefusesEvent, RefusesHeaderRow, RefusesNext, IsListShown};
 ghost use Rattle.bully_c.specs.Replicas.{IsStateShown, ShowsLog, group_shown, table_shown, task_in, up_in};
 ghost use Rattle.bully_c.specs.RebalanceRows.{IsStableShown, IsOwnedShown, IsRebalanceOf, RefusesRebalance};
-ghost use Rattle.bully_c.specs.declared.status.TheConstants.{OK as OkNumber};
+ghost use Rattle.bully_c.specs.declared.status.TheConstants.{OK as OkNumber, OUT_OF_MEMORY as OutOfMemoryNumber};
 
 use crate::logs::{learn, opened, write_event, write_next};
 use crate::rebalances::{write_owned, write_rebalance, write_stable};
@@ -14,8 +15,9 @@ use crate::replica_handle::ReplicaHandle;
 use crate::shown::{CState, copy_owners, copy_text, copy_up, number_of, state_in};
 use crate::status::{CLOSED, OK, OPEN, OUT_OF_MEMORY};
 use crate::tables::{CSetup, node_of, setup_of};
+use bully_base::Setup;
 use bully_replica::RowReplica;
-use bully_rows::{push_header, version_for};
+use bully_rows::{Version, push_header, version_for};
 use bully_world::World;
 use std::alloc::Global;
 
@@ -56,8 +58,44 @@ fn header_row(alloc: Global, setup: &CSetup, weights: &[u16]) -> Result<String, 
     ensures err { IfErr result (RefusesHeaderRow (setup_given setup.now weights.now)) }
 {
     let setup = setup_of(setup, weights)?;
+    header_in(alloc, version_for(&setup), &setup)
+}
+
+/// The header of a trace of this setup whose rows say more than an event, as an agent's do: [`push_header`], in version
+/// 3.
+#[unsafe(no_mangle)]
+pub extern "C" fn bully_c_detailed_header(
+    alloc: Global,
+    setup: &CSetup,
+    weights: &[u16],
+    row: &mut [u8],
+    length: &mut usize,
+) -> u32
+    ensures { IsWritten (IsDetailedHeaderRow (setup_given setup.now weights.now))
+        (RefusesHeaderRow (setup_given setup.now weights.now)) row.old length.old result row.new length.new }
+{
+    match detailed_header_row(alloc, setup, weights) {
+        Ok(text) => copy_text(&text, row, length),
+        Err(status) => status,
+    }
+}
+
+// The header of this setup in version 3.
+fn detailed_header_row(alloc: Global, setup: &CSetup, weights: &[u16]) -> Result<String, u32>
+    ensures ok { IfOk result (λ text. IsDetailedHeaderRow (setup_given setup.now weights.now) (string_bytes text)) }
+    ensures err { IfErr result (RefusesHeaderRow (setup_given setup.now weights.now)) }
+{
+    let setup = setup_of(setup, weights)?;
+    header_in(alloc, Version::Three, &setup)
+}
+
+// The header of this version and this setup.
+fn header_in(alloc: Global, version: Version, setup: &Setup) -> Result<String, u32>
+    ensures ok { IfOk result (λ text. IsHeaderIn version setup.now (string_bytes text)) }
+    ensures err { IfErr result (λ status. status ≡ OutOfMemoryNumber) }
+{
     let mut text = String::new(alloc);
-    match push_header(&mut text, version_for(&setup), &setup) {
+    match push_header(&mut text, version, setup) {
         Ok(()) => Ok(text),
         Err(_) => Err(OUT_OF_MEMORY),
     }

@@ -129,7 +129,7 @@ fn push_lack(text: &mut Draft, context: &DecisionContext, lack: &Option<Lack>) {
     match lack {
         Lack::Recover => push_needs_recover(text, context),
         Lack::Crash => {
-            text.push_str("a node is down before its first recover and behind a crash: ");
+            text.push_str("a node is down before its first recover and after a crash: ");
             push_needs_crash(text, context);
         }
         Lack::Vector => push_empty(text, context),

@@ -124,7 +124,7 @@ fn push_why(text: &mut Draft, fields: &ByteRecord, account: &Option<Account>, ca
             push_row_misfit(text, fields, account.version(), account.world().setup());
         }
         (TraceCause::TooManyRows, _) => {
-            text.push_between("a trace has at most ", ROWS_MAX, " rows behind its header");
+            text.push_between("a trace has at most ", ROWS_MAX, " rows after its header");
         }
         _ => {}
     }

@@ -114,9 +114,9 @@ pub fn push_own_call(text: &mut Draft, context: &DecisionContext, held: PendingC
 /// Appends when the event comes in the life of a call, and how far the node's call came.
 pub fn push_life(text: &mut Draft, context: &DecisionContext, event: &Event) {
     text.push_str(match event {
-        Event::Run(_) => "a call runs once, behind its start: ",
+        Event::Run(_) => "a call runs once, after its start: ",
         Event::Lose(_) => "a call is lost once, before it returns: ",
-        Event::Return(_) => "a call returns behind its run or its loss: ",
+        Event::Return(_) => "a call returns after its run or its loss: ",
         _ => "only a call that is under way is dropped: ",
     });
     match context.shown.call {

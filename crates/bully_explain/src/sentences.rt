@@ -60,7 +60,19 @@ pub fn push_cause_rule(
         Refused::BadTable => push_members_rule(text, context),
         Refused::NotOrphan => push_orphans(text, context),
     }
+    push_wanted(text, context);
     text.push_str("\n");
+}
+
+// Appends which later row may belong before the refused one, if one may.
+fn push_wanted(text: &mut Draft, context: &DecisionContext) {
+    if let Some(row) = context.account.wanted() {
+        text.push_between(
+            "; if rows are out of order, row ",
+            row,
+            " may belong before it",
+        );
+    }
 }
 
 /// Appends that the group has no such node.

@@ -7,4 +7,6 @@ pub mod AskLemmas
 pub mod StopLemmas
 pub mod OutlookLemmas
 pub mod RoleLemmas
+pub mod AdmitLemmas
+pub mod OwnLemmas
 pub mod ReadLemmas

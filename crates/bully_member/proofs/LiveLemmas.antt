@@ -7,7 +7,7 @@ use Rattle.bully_rebalance.proofs.Preparing.{has_is_member, is_member_has}
 use Rattle.bully_rebalance.specs.Rebalancing.{is_member}
 use Rattle.bully_base.specs.NodeSet.{IsFallingBelow, with_node}
 use Rattle.bully_base.specs.Setup.{IsNode, Setup}
-use Rattle.bully_member.specs.Member.{MemberState, admitted_among, is_admitted, live_of, with_admitted}
+use Rattle.bully_member.specs.Member.{MemberState, admitted_among, is_admitted, is_under_way, live_of, with_admitted}
 use Rattle.bully_member.specs.declared.values.Lease.{Lease}
 
 -- none of a falling list is above its bound
@@ -25,17 +25,17 @@ pub live_falls : (s : Setup) (leases : List Lease) → All (λ (p : Lease). IsNo
 live_falls s leases all = live_more s [] leases tt all
 
 -- ... and of those that are admitted
-admitted_more : (m : MemberState) (now : ℕ) (s : Setup) (nodes : List ℕ) (leases : List Lease) → IsFallingBelow (s.nodes + 1) nodes → All (λ (p : Lease). IsNode s p.node) leases
-    → IsFallingBelow (s.nodes + 1) (fold (with_admitted m now) nodes leases)
-admitted_more m now s nodes [] falls all = falls
-admitted_more m now s nodes (p ∷ ps) falls all = admitted_more m now s (with_admitted m now nodes p) ps (by_test (is_admitted m now p)) (All-tail (λ (p : Lease). IsNode s p.node) p ps all)
+admitted_more : (m : MemberState) (now : ℕ) (w : Bool) (s : Setup) (nodes : List ℕ) (leases : List Lease) → IsFallingBelow (s.nodes + 1) nodes → All (λ (p : Lease). IsNode s p.node) leases
+    → IsFallingBelow (s.nodes + 1) (fold (with_admitted m now w) nodes leases)
+admitted_more m now w s nodes [] falls all = falls
+admitted_more m now w s nodes (p ∷ ps) falls all = admitted_more m now w s (with_admitted m now w nodes p) ps (by_test (is_admitted m now w p)) (All-tail (λ (p : Lease). IsNode s p.node) p ps all)
   where
     by_test : (b : Bool) → IsFallingBelow (s.nodes + 1) (if b then with_node p.node nodes else nodes)
     by_test true = with_node-falling nodes p.node (s.nodes + 1) (all 0 p (omega arith)).0 (omega (arith, (all 0 p (omega arith)).1)) falls
     by_test false = falls
 
 pub admitted_falls : (m : MemberState) (now : ℕ) (s : Setup) (leases : List Lease) → All (λ (p : Lease). IsNode s p.node) leases → IsFallingBelow (s.nodes + 1) (admitted_among m now leases)
-admitted_falls m now s leases all = admitted_more m now s [] leases tt all
+admitted_falls m now s leases all = admitted_more m now (is_under_way m leases) s [] leases tt all
 
 -- whether a set has a node
 pub has_is : (nodes : List ℕ) (node : ℕ) (b : Bool) → (IsTrue b ↔ Contains nodes node) → b ≡ is_member nodes node

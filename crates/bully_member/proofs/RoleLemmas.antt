@@ -7,7 +7,7 @@ use Rattle.std.specs.Option.{option_map}
 use Rattle.bully_base.specs.declared.TheConstants.{NODES_MAX}
 use Rattle.bully_member.specs.Activities.{any_stopping}
 use Rattle.bully_member.specs.Due.{Sees, absent_step, acquiring_step, admission_wait, change_step, due, ending_step, going_step, is_admitted_since, is_due, is_leaving, is_newcomer, is_outdated, is_to_come, leaving_step, live_step, rebalance_left, session_step, stable_step, step_of_session, step_unless_awaiting, step_without_session, stopping_step, token_now, turn_step, unstable_step}
-use Rattle.bully_member.specs.Member.{MemberState, SeesStable, above, are_none, has_room, heeded, heeds_promises, is_alone, is_down, is_ready_itself, lease_of, most_promised, offset_in, offset_of, stay_left}
+use Rattle.bully_member.specs.Member.{MemberState, SeesStable, above, are_none, has_room, heeded, heeds_promises, is_alone, is_down, is_held_off, is_ready_itself, lease_of, most_promised, offset_in, offset_of, stay_left}
 use Rattle.bully_member.specs.Roles.{needs_promises, unpromised, without_promises}
 use Rattle.bully_member.specs.Times.{left, pause_left, renewal_left, sure, turn_left}
 use Rattle.bully_member.specs.declared.values.Asked.{Asked}
@@ -24,7 +24,7 @@ use Rattle.bully_rebalance.specs.Stable.{IsStable}
 
 -- Lists of leases without promises.
 
-any_map : (test : Lease → Bool) (h : Lease → Lease) (ps : List Lease) → list_any test (map h ps) ≡ list_any (λ p. test (h p)) ps
+pub any_map : (test : Lease → Bool) (h : Lease → Lease) (ps : List Lease) → list_any test (map h ps) ≡ list_any (λ p. test (h p)) ps
 any_map test h [] = refl
 any_map test h (p ∷ ps) = ap (λ b. test (h p) || b) (any_map test h ps)
 
@@ -64,7 +64,7 @@ some_turn n some = grind (arith, nat_tests, some)
 
 -- What it knows if it needs no promises.
 
-no_first : (a b : Bool) → (a || b) ≡ false → a ≡ false
+pub no_first : (a b : Bool) → (a || b) ≡ false → a ≡ false
 no_first true b is = absurd (cc is)
 no_first false b is = refl
 
@@ -116,10 +116,14 @@ module _ (m : MemberState) where
 
   needs_same : (now : ℕ) (is_stable : Bool) → needs_promises bare now is_stable ≡ needs_promises m now is_stable
   needs_same now is_stable =
-      ap (λ n. not m.terms.is_cooperative || (n == 0) || (not is_stable && (turn_left n m.ttl now m.last_change.at == 0))) above_same
+      ap (λ n. not m.terms.is_cooperative || (n == 0) || (not is_stable && (turn_left n m.ttl now m.last_change.at == 0)) || list_any (is_held_off bare now) bare.leases) above_same
+      ∙ ap (λ b. heeds_promises m || (not is_stable && (turn_left (above m) m.ttl now m.last_change.at == 0)) || b) (any_map (is_held_off bare now) drop m.leases)
+
+  early_of : (now : ℕ) (is_stable : Bool) → needs_promises m now is_stable ≡ false → (heeds_promises m || (not is_stable && (turn_left (above m) m.ttl now m.last_change.at == 0))) ≡ false
+  early_of now is_stable = no_first (heeds_promises m || (not is_stable && (turn_left (above m) m.ttl now m.last_change.at == 0))) (list_any (is_held_off m now) m.leases)
 
   lower_of : (now : ℕ) (is_stable : Bool) → needs_promises m now is_stable ≡ false → heeds_promises m ≡ false
-  lower_of now is_stable = no_first (heeds_promises m) (not is_stable && (turn_left (above m) m.ttl now m.last_change.at == 0))
+  lower_of now is_stable needs = no_first (heeds_promises m) (not is_stable && (turn_left (above m) m.ttl now m.last_change.at == 0)) (early_of now is_stable needs)
 
   -- What is due, from the last rule to the first.
 
@@ -162,7 +166,7 @@ module _ (m : MemberState) where
   module _ (now : ℕ) (s : Sight) (needs : needs_promises m now s.is_stable ≡ false) where
     by_stable : (b : Bool) (session : SessionId) → s.is_stable ≡ b → (if b then stable_step bare now s.has_all (token_now m) else unstable_step bare now session) ≡ (if b then stable_step m now s.has_all (token_now m) else unstable_step m now session)
     by_stable true session is = stable_same now s.has_all (token_now m)
-    by_stable false session is = unstable_same now session (no_turn (heeds_promises m) s.is_stable (turn_left (above m) m.ttl now m.last_change.at) needs is)
+    by_stable false session is = unstable_same now session (no_turn (heeds_promises m) s.is_stable (turn_left (above m) m.ttl now m.last_change.at) (early_of now s.is_stable needs) is)
 
     live_same : (session : SessionId) → live_step bare now s session ≡ live_step m now s session
     live_same session = if_same m.is_past m.is_past _ _ _ _ refl refl (if_same (is_outdated bare now) (is_outdated m now) _ _ _ _ (outdated_same now) refl (by_stable s.is_stable session refl))

@@ -11,3 +11,4 @@ pub mod Asking
 pub mod Waiting
 pub mod Stopping
 pub mod Roles
+pub mod Admitting

@@ -2,7 +2,7 @@
 use Rattle.std.specs.Prelude.{All, ◌∷◌, find, length, ◌-◌, filter, slice_get, replicate, ◌≡◌, ◌<◌, ◌≤◌, ◌+◌, ◌*◌, ℕ}
 use Rattle.std.specs.Prelude.{Bool, true, false, List, [], Option, None, nat_le, max, min, ◌==◌, ◌&&◌, ◌||◌, not}
 use Rattle.std.specs.Prelude.{if◌then◌else◌, fold, count_by, nat_lt, Some, ◌↔◌, Contains}
-use Rattle.std.specs.List.{list_all}
+use Rattle.std.specs.List.{list_all, list_any}
 use Rattle.bully_agree.specs.Fencing.{Planned}
 use Rattle.bully_base.specs.NodeSet.{IsFallingBelow, with_node}
 use Rattle.bully_base.specs.Setup.{IsNode}
@@ -10,7 +10,7 @@ use Rattle.bully_base.specs.declared.TheConstants.{NODES_MAX, PARTITIONS_MAX}
 use Rattle.bully_member.specs.Opening.{terms_fault}
 use Rattle.bully_member.specs.declared.opening.Terms.{Terms}
 use Rattle.bully_member.specs.declared.opening.TheConstants.{REBALANCE_MAX, TTL_MAX}
-use Rattle.bully_member.specs.Times.{left}
+use Rattle.bully_member.specs.Times.{first_stay, left}
 use Rattle.bully_member.specs.declared.values.Activity.{Activity}
 use Rattle.bully_member.specs.declared.values.Arrival.{Arrival}
 use Rattle.bully_member.specs.declared.values.Asked.{Asked}
@@ -97,18 +97,40 @@ stay_left arrivals now node = option_map_or (λ (a : Arrival). left now a.stay a
 abbrev pub is_down : MemberState → ℕ → Bool
 is_down m i = nat_lt (replica_of m).world.setup.nodes i || is_down_at (world_of (replica_of m).world) i
 
+-- whether this is the lease of a node that is up in the log, whose session has promised the log's end
+abbrev pub asks_for_change : MemberState → Lease → Bool
+asks_for_change m p = not (is_down m p.node) && same_promise p.promise (here m)
+
+-- whether a change is under way, as far as these leases show
+abbrev pub is_under_way : MemberState → List Lease → Bool
+is_under_way m leases = list_any (asks_for_change m) leases
+
 -- whether a lease is admitted: its holder doesn't leave, and its node is up in the log, or its session has stayed long
--- enough
-abbrev pub is_admitted : MemberState → (now : ℕ) → Lease → Bool
-is_admitted m now p = not p.is_leaving && (not (is_down m p.node) || (stay_left m.arrivals now p.node == 0))
+-- enough, or a change is under way
+abbrev pub is_admitted : MemberState → (now : ℕ) → (under_way : Bool) → Lease → Bool
+is_admitted m now under_way p =
+    not p.is_leaving && (not (is_down m p.node) || (stay_left m.arrivals now p.node == 0) || under_way)
 
 -- with one more node, if its lease is admitted
-abbrev pub with_admitted : MemberState → (now : ℕ) → List ℕ → Lease → List ℕ
-with_admitted m now nodes p = if is_admitted m now p then with_node p.node nodes else nodes
+abbrev pub with_admitted : MemberState → (now : ℕ) → (under_way : Bool) → List ℕ → Lease → List ℕ
+with_admitted m now under_way nodes p = if is_admitted m now under_way p then with_node p.node nodes else nodes
 
 -- the nodes of those of these leases that are admitted, in falling order
 abbrev pub admitted_among : MemberState → (now : ℕ) → List Lease → List ℕ
-admitted_among m now leases = fold (with_admitted m now) [] leases
+admitted_among m now leases = fold (with_admitted m now (is_under_way m leases)) [] leases
+
+-- whether a lease is admitted only while a change is under way
+abbrev pub is_kept_out : MemberState → (now : ℕ) → Lease → Bool
+is_kept_out m now p = not p.is_leaving && is_down m p.node && nat_lt 0 (stay_left m.arrivals now p.node)
+
+-- whether the session that holds the lease of a node came soon after another one, so that it must stay longer
+abbrev pub is_returning : List Arrival → (ttl node : ℕ) → Bool
+is_returning arrivals ttl node =
+    option_map_or (λ (a : Arrival). nat_lt (first_stay ttl) a.stay) (slice_get arrivals (node - 1)) false
+
+-- ... and stays longer for that alone
+abbrev pub is_held_off : MemberState → (now : ℕ) → Lease → Bool
+is_held_off m now p = is_kept_out m now p && is_returning m.arrivals m.ttl p.node
 
 -- whether the node was admitted when the last snapshot was read
 abbrev pub is_in_group : MemberState → ℕ → Bool

@@ -6,16 +6,19 @@
 //! `workers_apart` of bully_work, and keeps its rules (`asks_by_the_rules`).
 #![tactic(auto)]
 
-ghost use Rattle.std.specs.Prelude.{◌≡◌, [], ℕ, Bool, Contains, List, Option, Some, false, true};
+ghost use Rattle.std.specs.Prelude.{◌≡◌, [], ℕ, Bool, Contains, List, Option, Some, false, map, true};
+ghost use Rattle.std.specs.List.{list_any};
 ghost use Rattle.bully_calls.specs.declared.event.Event.{Event};
 ghost use Rattle.bully_member.specs.Activities.{works_at};
+ghost use Rattle.bully_member.specs.Admitting.{staying_among};
 ghost use Rattle.bully_member.specs.Asking.{ActsBy, MayBeSilent, Names, promise_of};
 ghost use Rattle.bully_member.specs.Due.{Sees, due, noted};
 ghost use Rattle.bully_member.specs.Keeping.{AcquiresAt, AppendsAt, BeginsBy, PromisesAt, RollsOverAt};
-ghost use Rattle.bully_member.specs.Member.{MemberState, heeds_promises, replica_of};
+ghost use Rattle.bully_member.specs.Member.{MemberState, admitted_among, heeds_promises, is_kept_out, is_under_way, replica_of};
 ghost use Rattle.bully_member.specs.Rebalance.{rebalanced_nodes};
-ghost use Rattle.bully_member.specs.Roles.{needs_promises, without_promises};
+ghost use Rattle.bully_member.specs.Roles.{needs_promises, unpromised, without_promises};
 ghost use Rattle.bully_member.specs.Stopping.{GoesOnWorking, IsTaken, StopsFor};
+ghost use Rattle.bully_member.specs.declared.values.Lease.{Lease as LeaseState};
 ghost use Rattle.bully_member.specs.declared.values.Sight.{Sight as SightState};
 ghost use Rattle.bully_replica.specs.Replica.{IsLogOf};
 ghost use Rattle.bully_rebalance.specs.Acting.{IsPiece};
@@ -84,7 +87,8 @@ pub fn asks_by_the_rules()
 /// What a snapshot must show, by role. A member of a cooperative group that isn't about to change the log sees and does
 /// the same whether or not it knows what others have promised. That is so if [`Member::needs_promises`] returns false
 /// (`answers`): a higher node is live, and the group is stable for the member, or its turn hasn't come. Without those
-/// promises that returns false, too. So the member needs rows, leases, requests and its own promise alone.
+/// promises that returns false, too. So the member needs rows, leases, requests and its own promise alone. It also admits
+/// the same (`admits`), if a snapshot shows it nobody whom it admits only while a change is under way.
 pub fn needs_no_promises()
     ensures sees { (m : MemberState) (now : ℕ) (s : SightState) → heeds_promises m ≡ false → Sees m now s
         → Sees (without_promises m) now s }
@@ -94,6 +98,18 @@ pub fn needs_no_promises()
         → needs_promises m now s.is_stable ≡ false
         → Sees (without_promises m) now s × (due (without_promises m) now s ≡ due m now s)
         × (needs_promises (without_promises m) now s.is_stable ≡ false) }
+    ensures admits { (m : MemberState) (now : ℕ) (leases : List LeaseState) → list_any (is_kept_out m now) leases ≡ false
+        → admitted_among m now (map (unpromised m.terms.node) leases) ≡ admitted_among m now leases }
+{}
+
+/// Whom members admit while a change is under way, since a node that is up in the log has promised its end: everybody
+/// who doesn't leave (`admitted`). So members that found the same leases admit the same nodes then, whatever each
+/// remembers of those that came before (`alike`).
+pub fn admits_alike()
+    ensures admitted { (m : MemberState) (now : ℕ) (leases : List LeaseState) → is_under_way m leases ≡ true
+        → admitted_among m now leases ≡ staying_among leases }
+    ensures alike { (m n : MemberState) (now then : ℕ) (leases : List LeaseState) → is_under_way m leases ≡ true
+        → is_under_way n leases ≡ true → admitted_among m now leases ≡ admitted_among n then leases }
 {}
 
 /// What a member stops. A step stops its work on a partition for a reason alone (`StopsFor`): it may go on with

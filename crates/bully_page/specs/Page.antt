@@ -129,7 +129,7 @@ other_text names s = if s.other.node == s.own.node then [] else change_text name
 -- the node that the row names, and the other one; or that the group, of so many nodes, doesn't have it
 abbrev pub changes_text : ℕ → List (List ℕ) → Scene → List ℕ
 changes_text nodes names s =
-    if nat_le s.own.node nodes then codes "<table>\n<tr><th></th> <th>before</th> <th>behind</th></tr>\n"
+    if nat_le s.own.node nodes then codes "<table>\n<tr><th></th> <th>before</th> <th>after</th></tr>\n"
     ++ change_text names s.own ++ other_text names s ++ codes "</table>\n"
     else codes "<p>The group has no node " ++ decimal s.own.node ++ codes ".</p>\n"
 

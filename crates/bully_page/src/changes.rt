@@ -17,7 +17,7 @@ pub fn push_changes(page: &mut Paper, finished: &FinishedFilm, scene: &Scene, na
     ensures { Writes page.old page.new (changes_text finished.now.setup.nodes (map (λ s. s.now) names.now) scene.now) }
 {
     if scene.own.node.number() <= finished.setup.nodes() {
-        page.push("<table>\n<tr><th></th> <th>before</th> <th>behind</th></tr>\n");
+        page.push("<table>\n<tr><th></th> <th>before</th> <th>after</th></tr>\n");
         push_change(page, &scene.own, names);
         push_other(page, scene, names);
         page.push("</table>\n");

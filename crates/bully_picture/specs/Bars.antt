@@ -36,7 +36,7 @@ shows_rows (s ∷ scenes) = true
 -- after which rows, where any are shown
 abbrev pub behind_rows : Bool → ℕ → ℕ → List ℕ
 behind_rows false first last = []
-behind_rows true first last = (codes ", behind rows " ++ decimal first ++ codes " to ") ++ (decimal last ++ [])
+behind_rows true first last = (codes ", after rows " ++ decimal first ++ codes " to ") ++ (decimal last ++ [])
 
 -- the look of a bar of node i, and what is shown where the pointer rests on it: the node, how it stood, and after
 -- which rows

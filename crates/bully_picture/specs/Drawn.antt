@@ -108,7 +108,7 @@ node_label is_wide i None =
 abbrev pub arrow_label : ℕ → Call → ℕ → ℕ → List ℕ
 arrow_label i call first last =
     codes "<title>node " ++ decimal i ++ codes ": " ++ kind_text call.kind ++ codes " to " ++ decimal call.callee
-    ++ codes ", in its slot behind rows " ++ decimal first ++ codes " to " ++ decimal last ++ codes "</title></line>\n"
+    ++ codes ", in its slot after rows " ++ decimal first ++ codes " to " ++ decimal last ++ codes "</title></line>\n"
 
 abbrev pub has_failed : Phase → Bool
 has_failed Phase.Failed = true

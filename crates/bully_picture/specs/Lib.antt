@@ -1,4 +1,5 @@
 pub mod Bars
+pub mod Boxes
 pub mod Drawn
 pub mod Escaping
 pub mod Harmless

@@ -355,7 +355,7 @@ fn push_title(arrows: &mut Paper, node: Node, call: &Call, holding: &Holding)
 {
     arrows.push_node("<title>node ", node, ": ");
     arrows.push(kind_text(call.kind));
-    arrows.push_node(" to ", call.callee, ", in its slot behind rows ");
+    arrows.push_node(" to ", call.callee, ", in its slot after rows ");
     arrows.push_number("", holding.first, " to ");
     arrows.push_number("", holding.last, "</title></line>\n");
 }

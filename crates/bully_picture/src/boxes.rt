@@ -1,4 +1,7 @@
 //! Where words stand in a picture, so that no two lie on one another.
+ghost use Rattle.std.specs.Prelude.{◌≡◌, not};
+ghost use Rattle.std.specs.List.{list_any};
+ghost use Rattle.bully_picture.specs.Boxes.{meets, overlap};
 
 /// Which end of words lies at the point that they are placed by, or their middle.
 #[derive(Clone, Copy)]
@@ -30,12 +33,19 @@ impl Area {
     }
 
     // Whether the two have a point in common.
-    fn meets(&self, other: &Area) -> bool {
-        self.x < other.x.saturating_add(other.width)
-            && other.x < self.x.saturating_add(self.width)
-            && self.y < other.y.saturating_add(other.height)
-            && other.y < self.y.saturating_add(self.height)
+    fn meets(&self, other: &Area) -> bool
+        ensures { result ≡ meets self.now other.now }
+    {
+        overlap(self.x, self.width, other.x, other.width)
+            && overlap(self.y, self.height, other.y, other.height)
     }
+}
+
+// Whether each of two stretches starts before the other one ends.
+fn overlap(start: u32, long: u32, other: u32, other_long: u32) -> bool
+    ensures { result ≡ overlap start long other other_long }
+{
+    start < other.saturating_add(other_long) && other < start.saturating_add(long)
 }
 
 // The left end of what is so wide.
@@ -82,11 +92,14 @@ fn letter_width(letter: char) -> u32 {
 }
 
 /// Whether the box has no point in common with one of these.
-pub fn is_free(area: &Area, taken: &[Area]) -> bool {
-    for other in taken {
-        if other.meets(area) {
-            return false;
-        }
-    }
-    true
+pub fn is_free(area: &Area, taken: &[Area]) -> bool
+    ensures { result ≡ not (list_any (λ other. meets other area.now) taken.now) }
+{
+    !meets_one(area, taken)
+}
+
+fn meets_one(area: &Area, taken: &[Area]) -> bool
+    ensures { result ≡ list_any (λ other. meets other area.now) taken.now }
+{
+    taken.iter().any(|other| other.meets(area))
 }

@@ -95,7 +95,7 @@ fn push_behind_rows(paper: &mut Paper, bar: &Bar, shows_rows: bool)
     ensures { Writes paper.old paper.new (behind_rows shows_rows bar.now.first bar.now.last) }
 {
     if shows_rows {
-        paper.push_number(", behind rows ", bar.first, " to ");
+        paper.push_number(", after rows ", bar.first, " to ");
         paper.push_number("", bar.last, "");
     }
 }

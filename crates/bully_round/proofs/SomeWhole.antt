@@ -8,7 +8,7 @@ use Rattle.bully_handlers.specs.Vector.{is_down}
 use Rattle.bully_member.specs.Due.{noted, stable_step, token_now}
 use Rattle.bully_member.specs.Keeping.{MayWork}
 use Rattle.bully_member.specs.Learned.{after_learning, ending_behind}
-use Rattle.bully_member.specs.Member.{MemberState, admitted_among, replica_of}
+use Rattle.bully_member.specs.Member.{MemberState, admitted_among, is_under_way, replica_of}
 use Rattle.bully_member.specs.Told.{found, to_snapshot, with_arrivals, with_own}
 use Rattle.bully_member.specs.declared.values.Activity.{Activity}
 use Rattle.bully_member.specs.declared.values.Request.{Request}
@@ -28,10 +28,10 @@ use Rattle.bully_run.proofs.CallLemmas.{nothing_learned}
 use Rattle.bully_world.specs.Cause.{is_down_at}
 use Rattle.bully_world.specs.State.{world_of}
 
--- which nodes are admitted, by whether these are Down
-abbrev admitted_if : (one_down two_down : Bool) → List ℕ
-admitted_if one_down two_down =
-    let low = if not one_down || false then with_node 1 [] else [] in if not two_down || false then with_node 2 low else low
+-- which nodes are admitted, by whether these are Down, and a change is under way
+abbrev admitted_if : (one_down two_down under_way : Bool) → List ℕ
+admitted_if one_down two_down under_way =
+    let low = if not one_down || false || under_way then with_node 1 [] else [] in if not two_down || false || under_way then with_node 2 low else low
 
 -- It reads a snapshot, and then it begins to work by this token, or doesn't.
 abbrev third_turns : (works : Bool) → (token : ℕ) → List Turn
@@ -60,7 +60,12 @@ module _ (more : List Event) (rebalances : Rebalances setup [] None nodes more) 
     learns = ap (λ same. record asking { learned = all_rows more rebalances; ending = ending_behind None (not same); needs_snapshot = true }) (sym (same_num (length more)))
 
     admits : admitted_among (with_arrivals behind 1 all_leases) 1 all_leases ≡ nodes
-    admits = ap (λ down. admitted_if down (is_down_at (world_of (replica more rebalances).world) 2)) (up 1 (1, omega arith, refl)) ∙ ap (admitted_if false) (up 2 (0, omega arith, refl))
+    admits =
+        ap (λ down. admitted_if down (is_down_at (world_of (replica more rebalances).world) 2) under_way) (up 1 (1, omega arith, refl))
+        ∙ ap (λ down. admitted_if false down under_way) (up 2 (0, omega arith, refl))
+      where
+        under_way : Bool
+        under_way = is_under_way (with_arrivals behind 1 all_leases) all_leases
 
     calm_woken : IsCalm woken 1
     calm_woken = record { session = session node; since = 0; live = refl; early = refl; going = refl; within = refl; answered = refl; rested = refl; free = refl; quiet = refl; learned = learned; sized = λ p is. absurd (cc is) }

@@ -2,6 +2,7 @@
 from __future__ import annotations
 
 import contextlib
+import os
 import sqlite3
 import tempfile
 import unittest
@@ -30,6 +31,16 @@ class WithFolder(unittest.TestCase):
         folder = tempfile.TemporaryDirectory()
         self.addCleanup(folder.cleanup)
         self.folder = Path(folder.name)
+
+    def planted(self) -> Path:
+        """From now on the working directory has modules of somebody else. The file that each of them makes once it is loaded."""
+        there, loaded = self.folder / 'of others', self.folder / 'loaded'
+        (there / 'bully').mkdir(parents=True)
+        for name in ('queue', 'json', 'socket', 'runpy', 'sitecustomize', 'bully_member', 'bully/__init__'):
+            (there / f'{name}.py').write_text(f"open({str(loaded)!r}, 'a').write(__name__)\n")
+        self.addCleanup(os.chdir, os.getcwd())
+        os.chdir(there)
+        return loaded
 
 
 class InFolder(WithFolder):

@@ -2,6 +2,7 @@
 from __future__ import annotations
 
 import contextlib
+import random
 import socket
 import threading
 from typing import Any
@@ -18,9 +19,28 @@ TXN, GRANT, KEEPALIVE = b'POST /v3/kv/txn ', b'POST /v3/lease/grant ', b'POST /v
 PUT = b'request_put'
 
 
+# Answers over HTTP that are not etcd's: the status and the text.
+OF_OTHERS = (
+    (404, 'nothing here'), (404, '{"code": 5, "message": "Not Found", "details": []}'), (403, '<html>Forbidden</html>'),
+    (403, '{"message": "permission denied"}'), (401, '{"error": "user name is empty"}'), (408, ''), (429, 'slow down'),
+    (429, '{"error": "rate limit"}'), (502, '<html>'), (503, '{"status": 503}'), (503, '{"code": 503, "message": "auth"}'),
+    (504, '{"error": {"code": 7, "message": "permission denied"}}'), (500, '{"header": {"raft_term": "1"}}'), (200, '{}'),
+    (200, '[]'), (200, '"x"'), (200, '<html>'), (200, ''), (200, '{"result": []}'), (200, '{"header": 1}'),
+    (200, '{"header": {"raft_term": "1"}}'), (302, ''),
+)  # fmt: skip
+
+
+def answer(status: int, text: str) -> bytes:
+    """An answer over HTTP."""
+    return f'HTTP/1.0 {status} x\r\n\r\n{text}'.encode()
+
+
 class Proxy:
     """Stands between a log and a server. It loses, once, an answer or a request, the first whose request has these
-    bytes."""
+    bytes. A share of the requests it answers by itself, with an error or another page."""
+
+    share, choice = 0.0, random.Random(1)
+    answered = 0  # how many it has answered by itself
 
     def __init__(self, port: int, host: str = '127.0.0.1') -> None:
         self.port = port  # of the server
@@ -64,6 +84,10 @@ class Proxy:
                 what, part = self._loses
                 if what == 'request' and part in request:
                     self._lose()
+                    break
+                if self.choice.random() < self.share:
+                    self.answered += 1
+                    client.sendall(answer(*self.choice.choice(OF_OTHERS)))
                     break
                 self._is_next |= what == 'answer' and part in request
                 server.sendall(request)

@@ -565,6 +565,7 @@ class Laws(Tests):
         here = be_idle(log, ('a', A))
         self.assertTrue(log.roll_over(1, here.offset, OPENING.next(None, ())))
         self.assertEqual(len(other.times(1)), len(moments))
+        self.assertEqual([sorted(log.times(1, offset)) for offset in (1, 2, 3)], [list(range(first, 2 * len(moments), 2)) for first in (2, 2, 4)])
         log.prune(2)
         self.assertEqual((other.times(1), log.times(2)), ({}, {}))
 

@@ -16,7 +16,7 @@ from unittest import mock
 
 from bully import command
 from bully.shared_log import Holder
-from places import ROOT, environment
+from places import PYTHON, ROOT, environment
 from ..processes import children, is_running
 from ..waiting import PATIENCE, wait_until
 from .configurations import TOP, toml
@@ -65,7 +65,7 @@ class MemberProcess:
     ) -> None:
         """By these words and those of the worker."""
         self.folder = folder
-        self.words = [sys.executable, '-W', 'error', '-m', 'bully_member', 'run', *words, '--', *worker]
+        self.words = [sys.executable, '-W', 'error', str(PYTHON / 'bully_member.py'), 'run', *words, '--', *worker]
         self.process = started(folder, self.words, said, **more)
 
     def begin_again(self) -> None:

@@ -2,6 +2,9 @@
 from __future__ import annotations
 
 import json
+import signal
+import subprocess
+import sys
 import threading
 import time
 from collections.abc import Callable
@@ -13,6 +16,7 @@ from bully.clocks import SECOND
 from bully.core import Promise, Session
 from bully.member import Member
 from bully.shared_log import Log
+from places import environment
 from ..steps import HEADER, LONG
 from ..waiting import wait_until
 from .configurations import TOP, toml
@@ -233,7 +237,10 @@ class Commands(InFolder):
             [(True, False), (False, True), (False, False)],
         )
         self.assertEqual(self.of_log('drain', 'a', '--all', '--seconds', '0.01')[0], 1)
-        self.assertEqual(self.of_log('undrain', 'b'), (0, 'b is not drained\n', ''))
+        for done in ('is no longer drained', 'was not drained'):
+            self.assertEqual(self.of_log('undrain', 'b'), (0, f'b {done}\n', ''))
+        log.note('c', True)
+        self.assertEqual(self.of_log('undrain', 'c'), (0, 'c had given up, and tries again\n', ''))
         self.assertEqual(log.snapshot(1, 0).maintenance.drained, {'a'})
         for words in (['drain', 'x'], ['undrain', 'x']):
             self.assertEqual(
@@ -245,8 +252,8 @@ class Commands(InFolder):
         self.of_log('init', '--config', str(self.config))
         log = self.opened()
         sessions = self.acquire(log, 'a', 'b')
-        for _ in range(2):
-            self.assertEqual(self.of_log('pause'), (0, 'the group is paused\n', ''))
+        for done in ('is', 'was already'):
+            self.assertEqual(self.of_log('pause'), (0, f'the group {done} paused\n', ''))
         self.assertEqual(log.snapshot(1, 0).maintenance.sessions, sessions)
         paused = 'coordinator -, eager; paused once the change under way is complete\n'
         self.assertIn(paused, self.of_log('status')[1], 'both have promised the end, so a change is under way')
@@ -257,9 +264,60 @@ class Commands(InFolder):
         new = self.other_config()
         paused = 'bully-member: the group is paused, so no epoch ends; bully-member resume ends the pause\n'
         self.assertEqual(self.of_log('resize', '--config', str(new)), (1, '', paused))
-        for _ in range(2):
-            self.assertEqual(self.of_log('resume'), (0, 'the group is not paused\n', ''))
+        for done in ('is no longer', 'was not'):
+            self.assertEqual(self.of_log('resume'), (0, f'the group {done} paused\n', ''))
         self.assertEqual((log.snapshot(1, 0).maintenance.sessions, log.snapshot(1, 0).requested), (None, None))
+
+    def test_show_config(self) -> None:
+        """It prints settings that `init` and `resize` take for the same ones, whatever the names and weights are."""
+        head = 'nodes = 3\npartitions = 6\n'
+        names = r'names = ["a \"b\" \\", "\u00e4\u007f\n\u202e", "\U0001f600"]'
+        cases: tuple[tuple[str, list[str], str], ...] = (
+            ('names = ["a", "b", "c"]', [], '# epoch 1, eager, each member has its own ttl\n'),
+            (f'{names}\nweights = [1, 20, 300]', ['--rebalance', 'cooperative'], '# epoch 1, cooperative, '),
+            (f'{names}\nkeep = true', ['--ttl', '2.5'], '# epoch 1, eager, ttl 2.5\n'),
+        )
+        for number, (more, words, told_head) in enumerate(cases):
+            self.path, shown = self.folder / f'{number}.db', self.folder / 'shown.toml'
+            self.config.write_text(head + more)
+            self.of_log('init', '--config', str(self.config), *words)
+            status, said, told = self.of_log('show-config')
+            with self.subTest(said=said):
+                self.assertEqual((status, told, said[: len(told_head)]), (0, '', told_head))
+                shown.write_text(said)
+                self.assertEqual(config_file.settings_in(str(shown)), config_file.settings_in(str(self.config)))
+                self.assertEqual(self.of_log('init', '--if-missing', '--config', str(shown)), (0, '', ''))
+                self.assertEqual(self.of_log('resize', '--config', str(shown))[1], 'epoch 1: 3 nodes, 6 partitions\n')
+                self.assertTrue(said.replace('\n', '').isprintable())
+
+    def test_show_config_for_programs(self) -> None:
+        """It writes all settings as JSON, and says whether others are requested."""
+        self.of_log('init', '--config', str(self.config), '--ttl', '2.5', '--epoch', '7')
+        wanted = {
+            'epoch': 7, 'mode': 'eager', 'ttl': 2.5, 'requested': False, 'names': ['a', 'b', 'c'],
+            'weights': [1, 1, 1], 'partitions': 6, 'keep': False,
+        }  # fmt: skip
+        self.assertEqual(json.loads(self.of_log('show-config', '--json')[1]), wanted)
+        self.acquire(self.opened(), 'a')
+        self.of_log('resize', '--config', str(self.other_config()), '--seconds', '0.01')
+        self.assertEqual(json.loads(self.of_log('show-config', '--json')[1]), {**wanted, 'requested': True})
+        self.assertIn('\n# other settings are requested for epoch 8\n', self.of_log('show-config')[1])
+
+    def test_watch(self) -> None:
+        """It shows the group again when that has changed, and only then, until ^C, which is no failure."""
+        self.of_log('init', '--config', str(self.config))
+        words = [sys.executable, '-m', 'bully_member', 'status', '--json', '--watch', '0.01', '--log', f'sqlite:{self.path}']
+        with subprocess.Popen(words, env=environment(), stdout=subprocess.PIPE, stderr=subprocess.PIPE, text=True) as shows:
+            self.addCleanup(shows.kill)
+            assert shows.stdout is not None and shows.stderr is not None
+            told = [shows.stdout.readline()]
+            for row in ('recover,2', 'start,2', 'crash,2'):
+                put(self.opened(), row)
+                while [each['text'] for each in json.loads(told[-1])['last'][-1:]] != [row]:
+                    told.append(shows.stdout.readline())
+            shows.send_signal(signal.SIGINT)
+            self.assertEqual((shows.stdout.read(), shows.stderr.read(), shows.wait()), ('', '', 0))
+        self.assertTrue(all(one != other for one, other in zip(told, told[1:])))
 
     def acquire(self, log: Log, *names: str) -> dict[str, Session]:
         """These nodes are live for long, and work."""

@@ -15,8 +15,8 @@ from typing import NamedTuple
 
 from bully import clocks, watchdog
 from bully.work_failures import Failures, Health
-from bully.worker import Kind, WatchdogLost, WorkerEnded
-from ..processes import children, descriptors_of, freeze, has_stopped, is_running, parent_of, thaw
+from bully.worker import Kind, WatchdogLost, WorkerEnded, Workers
+from ..processes import below, children, descriptors_of, freeze, has_stopped, is_running, parent_of, thaw
 from ..waiting import PATIENCE, wait_until
 from .below import Below, Timely, assigned
 
@@ -180,7 +180,7 @@ class Whole(InFiles):
         workers._ask(lambda: workers._send(b'stop all 1'))
         workers.start(assigned(3, 0))
         self.assertEqual((self.begun(0).token, first.is_gone), (40000003, True))
-        self.assertEqual(len(children(workers._watchdog.pid)), 2, 'the worker, and what it left')
+        self.assertEqual(len(below(workers._watchdog.pid)), 2, 'the worker, and what it left')
 
 
 class Each(InFiles):
@@ -458,7 +458,22 @@ class Each(InFiles):
 
 
 class Reports(unittest.TestCase):
-    """What the watchdog passes on of a keeper."""
+    """What the watchdog passes on of a keeper, and what it hears of the member."""
+
+    def test_an_earlier_moment(self) -> None:
+        """Until when work is sure: if a lease was taken away, a later moment that was to be sent before doesn't count."""
+        workers = Workers(['true'], 'x', 1.0)
+        workers._woken, workers._wakes = socket.socketpair()
+        workers._channel, watchdog_end = socket.socketpair(socket.AF_UNIX, socket.SOCK_SEQPACKET)
+        for each in (workers._woken, workers._wakes, workers._channel, watchdog_end):
+            self.addCleanup(each.close)
+        workers.hear_until(5.0)
+        workers._send(b'until 5000000000')
+        workers.hear_until(2.0)
+        workers._do_asked()
+        workers._flush()
+        told = [watchdog_end.recv(100, socket.MSG_DONTWAIT) for _ in range(4)]
+        self.assertEqual([message.split()[1] for message in told], [b'5000000000', b'2000000000', b'5000000000', b'2000000000'])
 
     def test_the_last_one(self) -> None:
         """It waits for the keeper's end: then another one may begin."""

@@ -2,11 +2,13 @@
 from __future__ import annotations
 
 import contextlib
+import json
 import socket
 import threading
 import time
 from collections.abc import Callable
 from typing import Any
+from unittest import mock
 
 from bully.clocks import SECOND
 from bully.core import Promise, Session, Until
@@ -16,8 +18,21 @@ from bully.shared_log import Holder, LogError, Unanswered
 from ..etcd_servers import Servers, WithCertificates, add_users, alone, begin_alone, coded, free_ports
 from ..steps import EMPTY, LONG, OPENING, A, B, add, live
 from ..waiting import PATIENCE, wait_until
-from .in_etcd import InEtcd
+from .in_etcd import OF_OTHERS, InEtcd, answer
 
+# The errors of etcd: the code of gRPC, the text, and what a call of the log raises.
+REFUSALS: tuple[tuple[int, str, type[LogError]], ...] = (
+    (3, 'user name is empty', Denied), (3, 'authentication failed, invalid user ID or password', Denied),
+    (3, 'request is too large', LogError), (3, 'duplicate key given in txn request', LogError),
+    (7, 'permission denied', Denied), (9, 'authentication is not enabled', Denied), (16, 'invalid auth token', Denied),
+    (1, 'request cancelled', Unanswered), (2, 'unknown', Unanswered), (4, 'request timed out', Unanswered),
+    (5, 'requested lease not found', Unanswered), (6, 'already exists', Unanswered),
+    (8, 'mvcc: database space exceeded', Unanswered), (8, 'too many requests', Unanswered),
+    (9, 'not leader', Unanswered), (9, 'rpc not supported for learner', Unanswered), (10, 'aborted', Unanswered),
+    (11, 'mvcc: required revision is a future revision', Unanswered), (12, 'method not implemented', Unanswered),
+    (13, 'internal', Unanswered), (14, 'no leader', Unanswered), (14, 'leader changed', Unanswered),
+    (15, 'corrupt cluster', Unanswered),
+)  # fmt: skip
 TTL = 5  # seconds that leases last which thirty members renew in turn
 
 
@@ -55,6 +70,19 @@ class Endpoints(InEtcd):
             for each in all_of_them:
                 self.assertIn(each, str(caught.exception))
 
+    def test_no_thread(self) -> None:
+        """Where no thread can be started a name isn't looked up, and that is said; an address needs none. The next call
+        tries again."""
+        named = f'etcd://localhost:{self.server.port}/{self.prefix}'
+        log = self.opened(named, 0.5)
+        log._client.close()
+        with mock.patch.object(threading.Thread, 'start', side_effect=RuntimeError("can't start new thread")):
+            self.assertEqual(set(live(self.opened(self.address, 0.5))), {'a'})
+            said = f'^localhost:{self.server.port}: its name can not be looked up, because no thread can be started$'
+            with self.assertRaisesRegex(Unanswered, said):
+                log.snapshot(1, 0)
+        self.assertEqual(set(live(log)), {'a'})
+
     def test_append(self) -> None:
         """What may have been done isn't asked of another server; the next call is."""
         log = self.opened(f'etcd://{self.alive},{self.alive}/{self.prefix}', 0.5)
@@ -66,19 +94,32 @@ class Endpoints(InEtcd):
         self.assertTrue(log.append(1, 1, ['recover,3']))
 
     def test_no_etcd(self) -> None:
-        for said, fault in (
-            (b'HTTP/1.0 404 Not Found\r\n\r\nnothing here', LogError), (b'HTTP/1.0 200 OK\r\n\r\n[]', LogError),
-            (b'HTTP/1.0 200 OK\r\n\r\n{}', LogError),
-            (b'HTTP/1.0 502 Bad Gateway\r\n\r\n<html>', Unanswered), (b'SSH-2.0-OpenSSH\r\n', Unanswered),
-            (b'', Unanswered),
-        ):  # fmt: skip
+        """What isn't etcd's own answer is silence, as that of a load balancer before it, whatever its status is."""
+        for said in (b'SSH-2.0-OpenSSH\r\n', b'', *(answer(status, text) for status, text in OF_OTHERS)):
             with self.subTest(said=said):
-                thread = threading.Thread(target=self.say, args=[said])
-                thread.start()
-                with self.assertRaises(fault) as caught:
-                    EtcdLog(f'etcd://{self.mute}/{self.prefix}', 5.0)
-                thread.join()
-                self.assertEqual((type(caught.exception), self.mute in str(caught.exception)), (fault, True))
+                self.assertIs(type(self.fault_of(said)), Unanswered)
+
+    def test_refusals(self) -> None:
+        """What etcd's errors mean, by the codes and texts of its `rpctypes`. One of another program is silence."""
+        for code, text, fault in REFUSALS:
+            for form in (
+                {'error': f'etcdserver: {text}', 'code': code, 'message': f'etcdserver: {text}'},
+                {'code': code, 'message': f'etcdserver: {text}', 'details': []},
+            ):  # fmt: skip
+                with self.subTest(form=form):
+                    self.assertIs(type(self.fault_of(answer(400, json.dumps(form)))), fault)
+            others = answer(400, json.dumps({'code': code, 'message': f'proxy: {text}'}))
+            self.assertIs(type(self.fault_of(others)), Unanswered, code)
+
+    def fault_of(self, said: bytes) -> Exception:
+        """What a server that answers so is taken for. It is named."""
+        thread = threading.Thread(target=self.say, args=[said])
+        thread.start()
+        with self.assertRaises(LogError) as caught:
+            EtcdLog(f'etcd://{self.mute}/{self.prefix}', 5.0)
+        thread.join()
+        self.assertIn(self.mute, str(caught.exception))
+        return caught.exception
 
     def say(self, said: bytes) -> None:
         """Answers one request so."""

@@ -4,6 +4,7 @@ from __future__ import annotations
 
 import json
 import os
+import re
 import signal
 import sys
 import time
@@ -19,7 +20,7 @@ from places import ROOT
 from ..etcd_servers import (
     NUMBERS, OLDER, Server, WithCertificates, WithEtcd, add_users, alone, begin_alone, prune_in_part, put_older,
 )  # fmt: skip
-from ..processes import children, is_running
+from ..processes import below, children, is_running
 from ..steps import HEADER
 from ..waiting import wait_until
 from .away_laws import Away
@@ -32,6 +33,7 @@ TTL = 2  # seconds
 SLOW = 20.0  # seconds that a log of the test's own waits for answers
 NAMES: list[str] = TOP['names']
 PASSWORD = 'BULLY_ETCD_PASSWORD'
+SILENT = 'echo $$ > $FOLDER/new; mv $FOLDER/new $FOLDER/begun; exec sleep 1000'  # a worker that is told to stop, and doesn't answer
 # Tells when two work on one partition, or one by a token below the last one's; else each unit of work is a line in the
 # file of its partition.
 WORKER = [sys.executable, '-I', '-S', str(ROOT / 'tests' / 'members' / 'worker.py')]
@@ -132,6 +134,63 @@ class OverEtcd(WithEtcd, WithFolder):
         self.assertEqual(dict(log.snapshot(log.epochs()[-1], 0).holders), {})
 
 
+
+class LeasesTaken(WithEtcd, WithFolder):
+    """An operator of etcd takes the lease of a member away, which a premise forbids. Others may work from then on, so the
+    worker, which doesn't stop by itself, is killed long before its time is over."""
+
+    TTL = 40.0
+
+    def setUp(self) -> None:
+        WithEtcd.setUp(self)
+        WithFolder.setUp(self)
+        self.created(self.address, Opening.first(HEADER, NAMES), SLOW)
+
+    def begun(self, worker: str, *more: str) -> MemberProcess:
+        """A member whose worker works."""
+        words = ['--log', self.address, '--node', 'a', '--ttl', str(self.TTL), '--stop-seconds', '1000', *more]
+        member = MemberProcess(self.folder, words, ['sh', '-c', worker])
+        self.addCleanup(member.kill)
+        member.worker()
+        return member
+
+    def take(self, is_revoked: bool) -> None:
+        """etcd's lease is revoked, or the keys are deleted."""
+        root = f'{self.prefix}/lease/'
+        leases = {pair['lease'] for pair in self.server.keys(root).values()}
+        self.assertEqual(len(leases), 1)
+        if is_revoked:
+            self.server.ask('/v3/lease/revoke', {'ID': leases.pop()})
+        else:
+            self.server.delete(root, f'{self.prefix}/lease0')
+
+    def see_killed(self, member: MemberProcess, is_revoked: bool, least: float) -> None:
+        """It is taken away, and the worker is killed when `least` of the ttl is left until its time is over, or sooner."""
+        worker, begun = member.worker(), time.monotonic()
+        self.take(is_revoked)
+        wait_until(lambda: not is_running(worker))
+        self.assertLess(time.monotonic() - begun, (0.55 - least) * self.TTL)
+        wait_until(lambda: 'took its lease away' in member.said)
+
+    def test_at_once(self) -> None:
+        for is_revoked in (True, False):
+            for worker, more in ((f'trap "" TERM; {BEGINS}', ()), (SILENT, ('--talk',))):
+                with self.subTest(is_revoked=is_revoked, more=more):
+                    member = self.begun(worker, *more)
+                    self.see_killed(member, is_revoked, 0.3)
+                    (self.folder / 'begun').unlink()
+                    member.kill()
+                    self.server.delete(f'{self.prefix}/lease/', f'{self.prefix}/lease0')
+
+    def test_while_it_stops(self) -> None:
+        """Then a member of an eager group waits for nothing but its worker: its next renewal finds it."""
+        member = self.begun(f'trap "" TERM; {BEGINS}')
+        member.process.terminate()
+        wait_until(lambda: 'stops work' in member.said)
+        self.see_killed(member, True, 0.2)
+        member.wait()
+
+
 class Commands(OverEtcd):
     """`bully-member`, but for `run`."""
 
@@ -167,7 +226,7 @@ class Commands(OverEtcd):
         certificates = [word for name in ('cacert', 'cert', 'key') for word in (f'--{name}', str(self.folder / 'none'))]
         secure = self.address.replace('etcd:', 'etcds:')
         for words, status, why in (
-            (['etcd://x'], 2, 'must be'), (['etcd:x'], 2, 'must be'), (['etcd://127.0.0.1:1/log'], 2, '`log`'),
+            (['etcd://x'], 2, 'must be'), (['etcd:x'], 2, 'must be'),
             ([self.address, '--cacert', 'x'], 2, 'etcds://'),
             ([self.address, '--cert', 'x', '--key', 'y'], 2, 'etcds://'), ([secure, '--cert', 'x'], 2, '--key'),
             ([secure, *certificates], 4, 'none'), (['sqlite:x', '--user', 'x'], 2, '--user'),
@@ -197,11 +256,14 @@ class Commands(OverEtcd):
         self.assertNotIn('c d', repr(store))
 
     def test_below_keys(self) -> None:
-        """No log is made where another one may have its keys."""
-        for part in ('failing', 'lease', 'rows'):
-            address = f'{self.address}/{part}/x'
-            said = f'bully-member: --log is {address}, and no part of a new prefix may be `failing`, `lease` or `rows`\n'
-            self.assertEqual(call('init', '--config', self.config, '--log', address), (2, '', said))
+        """No log is made where another one may have its keys, of this form or an earlier one, whoever makes it."""
+        parts = 'failing, lease, log, opening, presence, rows, time'
+        for part in parts.split(', '):
+            address = f'{self.address}/{part}/session'
+            why = f'{address}, and no part of the prefix of a new log may be one of {parts}: they are keys of logs'
+            self.assertEqual(call('init', '--config', self.config, '--log', address), (2, '', f'bully-member: --log is {why}\n'))
+            with self.assertRaisesRegex(ValueError, re.escape(why)):
+                EtcdLog.create(address, Opening.first('bully,1,1,1'))
         self.assertEqual(self.server.keys(self.prefix), {})
 
     def test_an_older_form(self) -> None:
@@ -355,8 +417,8 @@ class Runs(OverEtcd):
     def worker_of(self, member: MemberProcess) -> int:
         """The worker below the member's watchdog, once there is one."""
         (watchdog,) = children(member.process.pid)
-        wait_until(lambda: children(watchdog))
-        return children(watchdog)[0]
+        wait_until(lambda: below(watchdog))
+        return below(watchdog)[0]
 
 
 class Certificates(OverEtcd, WithCertificates):

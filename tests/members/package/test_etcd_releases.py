@@ -23,6 +23,16 @@ class InEtcd(WithEtcd, WithFolder):
         WithFolder.setUp(self)
 
     def test_at_once(self) -> None:
+        self.see_released()
+
+    def test_a_working_directory_of_others(self) -> None:
+        """What lies there is never loaded, also not by the command, which has the member's password."""
+        loaded = self.planted()
+        self.see_released()
+        self.assertFalse(loaded.exists())
+
+    def see_released(self) -> None:
+        """The lease of a member that is killed is released."""
         config = self.folder / 'group.toml'
         config.write_bytes(toml({**TOP, 'nodes': 1, 'names': ['a']}))
         address = alone(self.prefix)

@@ -28,7 +28,7 @@ from bully.work_failures import ALL, AWAY_MAX, BACKOFF_MAX, Failures, Health
 from bully.worker import Workers
 from bully.worker_states import WorkerState
 from .. import waiting
-from ..processes import children, is_running
+from ..processes import below, children, is_running
 from ..steps import EMPTY, LONG, OPENING, A, B, C
 from ..waiting import PATIENCE
 from .below import assigned
@@ -504,7 +504,7 @@ class InProcesses(InFolder):
         members = [self.begin(node, ['sh', '-c', BEGINS]) for node in 'ab']
         wait_until(lambda: [len(self.partitions(member).split()) for member in members] == [6, 6])
         wait_until(lambda: self.status() == (0, []))
-        other, worker = (children(children(member.process.pid)[0])[0] for member in members)
+        other, worker = (below(children(member.process.pid)[0])[0] for member in members)
         begun, log, fails = seconds_of_boot(), self.opened(), members[1]
         wait_until(lambda: seconds_of_boot() > begun + 2.0)
         before, token = log.snapshot(1, 0), fails.environment()['BULLY_TOKEN']

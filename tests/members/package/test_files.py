@@ -9,6 +9,7 @@ import subprocess
 import sys
 import unittest
 from collections.abc import Callable
+from functools import partial
 from pathlib import Path
 from unittest import mock
 
@@ -17,6 +18,7 @@ from bully.clocks import SECOND, nanoseconds_of_boot
 from bully.core import Promise, Until
 from bully.encoding import packed
 from bully.epochs import Opening
+from bully.releasing import release_from_file
 from bully.repair import damage_of, repair
 from bully.shared_log import (
     DamagedLog, DiskFull, ForeignLog, Holder, LogBusy, LogError, LogExists, NoEpoch, NoLog, OtherLog, ReadOnlyLog,
@@ -346,6 +348,128 @@ except LogError as fault:
                 with self.subTest(ends=ends), self.assertRaisesRegex(OtherLog, 'its -wal or its -shm was removed'):
                     call()
 
+    def test_another_path(self) -> None:
+        """The path leads to the same file by a link, or the file has another name: others would have other files beside
+        it. A folder that is moved and linked has the same ones."""
+        log, folder = self.begun(), self.folder / 'elsewhere'
+        folder.mkdir()
+        other = folder / 'group.db'
+        os.link(self.path, other)
+        with self.assertRaisesRegex(OtherLog, 'it has another name, a hard link, so others would have another -wal'):
+            log.renew('a', A, LONG)
+        other.unlink()
+        self.assertTrue(log.renew('a', A, LONG))
+        self.path.rename(other)
+        self.path.symlink_to(other)
+        with self.assertRaisesRegex(OtherLog, 'its -wal or its -shm was removed'):
+            log.wait(1, 0, {'a': A}, Until.NEWS, PATIENCE)
+        self.path.unlink()
+        other.rename(self.path)
+        self.assertTrue(log.renew('a', A, LONG))
+        self.folder.rename(f'{self.folder}.moved')
+        self.folder.symlink_to(f'{self.folder}.moved')
+        self.assertTrue(log.renew('a', A, LONG))
+        self.folder.unlink()
+        Path(f'{self.folder}.moved').rename(self.folder)
+
+    def lose(self, do: Callable[[SqliteLog], bool]) -> str:
+        """A process acquires the lease of 'a' in a new log, does that, and dies. Then the -wal and the -shm are removed.
+        The log's name."""
+        created = self.created()
+        created.close()
+        process = os.fork()
+        if process == 0:
+            with contextlib.suppress(Exception):
+                log = SqliteLog(self.path)
+                os._exit(0 if log.acquire('a', A, EMPTY, LONG) and do(log) else 1)
+            os._exit(2)
+        self.assertEqual(os.waitpid(process, 0)[1], 0)
+        self.remove_beside()
+        return created.name
+
+    def remove_beside(self) -> None:
+        for end in ('-wal', '-shm'):
+            Path(f'{self.path}{end}').unlink()
+
+    def test_another_wal_while_it_opens(self) -> None:
+        """Others may replace the files beside it after SQLite has opened these: then there are two histories."""
+        self.begun()
+
+        def replaced(path: str) -> list[sqlite_file.Identity]:
+            for end in ('-wal', '-shm'):
+                there = Path(f'{self.path}{end}')
+                there.rename(f'{there}.before')
+                there.touch()
+            return sqlite_file.beside(path)
+
+        with mock.patch.object(sqlite, 'beside', replaced), self.assertRaisesRegex(OtherLog, 'others use another one'):
+            SqliteLog(self.path)
+
+    def test_a_lost_wal(self) -> None:
+        """Who comes then waits for a ttl from then on: processes that hold leases may still use what was lost. Then a
+        later epoch starts."""
+        self.lose(lambda log: log.acquire('b', B, EMPTY, SECOND) and log.promise('a', A, Promise(1, 1)))
+        log, clock = self.opened(), Clock()
+        clock.now = nanoseconds_of_boot()
+        calls: list[Callable[[], object]] = [
+            lambda: log.acquire('a', B, EMPTY, SECOND), lambda: log.snapshot(1, 0),
+            lambda: self.opened().acquire('c', B, EMPTY, SECOND),
+        ]  # fmt: skip
+        with mock.patch.object(sqlite, 'nanoseconds_of_boot', clock):
+            for later in (0, 2 * SECOND, LONG - 3 * SECOND):
+                clock.now += later
+                for call in calls:
+                    with self.assertRaisesRegex(LogBusy, 'its -wal was lost, and members that used it may still work'):
+                        call()
+            self.assertFalse(log.cut(EMPTY, 0, '', OPENING.next(None, ())), 'somebody may hold a lease')
+            clock.now += 2 * SECOND
+            self.assertFalse(log.acquire('c', B, EMPTY, SECOND))
+            self.assertEqual((log.opening().epoch, log.opening().bare), (2, OPENING.after(None)))
+            self.assertTrue(log.acquire('c', B, Promise(2, 0), SECOND))
+            self.assertEqual(list(live(log)), ['c'])
+
+    def test_a_lost_wal_and_releases(self) -> None:
+        """The watchdogs of the members that are gone release these leases. The first of them may be the first to use the
+        new -wal."""
+        for is_first in (False, True):
+            name = self.lose(lambda log: log.acquire('b', B, EMPTY, LONG))
+            log = None if is_first else self.opened()
+            release_from_file(str(self.path), name, 'a', encoding.session_text(A), 1.0)
+            log = log or self.opened()
+            with self.subTest(is_first=is_first), self.assertRaisesRegex(LogBusy, 'its -wal was lost'):
+                log.acquire('a', B, EMPTY, SECOND)
+            release_from_file(str(self.path), name, 'b', encoding.session_text(B), 1.0)
+            self.assertFalse(log.acquire('a', B, EMPTY, SECOND))
+            self.assertTrue(log.acquire('a', B, Promise(2, 0), SECOND))
+
+    def test_an_epoch_of_a_lost_wal(self) -> None:
+        """No epoch comes again in which somebody may have worked."""
+        self.lose(
+            lambda log: log.roll_over(1, 0, OPENING.after(None)) and log.promise('a', A, Promise(2, 0))
+            and log.append(2, 0, ['recover,1'])
+        )  # fmt: skip
+        log = self.opened()
+        release_from_file(str(self.path), log.name, 'a', encoding.session_text(A), 1.0)
+        self.assertFalse(log.acquire('b', B, Promise(2, 0), SECOND))
+        self.assertEqual(log.epochs()[-1], 3)
+
+    def test_a_wal_in_order(self) -> None:
+        """If all have left, nobody waits: the -wal isn't there then. If somebody died it stays."""
+        log = self.begun()
+        log.release('a', A)
+        log.close()
+        self.assertFalse(Path(f'{self.path}-wal').exists())
+        log = self.opened()
+        self.assertTrue(log.acquire('a', A, EMPTY, LONG))
+        log.close()
+        self.assertTrue(Path(f'{self.path}-wal').exists())
+        reader = SqliteLog(self.path, reads=True)
+        self.assertEqual(live(reader), {'a': Holder(A, EMPTY)})
+        reader.close()
+        log = self.opened()
+        self.assertTrue(log.acquire('b', B, EMPTY, LONG))
+        self.assertEqual((log.epochs()[-1], set(live(log))), (1, {'a', 'b'}))
+
     def test_beside_a_link(self) -> None:
         """The same by a symbolic link, which has nothing beside it; and who keeps the lock is reported."""
         self.begun().close()
@@ -431,9 +555,10 @@ except LogError as fault:
                 log = self.closing(SqliteLog.create(self.path, OPENING, mode))
                 self.assertTrue(log.acquire('a', A, EMPTY, LONG))
                 self.assertEqual(self.modes(), [wanted] * 3)
+                log.release('a', A)
                 log.close()
                 self.path.chmod(0o640)
-                self.assertTrue(self.opened().renew('a', A, LONG))
+                self.assertTrue(self.opened().acquire('a', A, EMPTY, LONG))
                 self.assertEqual(self.modes(), [0o640] * 3)
         self.assertEqual(sqlite_file.told_readers(str(self.path)), '')
         for end, mode in (('-shm', 0o644), ('', 0o602)):
@@ -499,7 +624,7 @@ except LogError as fault:
     def test_earlier_boot(self) -> None:
         """What was held before the machine booted isn't held any more, though its end hasn't come by the clock that
         began again."""
-        self.begun().close()
+        self.begun()
         clock = mock.patch.object(sqlite, 'nanoseconds_of_boot', Clock())
         clock.start()
         self.addCleanup(clock.stop)

@@ -2,6 +2,7 @@
 from __future__ import annotations
 
 import contextlib
+import html
 import io
 import json
 import os
@@ -137,17 +138,18 @@ class Pages(Paged):
         wait_until(lambda: threading.active_count() == threads)
 
     def test_slow_readers(self) -> None:
-        """Whoever asks, and doesn't take the answer, counts up to the end of its time: of more of them all are
-        closed."""
+        """Whoever asks, and doesn't take the answer, counts up to the end of its time: of so many of them more are
+        refused."""
         big = 200, 'text/plain', 'x' * 20_000_000
         threads = threading.active_count()
         with contextlib.ExitStack() as opened:
             with mock.patch.object(self.page, 'answer', lambda *asked: big), mock.patch.object(
                 page.PageHandler, 'timeout', PATIENCE
             ):
-                taken = [self.taken(opened.enter_context(self.client())) for _ in range(page.CONNECTIONS_MAX + 20)]
-                self.assertEqual([bool(part) for part in taken], [True] * page.CONNECTIONS_MAX + [False] * 20)
-                self.assertEqual(threading.active_count(), threads + page.CONNECTIONS_MAX)
+                taken = [self.taken(opened.enter_context(self.client())) for _ in range(page.SHOWING_MAX + 20)]
+                statuses = [part.split()[1] for part in taken]
+                self.assertEqual(statuses, [b'200'] * page.SHOWING_MAX + [b'503'] * 20)
+                wait_until(lambda: threading.active_count() == threads + page.SHOWING_MAX)
         wait_until(lambda: threading.active_count() == threads)
         self.assertEqual(self.get('/healthz')[0], 503)
 
@@ -268,7 +270,12 @@ class Pages(Paged):
         self.assertRegex(self.get('/')[2], 'nodes live; its worker has not stopped for 1[0-9][.][0-9] s<')
         told = dict(line.rsplit(' ', 1) for line in self.get('/metrics')[2].splitlines() if not line.startswith('#'))
         self.assertGreaterEqual(float(told[f'bully_stopping_seconds{page.labels(self.NAMES[1])}']), 10.0)
-        state.survivors, state.stop_begun = [], None
+        state.survivors, state.stop_begun, state.is_there = [], None, True
+        for message, count in ((b'lost all 0', 0), (b'lost all 0 1000', 1)):  # one that didn't start wasn't killed
+            self.workers._hear(message)
+            state.is_there = True
+            self.assertIn(f'bully_work_killed_total{page.labels(self.NAMES[1])} {count}\n', self.get('/metrics')[2])
+        state.is_there = False
 
     def test_an_epoch_that_is_not_told(self) -> None:
         """Where the log doesn't answer with what the next epoch began with, the page goes on once it does."""
@@ -304,6 +311,42 @@ class Pages(Paged):
         self.assertNotIn('<script>alert', text)
         self.assertIn('&lt;script&gt;alert(1)&lt;/script&gt;', text)
         self.assertNotRegex(text, r'(src|href)=')
+
+    def test_a_dead_node_in_a_pause(self) -> None:
+        """The log has it as normal still, and it isn't live: it isn't shown as well, nor as if it worked."""
+        self.begin()
+        self.assertIn('<span class="dot normal"></span>normal<td>yes', self.get('/')[2])
+        self.assertTrue(self.log.set_maintenance(Maintenance(frozenset(), {}), None))
+        with mock.patch.object(self.log, 'snapshot', lambda *asked: Troubled.snapshot(self.log, *asked)._replace(holders={})):
+            wait_until(lambda: json.loads(self.get('/group')[2])['nodes'][1]['live'] is False)
+            shown = self.get('/')[2]
+        self.assertIn('<span class="dot down"></span>not live, normal before<td>no<td>', shown)
+        self.assertIn('<td>0 1 2 3 4 5 (nobody works on these)</tr>', shown)
+        self.assertNotIn('class="dot normal"', shown)
+
+    def test_last_events(self) -> None:
+        """Each is told in words, with the name of its node and the time of its append."""
+        put(self.log, 'recover,1', 'crash,1')
+        with mock.patch('bully.memory.wall_clock', lambda: 1_000_000_000_123):
+            self.begin()
+        last = json.loads(self.get('/group')[2])['last']
+        self.assertEqual([row['row'] for row in last[:2]], [2, 3])
+        self.assertEqual({row['time'] for row in last[2:]}, {'2001-09-09T01:46:40.123Z'})
+        self.assertGreater(min(row['time'] for row in last[:2]), '2020')
+        shown, second = self.get('/')[2], html.escape(self.NAMES[1])
+        self.assertIn(f'<td class="small">2001-09-09T01:46:40.123Z<td><b>{second}</b> is up<td>', shown)
+        self.assertIn(f'<b>{second}</b> plans how many partitions each node owns: {second} 6<td>', shown)
+        self.assertIn(f'<b>{html.escape(self.NAMES[0])}</b> counts as down<td>', shown)
+
+    def test_odd_names(self) -> None:
+        """Marks of direction, and signs that can't be printed, are no part of the page."""
+        odd = 'a\u202eb\u2066c\x07d\u200f'
+        with mock.patch.object(self, 'NAMES', (odd, 'b', 'c')):
+            self.make(2.0)
+        put(self.log, 'recover,1')
+        shown = self.get('/')[2]
+        self.assertIn('<td>a?b?c?d?<td>', shown)
+        self.assertFalse(set('\u202e\u2066\x07\u200f') & set(shown))
 
     def test_metrics(self) -> None:
         """Each line is one of Prometheus's text format."""

@@ -1,6 +1,7 @@
 """Tests of what a member answers to probes and balancers: whether it goes on, is ready, leads, and may work."""
 from __future__ import annotations
 
+import contextlib
 import http.client
 import threading
 from typing import NamedTuple
@@ -15,7 +16,7 @@ from bully.worker import Workers
 from ..steps import HEADER
 from ..waiting import PATIENCE, wait_until
 from .paged import Paged
-from .threads import Troubled
+from .threads import Troubled, put
 
 NAMES = ('a', 'b', 'c')
 PROBES = ('/livez', '/readyz', '/healthz', '/leader', '/partitions/0')
@@ -119,6 +120,59 @@ class Probes(Paged):
             answer = self.answered('OPTIONS', target)
             self.assertEqual((answer.status, answer.text, answer.headers['Allow']), (status, b'', 'GET, HEAD, OPTIONS'))
             self.assertEqual('Content-Length' in answer.headers, status != 204)
+
+    def test_stopping(self) -> None:
+        """While work has to end, and hasn't, that is said, and nobody may work on it."""
+        stops, may_stop = threading.Event(), threading.Event()
+
+        def stop(_: object) -> None:
+            stops.set()
+            may_stop.wait()
+
+        self.make(20.0, start=lambda work: None, stop=stop)
+        self.begin()
+        self.addCleanup(may_stop.set)  # first of all
+        self.assertEqual((self.get('/healthz')[2], self.status('/partitions/0')), ('live\n', 200))
+        self.member.leave()
+        stops.wait()
+        self.assertEqual(self.get('/healthz')[::2], (200, 'stopping work; live\n'))
+        self.assertEqual(self.get('/partitions/0')[::2], (503, 'stopping: work on it has to end, and has not\n'))
+
+    def test_among_polls_and_halves_of_requests(self) -> None:
+        """While all polls wait that may, and clients have asked whose bodies never come, each probe is answered."""
+        self.make(20.0)
+        statuses: list[int] = []
+        polls = [threading.Thread(target=lambda: statuses.append(self.status('/group?after=0'))) for _ in range(page.POLLS_MAX)]
+        for poll in polls:
+            poll.start()
+        wait_until(lambda: vars(self.page._answers)['_polls']._value == 0)
+        answered = 0
+        with contextlib.ExitStack() as opened:
+            for number in range(100):
+                opened.enter_context(self.client()).sendall(b'GET /livez HTTP/1.1\r\nHost: localhost\r\nContent-Length: 9\r\n\r\n')
+                with contextlib.suppress(OSError, http.client.HTTPException):
+                    answered += self.status(PROBES[number % len(PROBES)]) in (200, 503)
+        self.assertEqual((answered, statuses), (100, []))
+        put(self.log, 'recover,1')
+        for poll in polls:
+            poll.join()
+        self.assertEqual(statuses, [200] * page.POLLS_MAX)
+
+    def test_among_slow_readers(self) -> None:
+        """Some connections are kept for probes: of others not so many are answered at once."""
+        target, big = '/group', (200, 'text/plain', 'x' * 20_000_000)
+        with contextlib.ExitStack() as opened:
+            with mock.patch.object(self.page, '_answered', lambda told: big if told.path == target else (200, 'text/plain', 'x')):
+                for number in range(2 * page.CONNECTIONS_MAX):
+                    with contextlib.suppress(OSError):  # it was closed
+                        opened.enter_context(self.client()).sendall(b'GET /group HTTP/1.1\r\nHost: localhost\r\n\r\n')
+                    wait_until(lambda: self.readers() > min(number, page.SHOWING_MAX - 1))
+                self.assertEqual([self.status(PROBES[0]) for _ in range(100)], [200] * 100)
+                self.assertEqual(self.status('/group'), 503)
+
+    def readers(self) -> int:
+        """How many connections wait for more than a status."""
+        return list(self.page._server._open.values()).count(page.Asked.OTHER)
 
     def test_other_methods(self) -> None:
         """They are refused with what may be asked, also if much of the request isn't read."""

@@ -13,6 +13,7 @@ import sys
 import time
 import urllib.error
 import urllib.request
+from collections.abc import Sequence
 from pathlib import Path
 from typing import BinaryIO
 from unittest import mock
@@ -30,6 +31,20 @@ from .member_processes import BEGINS, STARTS, TALKS, MemberProcess, WithMember, 
 from .unlisted import unlisted_from
 
 UNTIL = 'select max(until) from leases'
+# A command that can start no more than so many threads.
+FEW_THREADS = """
+import sys, threading
+from bully import command
+left, start = int(sys.argv[1]), threading.Thread.start
+def start_one(thread):
+    global left
+    left -= 1
+    if left < 0:
+        raise RuntimeError("can't start new thread")
+    start(thread)
+threading.Thread.start = start_one
+sys.exit(command.main(sys.argv[2:]))
+"""
 
 
 class Processes(WithMember):
@@ -117,6 +132,25 @@ class Processes(WithMember):
         member.worker()
         self.assertEqual(member.end(), 0)
 
+    def test_a_truncated_file(self) -> None:
+        """A process that uses a `-shm` which is truncated ends by a bus error. Its watchdog says so, and ends the worker;
+        and another process can begin."""
+        for more in ((), ('--each',)):
+            self.path.unlink(missing_ok=True)
+            (self.folder / 'begun').unlink(missing_ok=True)
+            member = self.begin(BEGINS, None, *more)
+            worker = member.worker()
+            os.truncate(f'{self.path}-shm', 0)
+            self.assertEqual(member.wait(), -signal.SIGBUS)
+            wait_until(lambda: not is_running(worker))
+            told = f'bully: process {member.process.pid} ended by a bus error, as if {self.path}-shm was truncated\n'
+            wait_until(lambda: told in member.said)
+            (self.folder / 'begun').unlink()
+            member.begin_again()
+            wait_until(lambda: 'starts work' in member.said)  # the file may be of a worker of before that began late
+            self.assertEqual(member.end(), 0)
+            self.assertNotIn('bus error', member.said)
+
     def test_a_stopped_writer(self) -> None:
         """While one is stopped in the middle of a write no other renews. It is killed before the work of the others is
         over."""
@@ -188,6 +222,73 @@ os.kill(os.getpid(), signal.SIGSTOP)
         wait_until(lambda: begins.exists() and begins.read_text().count('begun') > 1)
         self.assertEqual(member.end(), 0)
 
+    def worded(self, *worker: str) -> list[str]:
+        """The words of the member that was begun, with those of another worker."""
+        return [*self.words[: self.words.index('--') + 1], *worker]
+
+    def begin_as(self, words: Sequence[str], said: BinaryIO | None = None, /, **more: str) -> subprocess.Popen[bytes]:
+        """A member by these words."""
+        (self.folder / 'begun').unlink(missing_ok=True)
+        member = started(self.folder, words, said, **more)
+        self.addCleanup(member.wait, PATIENCE)
+        self.addCleanup(member.kill)
+        return member
+
+    def test_nobody_reads_why_no_worker_starts(self) -> None:
+        """A program that is not there is a failure all the same."""
+        for more in ((), ('--each',)):
+            with self.subTest(more=more):
+                self.path.unlink(missing_ok=True)
+                self.begin(BEGINS, None, *more).kill()
+                member, log = self.begin_as(self.worded('/nowhere/worker'), self.full()), self.opened()
+                wait_until(lambda: 'the only' in log.snapshot(1, 0).failing)
+                member.terminate()
+                self.assertEqual(member.wait(PATIENCE), 0)
+
+    def test_signals_that_are_ignored(self) -> None:
+        """Whoever starts it may ignore the ends of children: a worker that fails has failed all the same."""
+        for more in ((), ('--each',)):
+            with self.subTest(more=more):
+                self.path.unlink(missing_ok=True)
+                self.begin(BEGINS, None, *more).kill()
+                member = self.begin_as(['env', '--ignore-signal=CHLD', *self.worded('sh', '-c', 'exit 7')])
+                wait_until(lambda: (self.folder / 'said').read_text().count('failed, with status 7') > 1)
+                ignored = int(Path(f'/proc/{member.pid}/status').read_text().partition('SigIgn:')[2].split()[0], 16)
+                self.assertEqual(ignored >> signal.SIGCHLD - 1 & 1, 0)
+                member.terminate()
+                self.assertEqual(member.wait(PATIENCE), 0)
+                self.assertNotIn('Traceback', (self.folder / 'said').read_text())
+
+    def test_variables_of_another_member(self) -> None:
+        """A worker has those of its own member, and none of another one whose worker that is."""
+        names = 'NODE', 'TOKEN', 'PARTITIONS', 'PARTITION', 'COORDINATOR', 'SETTINGS', 'SETTINGS_FILE', 'ANSWERS'
+        others = {f'BULLY_{name}': 'of another' for name in names}
+        kinds = {
+            (): {'NODE', 'TOKEN', 'PARTITIONS', 'COORDINATOR', 'SETTINGS', 'SETTINGS_FILE'}, ('--talk',): {'NODE', 'ANSWERS'},
+        }  # fmt: skip
+        for more, has in kinds.items():
+            with self.subTest(more=more):
+                self.path.unlink(missing_ok=True)
+                self.begin(BEGINS, None, *more).kill()
+                self.begin_as(self.words, None, BULLY_LOG='sqlite:/its own', **others)
+                wait_until((self.folder / 'begun').exists)
+                lines = (self.folder / 'env').read_text().splitlines()
+                told = dict(line.split('=', 1) for line in lines if line.startswith('BULLY_'))
+                self.assertEqual({name for name in names if f'BULLY_{name}' in told}, has)
+                self.assertNotIn('of another', told.values())
+                self.assertEqual(told['BULLY_LOG'], 'sqlite:/its own')
+
+    def test_no_more_threads(self) -> None:
+        """That may pass: it says so, and can be started again."""
+        self.begin(BEGINS).kill()
+        for count in range(4):
+            with self.subTest(threads=count):
+                words = [sys.executable, '-c', FEW_THREADS, str(count), *self.words[self.words.index('run') :]]
+                ran = subprocess.run(words, env=environment(), stderr=subprocess.PIPE, text=True, timeout=PATIENCE)
+                self.assertEqual(ran.returncode, 4, ran.stderr)
+                self.assertIn('bully-member: no thread can be started now', ran.stderr)
+                self.assertNotIn('Traceback', ran.stderr)
+
     def test_quiet(self) -> None:
         member = self.begin('exit 5', None, '--quiet')
         wait_until(lambda: member.said)
@@ -214,6 +315,17 @@ os.kill(os.getpid(), signal.SIGSTOP)
         last = [json.loads(line) for line in member.said.splitlines()][-1]
         self.assertEqual((last['level'], last['message']), ('error', 'the worker ended by itself, with status 0'))
 
+    def test_what_its_watchdog_says_for_programs(self) -> None:
+        """So is what the watchdog says, for example of a worker that isn't there."""
+        self.begin('exit 0', None, '--log-format', 'json').wait()
+        words = self.words[self.words.index('run') + 1 : self.words.index('--')]
+        member = MemberProcess(self.folder, words, ['/no/such/worker'])
+        self.addCleanup(member.kill)
+        wait_until(lambda: 'No such file' in member.said)
+        self.assertEqual(member.end(), 0)
+        told = [json.loads(line) for line in member.said.splitlines()]
+        self.assertIn(('error', '/no/such/worker: No such file or directory'), [(each['level'], each['message']) for each in told])
+
     def test_a_late_renewal(self) -> None:
         """A worker that its watchdog has killed, because it heard of renewals too late, is begun again."""
         member = self.begin(BEGINS)
@@ -234,6 +346,8 @@ os.kill(os.getpid(), signal.SIGSTOP)
         member = self.begin('echo begun >> $FOLDER/begins; exit 0')
         self.assertEqual(member.wait(), 1)
         self.assertIn('bully-member: the worker ended by itself, with status 0\n', member.said)
+        self.assertIn('node the only: it has left, because the worker ended by itself, with status 0\n', member.said)
+        self.assertNotIn('told to leave', member.said)
         self.assertEqual((self.left(), (self.folder / 'begins').read_text()), (('crash,1', {}), 'begun\n'))
 
     def test_the_worker_fails(self) -> None:
@@ -412,32 +526,57 @@ os.kill(os.getpid(), signal.SIGSTOP)
         member.kill()
         self.assertFalse(is_running(worker))
 
-    def kill_both(self, member: int, watchdog: int) -> None:
-        """Both at one moment: neither does anything after the end of the other. A stopped watchdog goes on if its
-        member ends, so it is killed first."""
-        for process in (member, watchdog):
+    def kill_at_once(self, *processes: int) -> None:
+        """At one moment: none does anything after the end of another one. A stopped one below another goes on if that
+        ends, so the lowest is killed first."""
+        for process in processes:
             os.kill(process, signal.SIGSTOP)
-        wait_until(lambda: has_stopped(member) and has_stopped(watchdog))
-        for process in (watchdog, member):
+        wait_until(lambda: all(map(has_stopped, processes)))
+        for process in reversed(processes):
             os.kill(process, signal.SIGKILL)
 
     def test_killed_with_its_watchdog(self) -> None:
+        """The keeper ends the worker with what that began, and then releases the lease."""
+        member = self.begin(STARTS, None, '--ttl', '100')
+        worker = member.worker()
+        keeper, child = parent_of(worker), int((self.folder / 'child').read_text())
+        self.addCleanup(ender(child))
+        self.kill_at_once(member.process.pid, parent_of(keeper))
+        self.assertEqual(member.wait(), -signal.SIGKILL)
+        wait_until(lambda: not any(map(is_running, (worker, child, keeper))))
+        self.assertEqual(self.opened().snapshot(1, 0).holders, {})
+
+    def test_its_watchdog_is_killed_while_it_is_stopped(self) -> None:
+        """The keeper ends the worker with what that began, and the lease stays."""
+        member = self.begin(STARTS, None, '--ttl', '100', '--stop-seconds', '0.1')
+        worker = member.worker()
+        keeper, child = parent_of(worker), int((self.folder / 'child').read_text())
+        self.addCleanup(ender(child))
+        member.process.send_signal(signal.SIGSTOP)
+        os.kill(parent_of(keeper), signal.SIGKILL)
+        wait_until(lambda: not any(map(is_running, (worker, child, keeper))))
+        self.assertEqual(list(self.opened().snapshot(1, 0).holders), ['the only'])
+        member.process.send_signal(signal.SIGCONT)
+        self.assertEqual(member.wait(), 1)
+        self.assertIn('the watchdog of the worker died', member.said)
+
+    def test_killed_with_all_guards(self) -> None:
         """The worker dies, and what that began lives, as nobody knows of it. Another member begins all the same."""
         member = self.begin(STARTS)
         worker = member.worker()
-        watchdog, child = parent_of(worker), int((self.folder / 'child').read_text())
+        keeper, child = parent_of(worker), int((self.folder / 'child').read_text())
         self.addCleanup(ender(child))
-        self.kill_both(member.process.pid, watchdog)
+        self.kill_at_once(member.process.pid, parent_of(keeper), keeper)
         wait_until(lambda: not is_running(worker))
         self.assertEqual(member.wait(), -signal.SIGKILL)
-        self.assertEqual((is_running(watchdog), is_running(child)), (False, True))
+        self.assertEqual((is_running(keeper), is_running(child)), (False, True))
         (self.folder / 'begun').unlink()
         member.begin_again()
         self.assertNotEqual(member.worker(), worker)
         self.assertEqual(member.end(), 0)
         self.assertTrue(is_running(child))
 
-    def test_killed_with_its_watchdog_as_another_user(self) -> None:
+    def test_killed_with_all_guards_as_another_user(self) -> None:
         """A worker that has become another user doesn't die then: Linux forgets what it was to die of."""
         if os.getuid() != 0:
             self.skipTest('only root becomes another user')
@@ -445,7 +584,8 @@ os.kill(os.getpid(), signal.SIGSTOP)
         worker = member.worker()
         self.addCleanup(ender(worker))
         wait_until(lambda: os.stat(f'/proc/{worker}').st_uid == 65534)
-        self.kill_both(member.process.pid, parent_of(worker))
+        keeper = parent_of(worker)
+        self.kill_at_once(member.process.pid, parent_of(keeper), keeper)
         self.assertEqual(member.wait(), -signal.SIGKILL)
         (self.folder / 'begun').unlink()
         member.begin_again()
@@ -453,7 +593,7 @@ os.kill(os.getpid(), signal.SIGSTOP)
         self.assertTrue(is_running(worker))
         self.assertEqual(member.end(), 0)
 
-    def test_killed_with_its_watchdog_in_a_container(self) -> None:
+    def test_killed_with_all_guards_in_a_container(self) -> None:
         """There what the worker began ends, too: the first process of a container, which waits for the member, is its
         end."""
         if os.getuid() != 0:
@@ -467,27 +607,28 @@ os.kill(os.getpid(), signal.SIGSTOP)
         self.addCleanup(container.kill)
         wait_until((self.folder / 'begun').exists)
         line = [container.pid]
-        for _ in range(5):  # the first process, the member, its watchdog, the worker, and what that began
+        for _ in range(6):  # the first process, the member, its watchdog, its keeper, the worker, and what that began
             wait_until(lambda: len(children(line[-1])) == 1)  # what told that the worker has begun may be there still
             line += children(line[-1])
-        _, first, member, watchdog, worker, child = line
-        self.kill_both(member, watchdog)
+        _, first, member, watchdog, keeper, worker, child = line
+        self.kill_at_once(member, watchdog, keeper)
         wait_until(lambda: not any(map(is_running, (first, worker, child))))
         self.assertEqual(container.wait(PATIENCE), 7)
 
     def test_killed_while_its_watchdog_is_stopped(self) -> None:
-        """The watchdog goes on at its member's end, and ends the worker, also if nobody continues it."""
+        """The watchdog and the keeper go on at the member's end, and end the worker, also if nobody continues them."""
         member = self.begin(STARTS)
         worker = member.worker()
-        watchdog, child = parent_of(worker), int((self.folder / 'child').read_text())
-        for process in (child, worker):
+        keeper, child = parent_of(worker), int((self.folder / 'child').read_text())
+        watchdog = parent_of(keeper)
+        for process in (child, worker, keeper, watchdog):
             self.addCleanup(ender(process))
-        self.addCleanup(ender(watchdog))
-        os.kill(watchdog, signal.SIGSTOP)
-        wait_until(lambda: has_stopped(watchdog))
+        for process in (watchdog, keeper):
+            os.kill(process, signal.SIGSTOP)
+            wait_until(lambda: has_stopped(process))
         member.process.kill()
         self.assertEqual(member.wait(), -signal.SIGKILL)
-        wait_until(lambda: not any(map(is_running, (watchdog, worker, child))))
+        wait_until(lambda: not any(map(is_running, (watchdog, keeper, worker, child))))
 
     def test_children_that_the_kernel_does_not_list(self) -> None:
         """Nothing could end all that a worker begins: so its member says so at once, and takes no part."""
@@ -501,7 +642,8 @@ os.kill(os.getpid(), signal.SIGSTOP)
         self.assertEqual(self.opened().snapshot(1, 0).holders, {})
 
     def test_stopped(self) -> None:
-        """The worker is killed while its member is stopped, and another one begins once that goes on."""
+        """The worker is killed while its member is stopped, and another one begins once that goes on, which says and
+        counts that."""
         member = self.begin(BEGINS)
         worker = member.worker()
         member.process.send_signal(signal.SIGSTOP)
@@ -509,18 +651,21 @@ os.kill(os.getpid(), signal.SIGSTOP)
         (self.folder / 'begun').unlink()
         member.process.send_signal(signal.SIGCONT)
         self.assertNotEqual(member.worker(), worker)
+        said = [line for line in member.said.splitlines() if 'watchdog' in line]
+        self.assertEqual(len(said), 1, member.said)
+        self.assertRegex(said[0], 'the watchdog killed the worker [0-9.]+ s ago, because the lease was not sure any more')
         self.assertEqual(member.end(), 0)
 
     def test_processes(self) -> None:
-        """The member, its watchdog and its worker are all, and the watchdog stays."""
+        """The member, its watchdog, the keeper and its worker are all, and no guard stays."""
         member = self.begin(BEGINS)
         worker = member.worker()
-        watchdog = parent_of(worker)
-        self.assertEqual(
-            (children(member.process.pid), children(watchdog), parent_of(watchdog)), ([watchdog], [worker], member.process.pid)
-        )
+        keeper = parent_of(worker)
+        watchdog = parent_of(keeper)
+        line = [member.process.pid, watchdog, keeper, worker]
+        self.assertEqual([children(each) for each in line[:3]], [[each] for each in line[1:]])
         self.assertEqual(member.end(), 0)
-        self.assertFalse(is_running(watchdog))
+        self.assertFalse(is_running(watchdog) or is_running(keeper))
 
     def test_talks(self) -> None:
         """A worker stays over a change of the group, and hears of it."""

@@ -2,6 +2,7 @@
 from __future__ import annotations
 
 import contextlib
+import dataclasses
 import json
 import os
 import signal
@@ -18,7 +19,7 @@ from bully.core import Session
 from bully.releasing import release_from_file, told_command, told_file
 from bully.sqlite import SqliteLog
 from bully.worker import Workers
-from places import ROOT, environment
+from places import PYTHON, ROOT, environment
 from ..processes import children, freeze, has_stopped, is_running, parent_of, thaw
 from ..steps import EMPTY, LONG, OPENING, A, B
 from ..waiting import PATIENCE, wait_until
@@ -59,6 +60,13 @@ class ByTheWatchdog(WithMember):
         wait_until(lambda: not is_running(watchdog))
         with contextlib.closing(SqliteLog(self.path)) as log:
             self.assertEqual(log.snapshot(1, 0).holders, {})
+
+    def test_a_working_directory_of_others(self) -> None:
+        """Neither the member nor its watchdog loads what lies there."""
+        loaded = self.planted()
+        self.killed(STARTS)
+        wait_until(lambda: not self.sessions())
+        self.assertFalse(loaded.exists())
 
     def test_another_node_takes_over(self) -> None:
         """It sees that at once, and so does a process that comes for the same node."""
@@ -171,18 +179,18 @@ class ByTheWatchdog(WithMember):
         self.assertEqual(len(self.sessions()), 1)
 
     def test_session_file(self) -> None:
-        """It has the session before that holds the lease, for its user alone, and is there until the member has left in
-        order."""
+        """It has the session before that holds the lease, for its user alone, until the member has left in order: then it
+        is empty."""
         notes = self.folder / 'session'
         member = self.begin(BEGINS, None, '--ttl', TTL, '--session-file', str(notes))
         member.worker()
         self.assertEqual([notes.read_text()], [f'{session}\n' for session in self.sessions()])
         self.assertEqual(notes.stat().st_mode & 0o7777, 0o600)
-        self.assertEqual((member.end(), notes.exists()), (0, False))
+        self.assertEqual((member.end(), notes.read_text()), (0, ''))
         member.begin_again()
-        wait_until(notes.exists)
+        wait_until(notes.read_text)
         member.kill()
-        self.assertTrue(notes.exists())
+        self.assertRegex(notes.read_text(), r'^\d+\.1\n$')
         self.assertEqual([each.name for each in self.folder.iterdir() if each.name.startswith('session')], ['session'])
 
 
@@ -292,9 +300,9 @@ class Alone(InFolder):
             self.assertEqual(log.snapshot(1, 0).holders, {})
 
     def test_a_command(self) -> None:
-        """It has more in its environment, which nobody else sees, and finds the package."""
+        """It has more in its environment, which nobody else sees."""
         told = 'sys.argv[1:], os.environ["SECRET"], os.environ["FIRST"]'
-        says = f'import os, sys, bully; print({told}, file=sys.stderr); print("and more")'
+        says = f'import os, sys; print({told}, file=sys.stderr); print("and more")'
         ran = self.released(told_command([sys.executable, '-c', says, 'x'], {'SECRET': 'password'}))
         self.assertEqual((ran.stderr, ran.stdout, ran.returncode), ("['x'] password 1\n", '', 0))
 
@@ -309,7 +317,7 @@ class Command(InFolder):
 
     def setUp(self) -> None:
         super().setUp()
-        self.log = self.closing(SqliteLog.create(self.path, OPENING))
+        self.log = self.closing(SqliteLog.create(self.path, dataclasses.replace(OPENING, names=('a', 'b', 'c'))))
         self.assertTrue(self.log.acquire('a', A, EMPTY, LONG))
         self.file = self.folder / 'session'
 
@@ -328,7 +336,11 @@ class Command(InFolder):
             self.assertEqual(self.holders(), [])
 
     def test_files(self) -> None:
-        self.assertEqual(self.release('--session-file', str(self.file)), (0, 'a has held no lease\n', ''))
+        missing = f'bully-member: {self.file}: No such file or directory\n'
+        self.assertEqual(self.release('--session-file', str(self.file)), (4, '', missing))
+        sessions.write_session(str(self.file), None)
+        told = f'nothing to release: by {self.file} a has left in order, or holds no lease yet\n'
+        self.assertEqual(self.release('--session-file', str(self.file)), (0, told, ''))
         self.file.write_text('nothing\n')
         self.assertEqual(self.release('--session-file', str(self.file))[0], 2)
         self.assertEqual(self.release('--session-file', str(self.folder))[0], 4)
@@ -340,8 +352,14 @@ class Command(InFolder):
     def test_words(self) -> None:
         for words in ((), ('--session', '1'), ('--session', 'x.y'), ('--session', '1.1', '--session-file', 'x')):
             self.assertEqual(self.release(*words)[0], 2, words)
-        gone = call('release', '--log', f'sqlite:{self.folder}/none.db', '--node', 'a', '--session', '1.1')
-        self.assertEqual(gone[0], 4)
+        sessions.write_session(str(self.file), None)
+        for session in (('--session', '1.1'), ('--session-file', str(self.file))):
+            gone = call('release', '--log', f'sqlite:{self.folder}/none.db', '--node', 'a', *session)
+            self.assertEqual((gone[0], gone[1]), (4, ''))
+            self.assertIn('none.db', gone[2])
+            mistyped = call('release', '--log', f'sqlite:{self.path}', '--node', 'A', *session)
+            self.assertEqual((mistyped[0], mistyped[1]), (5, ''))
+            self.assertIn('the group has no node A in epoch 1', mistyped[2])
 
     def test_alone(self) -> None:
         """With --alone nothing is released while another process is in the control group, or if that isn't seen."""
@@ -428,7 +446,8 @@ class Commands(unittest.TestCase):
         assert told is not None
         what = json.loads(told(Session(1, 2)))
         words = ['release', '--log=etcds://h:1/x', '--node=-a', '--cacert=ca', '--user=u', '--session', '1.2']
-        self.assertEqual((what['command'][1:3], what['command'][3:]), (['-m', 'bully_member'], words))
+        python = [sys.executable, '-I', '-S', '-c', sessions.COMMAND, str(PYTHON)]
+        self.assertEqual((what['command'][: len(python)], what['command'][len(python) :]), (python, words))
         self.assertEqual(command.parser().parse_args(words).node, '-a')
         self.assertEqual(what['more'], {'BULLY_ETCD_PASSWORD': 'secret'})
         options.password_file = 'file'

@@ -81,12 +81,14 @@ class Running(Threads):
             self.assertLessEqual(until, begun + 1.6)
 
     def test_alone_leaves(self) -> None:
-        """The last one appends its own crash."""
+        """The last one appends its own crash. It doesn't say that somebody took away the lease that it releases."""
         log = MemoryLog(OPENING)
-        member, told, thread = self.begin(log, 1)
-        wait_until(member.assignment)
-        member.leave()
-        thread.join()
+        with self.assertLogs('bully', 'INFO') as said:
+            member, told, thread = self.begin(log, 1)
+            wait_until(member.assignment)
+            member.leave()
+            thread.join()
+        self.assertNotIn('took its lease', ' '.join(said.output))
         self.assertEqual((log.rows[-1], log.holders), ('crash,1', {}))
         self.assertEqual(told, [f'start {self.token_of(log)}', f'stop {self.token_of(log)}'])
 

@@ -11,7 +11,8 @@ import unittest
 from collections.abc import Callable, Iterator
 from unittest import mock
 
-from bully import messages, systemd
+from bully import messages, systemd, working
+from bully.epochs import Token
 from bully.member import Assignment, Member
 from bully.memory import MemoryLog
 from bully.shared_log import Snapshot
@@ -78,6 +79,19 @@ class Said(unittest.TestCase):
         strange = {'levelname': 'WARNING', 'msg': 'node %s: %s', 'args': ('a\x1b[2J\nb', '/c\u202ed: busy')}
         said = messages.Lines().format(logging.makeLogRecord(strange))
         self.assertRegex(said, r' bully-member: node a\?\[2J\?b: /c\?d: busy$')
+
+
+    def test_work(self) -> None:
+        """On what work starts and stops; and that it goes on if no partition is new."""
+        with self.assertLogs('bully', 'INFO') as said:
+            working.log_work('b', 'starts', frozenset({5, 0}), Token.of(1, 20))
+            working.log_work('b', 'starts', frozenset(), Token.of(1, 31))
+            working.log_work('b', 'stops', frozenset({5}), None)
+        wanted = [
+            'starts work on partitions 0, 5 by token 10000020', 'continues with the same partitions by token 10000031',
+            'stops work on partitions 5',
+        ]  # fmt: skip
+        self.assertEqual([record.getMessage() for record in said.records], [f'node b: {each}' for each in wanted])
 
 
 class Blocked(MemoryLog):

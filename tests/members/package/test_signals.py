@@ -5,6 +5,7 @@ import os
 import signal
 import socket
 import subprocess
+import sys
 import time
 from collections.abc import Callable, Sequence
 from types import SimpleNamespace
@@ -13,6 +14,7 @@ from typing import Any
 from bully.processes import ENDS
 from bully.pruning import Pruning
 from bully.systemd import Service
+from places import environment
 from ..processes import children, has_loaded, is_running, name_of, parent_of, waits_for
 from ..waiting import PATIENCE, wait_until
 from .member_processes import BEGINS, WithMember, started
@@ -56,6 +58,28 @@ class Signals(WithMember):
         member.terminate()
         self.assertEqual(member.wait(PATIENCE), 0)
         self.assertNotIn('SIGHUP', (self.folder / 'said').read_text())
+
+    def test_a_storm(self) -> None:
+        """It leaves in order, with status 0, however many signals come up to its end."""
+        member = self.begin(BEGINS)
+        for count in range(3):
+            if count:
+                member.begin_again()
+            member.worker()
+            (self.folder / 'begun').unlink()
+            while member.process.poll() is None:
+                for number in ENDS:
+                    member.process.send_signal(number)
+            self.assertEqual(member.process.returncode, 0, member.said)
+            self.assertEqual(self.left(), ('crash,1', {}))
+
+    def test_at_the_end(self) -> None:
+        """Once a member has left, Python stops handling signals before it exits: so they are ignored then."""
+        shows = 'print(all(signal.getsignal(each) == signal.SIG_IGN for each in command.ENDS))'
+        code = f'import signal, sys\nfrom bully import command\nstatus = command.main(sys.argv[1:])\n{shows}\nsys.exit(status)'
+        words = [sys.executable, '-c', code, 'run', '--log', f'sqlite:{self.path}', '--node', 'a', '--', 'true']
+        ran = subprocess.run(words, env=environment(), stdout=subprocess.PIPE, text=True, timeout=PATIENCE)
+        self.assertEqual((ran.returncode, ran.stdout), (4, 'True\n'))  # there is no log
 
     def begin_as(self, *within: str) -> subprocess.Popen[bytes]:
         """The same member again, begun by these words."""

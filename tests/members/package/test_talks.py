@@ -16,7 +16,7 @@ from bully.member import Assignment
 from bully.settings import Settings
 from bully.worker import WATCHDOG, Kind
 from places import ROOT
-from ..processes import children, descriptors_of, is_running
+from ..processes import below, descriptors_of, is_running
 from ..waiting import PATIENCE, wait_until
 from .below import Below, Timely, assigned
 
@@ -81,6 +81,18 @@ class Talks(Below):
         workers.start(assigned(2, 0, 5))
         self.heard(1)
         return workers
+
+    def test_it_reads_nothing(self) -> None:
+        """A worker that has closed its standard input goes on after a change, as its keeper does. It is killed once it must
+        stop, because it doesn't answer."""
+        closed = self.folder / 'closed'
+        workers = self.made(['sh', '-c', f'exec 0<&-; : > {closed}; exec sleep 1000'], 0.2)
+        workers.start(assigned(2, 0, 5))
+        wait_until(closed.exists)
+        workers.start(assigned(9, 0, 5), frozenset())
+        workers.start(assigned(10, 0, 5), frozenset())
+        workers.stop()
+        self.assertEqual(self.failures, [])
 
     def heard(self, count: int) -> list[str]:
         """What workers were told, each after its process, once there are so many lines."""
@@ -220,7 +232,7 @@ class Talks(Below):
         self.addCleanup(workers._watchdog.kill)
         workers.start(assigned(2, 0))
         wait_until(begun.exists)
-        (worker,) = children(workers._watchdog.pid)
+        (worker,) = below(workers._watchdog.pid)
         workers._channel.shutdown(socket.SHUT_RDWR)
         wait_until(lambda: not is_running(worker))
         workers._watchdog.wait(PATIENCE)
@@ -258,7 +270,7 @@ class Talks(Below):
                 self.addCleanup(workers._watchdog.kill)
                 workers.start(assigned(2, 0))
                 wait_until(begun.exists)
-                (worker,) = children(workers._watchdog.pid)
+                (worker,) = below(workers._watchdog.pid)
                 workers.hear_until(clocks.seconds_of_boot() + seconds)
                 thread = threading.Thread(target=workers.stop, args=[assigned(0)], daemon=True)
                 thread.start()
@@ -424,7 +436,7 @@ class Talks(Below):
                     wanted = f'{Token.of(4, events)} x'
                     files = [folder / str(each) for each in partitions]
                     wait_until(lambda: all(file.exists() and file.read_text().count(wanted) > 1 for file in files))
-                    processes.add(children(workers._watchdog.pid)[0])
+                    processes.add(below(workers._watchdog.pid)[0])
                     workers.stop(assigned(0))
                     before, sizes = sizes, {file: file.stat().st_size for file in folder.iterdir()}
                     self.assertEqual(

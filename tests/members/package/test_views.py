@@ -63,15 +63,14 @@ class Slowly(Grouped):
         self.assertEqual(set(self.seen_doing(group, Doing.WORKING)), set(range(12)))
 
     def test_the_first_look(self) -> None:
-        """A view to which a member reports knows for whom that waits, and on which partitions that stops, when it reads the
-        log for the first time."""
+        """A view knows for whom a change waits for which somebody has stopped, and on which partitions that stops, when it
+        reads the log for the first time, whether or not a member reports to it."""
         self.slowed()
         other = self.members['b'][0]
         wait_until(lambda: [name for name, _ in other.behind._waits[1]] == ['a'])
-        alone = self.viewed(self.log).show()
-        self.assertEqual((alone.is_stable, alone.behind), (False, {}), 'it has just seen d')
-        group = self.viewed(self.log, other.behind).show()
-        self.assertEqual((list(group.behind), [len(each) for each in group.stops.values()]), (['a'], [1]))
+        for told in (None, other.behind):
+            group = self.viewed(self.log, told).show()
+            self.assertEqual((list(group.behind), [len(each) for each in group.stops.values()]), (['a'], [1]))
 
     def test_status(self) -> None:
         """In words of the command, which reads again until it has seen for long enough who came."""
@@ -79,7 +78,7 @@ class Slowly(Grouped):
         said: list[str] = []
         with mock.patch.object(command, 'store_of') as store, mock.patch('builtins.print', said.append):
             store().open.return_value, store().told_readers = self.log, ''
-            self.assertEqual(command.status_command(mock.Mock(json=False)), 1)
+            self.assertEqual(command.status_command(mock.Mock(json=False, watch=None)), 1)
         group = self.viewed(self.log, self.members['b'][0].behind).show()
         (moving,) = group.stops['a']
         lines = said[0].splitlines()
@@ -161,6 +160,21 @@ class Stored(Viewed):
             self.assertEqual(list(self.viewed(self.log, late).show().behind), ['b'])
         late.see(self.end, {'c': Holder(Session(7, 7), Promise())})
         self.assertEqual(list(self.viewed(self.log, late).show().behind), ['b'])
+
+    def test_who_comes_again(self) -> None:
+        """A view that has seen a node come again and again doesn't expect it; but once somebody has stopped for it, the view
+        shows what it gets, and for whom that waits."""
+        log = MemoryLog(COOPERATIVE)
+        sessions, end, shown = share_out(log, *'abc'), Promise(1, len(log.rows)), self.viewed(log)
+        for number in range(1, 7):
+            log.release('d', Session(8, number - 1))
+            self.assertTrue(log.acquire('d', Session(8, number), end, LONG))
+            group = shown.show()
+        self.assertEqual((group.is_stable, group.behind, group.moves), (True, {}, 0))
+        self.assertTrue(log.promise('b', sessions['b'], end))
+        group = shown.show()
+        self.assertEqual((group.is_stable, list(group.behind), group.moves), (False, ['a', 'c'], 3))
+        self.assertEqual([each.coming for each in group.partitions].count('d'), 3)
 
     def test_a_request(self) -> None:
         """All work stops: those that own something are waited for, until they keep nothing."""

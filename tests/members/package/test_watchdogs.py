@@ -9,6 +9,7 @@ import socket
 import subprocess
 import sys
 import threading
+from collections.abc import Callable
 from pathlib import Path
 from types import SimpleNamespace
 from typing import Any, cast
@@ -20,7 +21,9 @@ from bully.member import Assignment, Member
 from bully.settings import Settings
 from bully.worker import ChildrenUnlisted, WatchdogLost, WorkerEnded, WorkerStuck, Workers
 from places import environment
-from ..processes import children, descriptors_of, freeze, is_running, name_of, thaw
+from ..processes import (
+    below, children, descriptors_of, freeze, halt_by_debugger, halt_by_group, has_stopped, is_running, keepers, name_of, parent_of, thaw,
+)  # fmt: skip
 from ..waiting import PATIENCE, wait_until
 from .below import Below, Timely, assigned
 from .unlisted import unlisted_from
@@ -100,16 +103,17 @@ log.acquire('a', Session(1, 1), Promise(1, 0), 5 * clocks.SECOND)
 print(log._one('select until from leases') > 1_000_000 * clocks.SECOND)
 '''
 
-# It begins a write to a file once it is told to.
+# It begins a write to a file whenever it is told to, after the one before.
 WRITER = '''
 import sqlite3, sys
 file = sqlite3.connect(sys.argv[1], isolation_level=None)
 file.executescript('pragma journal_mode = wal; create table log (row text)')
 print('idle', flush=True)
-input()
-file.execute('begin immediate')
-print('writes', flush=True)
-input()
+while sys.stdin.readline():
+    if file.in_transaction:
+        file.execute('commit')
+    file.execute('begin immediate')
+    print('writes', flush=True)
 '''
 
 
@@ -127,6 +131,11 @@ class Watchdogs(Below):
         workers.start(self.assignment)
         wait_until((self.folder / 'begun').exists)
         self.worker, self.child = map(int, (self.folder / 'begun').read_text().split()[:2])
+
+    def keeper(self, workers: Timely) -> int:
+        """That of the worker, once it is there."""
+        wait_until(lambda: keepers(workers._watchdog.pid))
+        return keepers(workers._watchdog.pid)[0]
 
     def are_gone(self) -> bool:
         return not is_running(self.worker) and not is_running(self.child)
@@ -209,10 +218,11 @@ class Watchdogs(Below):
         self.assertEqual((self.failures, self.lost), ([], []))
 
     def test_too_late(self) -> None:
-        """None begins whose time is over."""
+        """None begins whose time is over. (On a busy machine the watchdog may be too late to say so, and is killed.)"""
         workers = self.made(['touch', str(self.folder / 'begun')], seconds=-1.0)
+        self.keeper(workers)
         workers.start(self.assignment)
-        wait_until(lambda: self.lost)
+        wait_until(lambda: self.lost or self.failures)
         workers.stop(assigned(0))
         self.assertFalse((self.folder / 'begun').exists())
 
@@ -220,7 +230,7 @@ class Watchdogs(Below):
         """What a watchdog says at its end is heard, also if it didn't read all that it was told."""
         workers = self.made(['sleep', '1000'])
         workers.start(self.assignment)
-        wait_until(lambda: children(workers._watchdog.pid))
+        wait_until(lambda: below(workers._watchdog.pid))
         watchdog, given = socket.socketpair(socket.AF_UNIX, socket.SOCK_SEQPACKET)
         first, workers._channel = workers._channel, given
         with first:
@@ -316,6 +326,38 @@ class Watchdogs(Below):
         self.assertTrue(self.are_gone())
         self.assertEqual([type(failure) for failure in self.failures], [WatchdogLost])
 
+    def test_keeper_dies(self) -> None:
+        """The watchdog kills what the worker started, also while its member does nothing, which hears of it after that."""
+        workers, goes_on = self.begin('stubborn'), threading.Event()
+        self.addCleanup(goes_on.set)
+        workers._ask(goes_on.wait)
+        os.kill(parent_of(self.worker), signal.SIGKILL)
+        wait_until(self.are_gone)
+        self.assertEqual((self.failures, self.member.ends), ([], []))
+        goes_on.set()
+        wait_until(lambda: self.failures)
+        workers.stop(assigned(0))
+        self.assertEqual([type(failure) for failure in self.failures], [WatchdogLost])
+
+    def test_watchdog_dies_while_its_member_is_stopped(self) -> None:
+        """The keeper stops the worker, and kills what is left, at the latest at the moment until which work is sure."""
+        for patience, seconds in ((0.1, 1000.0), (1000.0, 3.0)):
+            with self.subTest(patience=patience):
+                workers, goes_on = self.begin('stubborn', patience), threading.Event()
+                self.addCleanup(goes_on.set)
+                workers._ask(goes_on.wait)
+                workers.hear_until(clocks.seconds_of_boot() + seconds)
+                workers._watchdog.kill()
+                wait_until(self.are_gone)
+                self.assertEqual((self.failures, self.member.ends), ([], []))
+                goes_on.set()
+                wait_until(lambda: self.failures)
+                workers.stop(assigned(0))
+                self.assertEqual([type(failure) for failure in self.failures], [WatchdogLost])
+                self.failures.clear()
+                self.member.ends.clear()
+                (self.folder / 'begun').unlink()
+
     def test_watchdog_is_told_to_end(self) -> None:
         """A signal that all processes get is for the member, also as the watchdog begins."""
         for number in ENDS:
@@ -330,12 +372,12 @@ class Watchdogs(Below):
                 (self.folder / 'begun').unlink()
 
     def test_stopped_watchdog(self) -> None:
-        """One that doesn't kill the worker at its moment, or doesn't report that it has stopped, is killed with all
-        that it began. So is one that doesn't begin it."""
+        """If its keeper doesn't kill the worker at its moment, or doesn't report that it has stopped, both are killed
+        with all that it began. So are they if the worker doesn't begin."""
         for stops in (False, True):
             with self.subTest(stops=stops):
                 workers = self.begin('stubborn', patience=0.1)
-                os.kill(workers._watchdog.pid, signal.SIGSTOP)
+                os.kill(parent_of(self.worker), signal.SIGSTOP)
                 if stops:
                     workers.stop(assigned(0))
                 else:
@@ -347,16 +389,16 @@ class Watchdogs(Below):
                 self.failures.clear()
                 (self.folder / 'begun').unlink()
         workers = self.made(['sleep', '1000'], ttl=1.0)
-        os.kill(workers._watchdog.pid, signal.SIGSTOP)
+        os.kill(self.keeper(workers), signal.SIGSTOP)
         workers.start(self.assignment)
         wait_until(lambda: self.failures)
         workers.stop(assigned(0))
         self.assertIsInstance(self.failures[0], WatchdogLost)
 
-    def begin_unlisted(self, way: str) -> Timely:
-        """A worker that has begun, and whose watchdog isn't told any more what is below it."""
+    def begin_unlisted(self, way: str, has_parents: bool = False) -> Timely:
+        """A worker that has begun, and whose keeper isn't told any more what is below it."""
         since = self.folder / 'since'
-        with mock.patch.dict(os.environ, unlisted_from(self, self.folder, since)):
+        with mock.patch.dict(os.environ, unlisted_from(self, self.folder, since, has_parents)):
             workers = self.made([sys.executable, '-c', WORKER, str(self.folder), way], 0.1, ttl=1.0)
         self.begin_again(workers)
         since.touch()
@@ -374,6 +416,13 @@ class Watchdogs(Below):
         self.assertTrue(self.are_gone())
         workers.stop(assigned(0))
         self.assertEqual((self.failures, self.lost), ([], [self.assignment]))
+
+    def test_unlisted_children(self) -> None:
+        """What the worker left is found by its parent."""
+        workers = self.begin_unlisted('stubborn', has_parents=True)
+        workers.stop(assigned(0))
+        self.assertTrue(self.are_gone())
+        self.assertEqual((self.failures, self.lost), ([], []))
 
     def test_unlisted_and_left(self) -> None:
         """What the worker left is not said to be gone by a watchdog to which it isn't listed: its member kills both."""
@@ -401,7 +450,8 @@ class Watchdogs(Below):
     def test_stopped_watchdog_at_an_end(self) -> None:
         """A member that ends doesn't wait for a watchdog that is stopped."""
         workers = self.begin('stubborn', patience=0.1)
-        os.kill(workers._watchdog.pid, signal.SIGSTOP)
+        for process in (workers._watchdog.pid, parent_of(self.worker)):
+            os.kill(process, signal.SIGSTOP)
         workers.close()
         self.assertTrue(self.are_gone())
 
@@ -443,11 +493,13 @@ class Watchdogs(Below):
                 late.start()
                 self.addCleanup(late.cancel)
             print('go on', file=member.stdin, flush=True)
-            self.assertEqual(member.stdout.readline(), f'these processes may work on: [{worker}]\n')
+            self.assertRegex(member.stdout.readline(), rf'^these processes may work on: \[{worker}[],]')  # others may yet end
             self.assertEqual(member.stdout.readline(), 'stuck\n')
             self.assertTrue(is_running(worker))
             self.assertEqual(select.select([member.stdout], [], [], 0.3)[0], [], 'nothing has stopped')
             os.kill(worker, signal.SIGKILL)
+            if not kills:
+                self.assertRegex(member.stdout.readline(), 'the watchdog killed the worker [0-9.]+ s ago')
             self.assertEqual(member.stdout.readline(), 'stopped\n')
             self.assertEqual(member.stdout.readline(), 'lost\n' if not kills else 'WatchdogLost\n')
             member.stdin.close()
@@ -503,21 +555,30 @@ class Watchdogs(Below):
                 mine.recv(100, socket.MSG_DONTWAIT)
 
     def test_signals(self) -> None:
-        """A worker begins as any process: no signal is ignored or held back that the watchdog, or Python, lets go by."""
-        workers = self.made(['sleep', '1000'])
+        """A worker begins as any process: no signal is ignored or held back, also if the watchdog began so."""
+        before = signal.signal(signal.SIGCHLD, signal.SIG_IGN), signal.pthread_sigmask(signal.SIG_BLOCK, [signal.SIGALRM])
+        try:
+            workers = self.made(['sleep', '1000'])
+        finally:
+            signal.signal(signal.SIGCHLD, before[0])
+            signal.pthread_sigmask(signal.SIG_SETMASK, before[1])
         workers.start(self.assignment)
-        wait_until(lambda: [name_of(each) for each in children(workers._watchdog.pid)] == ['sleep'])
-        status = Path(f'/proc/{children(workers._watchdog.pid)[0]}/status').read_text().splitlines()
+        wait_until(lambda: [name_of(each) for each in below(workers._watchdog.pid)] == ['sleep'])
+        status = Path(f'/proc/{below(workers._watchdog.pid)[0]}/status').read_text().splitlines()
         masks = {line.split()[0]: int(line.split()[1], 16) for line in status if line.startswith(('SigIgn', 'SigBlk'))}
-        for number in (*processes.ENDS, signal.SIGPIPE, signal.SIGXFSZ):
-            self.assertEqual([mask >> number - 1 & 1 for mask in masks.values()], [0, 0], number)
+        self.assertEqual(masks, {'SigBlk:': 0, 'SigIgn:': 0})
+        of_watchdog = Path(f'/proc/{workers._watchdog.pid}/status').read_text()
+        ignored = int(of_watchdog.partition('SigIgn:')[2].split()[0], 16)
+        self.assertEqual(ignored >> signal.SIGCHLD - 1 & 1, 0, 'it would not hear how its keeper ends')
         workers.stop(assigned(0))
 
     def test_a_watchdog_that_is_stopped(self) -> None:
-        """It hears of no renewal, for which nobody waits. After that a worker starts all the same."""
+        """Its keeper hears of no renewal, for which nobody waits. After that a worker starts all the same."""
         workers = self.made(['sleep', '1000'], seconds=-1.0)
-        self.addCleanup(os.kill, workers._watchdog.pid, signal.SIGCONT)
-        os.kill(workers._watchdog.pid, signal.SIGSTOP)
+        stopped = workers._watchdog.pid, self.keeper(workers)
+        for process in stopped:
+            self.addCleanup(os.kill, process, signal.SIGCONT)
+            os.kill(process, signal.SIGSTOP)
 
         def tell() -> None:
             for _ in range(10_000):
@@ -529,23 +590,28 @@ class Watchdogs(Below):
         wait_until(lambda: not thread.is_alive())
         with self.assertRaises(BlockingIOError):  # so the last one wasn't told
             workers._channel.send(b'until 0', socket.MSG_DONTWAIT)
-        os.kill(workers._watchdog.pid, signal.SIGCONT)
+        for process in stopped:
+            os.kill(process, signal.SIGCONT)
         workers.start(self.assignment)
-        wait_until(lambda: children(workers._watchdog.pid) or self.lost)
+        wait_until(lambda: below(workers._watchdog.pid) or self.lost)
         workers.stop(assigned(0))
         self.assertEqual((self.failures, self.lost), ([], []))
 
     def test_orphans(self) -> None:
-        """What a worker left to the watchdog is waited for, also while the worker goes on."""
-        workers = self.made(['sh', '-c', 'for each in 1 2 3; do (true &); done; exec sleep 1000'])
+        """What a worker left is waited for once it ends, while the worker goes on, and nothing is heard of the member."""
+        count = 3 * watchdog.REAPED  # more than in one turn
+        workers = self.made(['sh', '-c', f'for each in $(seq {count}); do (sleep 1000 &); done; exec sleep 1000'])
         workers.start(self.assignment)
-        wait_until(lambda: len(children(workers._watchdog.pid)) == 4)
-
-        def has_waited() -> bool:
-            workers.hear_until(clocks.seconds_of_boot() + 1000.0)  # as each renewal is; one of them may end later
-            return len(children(workers._watchdog.pid)) == 1
-
-        wait_until(has_waited)
+        wait_until(lambda: len(below(workers._watchdog.pid)) == count + 1)
+        worker, *left = below(workers._watchdog.pid)
+        keeper = parent_of(worker)
+        os.kill(keeper, signal.SIGSTOP)  # so that it hears of all at once
+        wait_until(lambda: has_stopped(keeper))
+        for each in left:
+            os.kill(each, signal.SIGKILL)
+        wait_until(lambda: not any(map(is_running, left)))
+        os.kill(keeper, signal.SIGCONT)
+        wait_until(lambda: below(workers._watchdog.pid) == [worker])
         workers.stop(assigned(0))
         self.assertEqual((self.failures, self.lost), ([], []))
 
@@ -580,33 +646,90 @@ os.kill(os.getpid(), signal.SIGSTOP)
         os.close(writes)
         self.assertEqual(ran.stdout, b'goes on\n')
 
-    def look_at(self, watch: watchdog.MemberWatchdog, *moments: int) -> None:
-        """It looks at its member at these moments."""
-        for moment in moments:
-            with mock.patch.object(watchdog, 'nanoseconds_of_boot', lambda: moment):
+    def look_at(self, watch: watchdog.MemberWatchdog, *spans: float) -> None:
+        """It looks at its member after so many spans, counted from its last look."""
+        last = watch.next_look
+        for each in spans:
+            with mock.patch.object(watchdog, 'nanoseconds_of_boot', lambda: last + int(each * watch.span)):
                 watch.look()
 
-    def test_who_is_stopped(self) -> None:
-        """A member that is stopped is killed only in the middle of a write, and only if that lasts."""
-        words = [sys.executable, '-c', WRITER, str(self.folder / 'group.db')]
+    def writer(self) -> subprocess.Popen[str]:
+        """A process that writes to a file when it is told to, as a member."""
         pipes: dict[str, Any] = {name: subprocess.PIPE for name in ('stdin', 'stdout')}
-        with subprocess.Popen(words, universal_newlines=True, **pipes) as writer:
-            assert writer.stdin is not None and writer.stdout is not None
-            with mock.patch.object(os, 'getppid', lambda: writer.pid):
-                watch = watchdog.MemberWatchdog(f'{self.folder}/group.db-shm', 2.0)
-                self.assertLessEqual(
-                    (watch.pause() or 0) * watchdog.MILLISECOND + watch.span,
-                    0.4 * clocks.SECOND * 2.0 + 2 * watchdog.MILLISECOND,
-                )
-                for said in ('idle\n', 'writes\n'):
-                    self.assertEqual(writer.stdout.readline(), said)
-                    writer.send_signal(signal.SIGSTOP)
-                    wait_until(lambda: processes.is_stopped(writer.pid))
-                    self.look_at(watch, 0, watch.span - 1, watch.span - 1)
-                    self.assertTrue(processes.is_stopped(writer.pid))
-                    self.look_at(watch, 2 * watch.span)
-                    if said == 'idle\n':
-                        self.assertTrue(processes.is_stopped(writer.pid))
-                        writer.send_signal(signal.SIGCONT)
-                        print('go on', file=writer.stdin, flush=True)
-            self.assertEqual(writer.wait(PATIENCE), -signal.SIGKILL)
+        words = [sys.executable, '-c', WRITER, str(self.folder / 'group.db')]
+        writer = subprocess.Popen(words, universal_newlines=True, **pipes)
+        self.addCleanup(writer.__exit__, None, None, None)
+        self.addCleanup(writer.kill)
+        patched = mock.patch.object(os, 'getppid', lambda: writer.pid)
+        patched.start()
+        self.addCleanup(patched.stop)
+        return writer
+
+    def watch(self) -> watchdog.MemberWatchdog:
+        """The watchdog of that process, which looks at it twice in two fifths of the ttl."""
+        watch = watchdog.MemberWatchdog(f'{self.folder}/group.db-shm', 2.0)
+        self.assertLessEqual(2 * watch.span, 0.4 * clocks.SECOND * 2.0)
+        self.look_at(watch, 0)
+        self.assertLessEqual((watch.pause() or 0) * watchdog.MILLISECOND, watch.span + watchdog.MILLISECOND)
+        return watch
+
+    def see_halted(self, halt: Callable[[int], Callable[[], object]]) -> None:
+        """A member that doesn't run is killed only in the middle of a write, and only if that lasts."""
+        writer = self.writer()
+        assert writer.stdin is not None and writer.stdout is not None
+        watch = self.watch()
+        for said in ('idle\n', 'writes\n'):
+            self.assertEqual(writer.stdout.readline(), said)
+            wait_until(lambda: processes.states(writer.pid) == 'S')
+            self.assertFalse(processes.is_stopped(writer.pid))
+            go_on = halt(writer.pid)
+            wait_until(lambda: processes.is_stopped(writer.pid))
+            with mock.patch.object(os, 'kill', wraps=os.kill) as killed:
+                self.look_at(watch, 0, 0.99)
+                killed.assert_not_called()
+                self.look_at(watch, 0)
+                self.assertEqual(killed.mock_calls, [mock.call(writer.pid, signal.SIGKILL)] * (said == 'writes\n'))
+            go_on()
+            if said == 'idle\n':
+                print('go on', file=writer.stdin, flush=True)
+        self.assertEqual(writer.wait(PATIENCE), -signal.SIGKILL)
+
+    def test_who_is_stopped(self) -> None:
+        def halt(process: int) -> Callable[[], object]:
+            os.kill(process, signal.SIGSTOP)
+            return lambda: os.kill(process, signal.SIGCONT)
+
+        self.see_halted(halt)
+
+    def test_who_is_debugged(self) -> None:
+        self.see_halted(lambda process: halt_by_debugger(self, process))
+
+    def test_who_is_frozen(self) -> None:
+        """By its control group, of both kinds."""
+        self.see_halted(lambda process: halt_by_group(self, process, 'cgroup2'))
+
+    def test_who_is_frozen_as_before(self) -> None:
+        """It ends once it is thawed."""
+        self.see_halted(lambda process: halt_by_group(self, process, 'cgroup'))
+
+    def test_who_is_slow(self) -> None:
+        """A member that holds the lock at each look, but in different writes, isn't killed; nor is one that waits for a
+        disk, or runs."""
+        writer = self.writer()
+        assert writer.stdin is not None and writer.stdout is not None
+        watch = self.watch()
+        self.assertEqual(writer.stdout.readline(), 'idle\n')
+        for _ in range(3):
+            print('go on', file=writer.stdin, flush=True)
+            self.assertEqual(writer.stdout.readline(), 'writes\n')
+            wait_until(lambda: processes.states(writer.pid) == 'S')
+            self.assertEqual(processes.lock_holder(watch.file), writer.pid)
+            self.look_at(watch, 0)
+        for state in 'DR':
+            with mock.patch.object(watchdog, 'states', lambda _: state):
+                self.look_at(watch, 0)
+                self.look_at(watch, 0)
+        self.assertIsNone(writer.poll())
+        self.look_at(watch, 0)
+        self.look_at(watch, 0)
+        self.assertEqual(writer.wait(PATIENCE), -signal.SIGKILL)

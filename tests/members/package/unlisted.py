@@ -7,7 +7,8 @@ import subprocess
 import unittest
 from pathlib import Path
 
-# A library that is loaded before others. By it nobody opens such a file, once the file UNLISTED is there.
+# A library that is loaded before others. By it nobody opens such a file, once the file UNLISTED is there;
+# with NO_PARENTS nor one that names a parent.
 SOURCE = r"""
 #define _GNU_SOURCE
 #include <dlfcn.h>
@@ -22,7 +23,8 @@ static int is_hidden(const char *path) {
     size_t length = strlen(path);
     const char *since = getenv("UNLISTED");
     int is_list = strncmp(path, "/proc/", 6) == 0 && length > 9 && strcmp(path + length - 9, "/children") == 0;
-    return is_list && since && access(since, F_OK) == 0;
+    int is_parent = getenv("NO_PARENTS") && strncmp(path, "/proc/", 6) == 0 && strcmp(path + length - 7, "/status") == 0;
+    return (is_list || is_parent) && since && access(since, F_OK) == 0;
 }
 
 #define OPENS(NAME, PARAMETERS, ARGUMENTS)                            \
@@ -46,13 +48,13 @@ OPENS(openat64, (int folder, const char *path, int flags, ...), (folder, path, f
 """
 
 
-def unlisted_from(test: unittest.TestCase, folder: Path, since: Path) -> dict[str, str]:
-    """The environment of processes for which the kernel lists no children, once that file is there. The test is
-    skipped without a C compiler."""
+def unlisted_from(test: unittest.TestCase, folder: Path, since: Path, has_parents: bool = True) -> dict[str, str]:
+    """The environment of processes for which the kernel lists no children, once that file is there, and without
+    `has_parents` doesn't say either who is a process's parent. The test is skipped without a C compiler."""
     compiler = shutil.which(os.environ.get('CC') or 'cc') or shutil.which('gcc')
     if compiler is None:
         test.skipTest('no C compiler makes the library by which the kernel lists no children')
     library = folder / 'unlisted.so'
     words = [compiler, '-shared', '-fPIC', '-O1', '-x', 'c', '-', '-o', str(library), '-ldl']
     subprocess.run(words, input=SOURCE.encode(), check=True)
-    return {'LD_PRELOAD': str(library), 'UNLISTED': str(since)}
+    return {'LD_PRELOAD': str(library), 'UNLISTED': str(since), **({} if has_parents else {'NO_PARENTS': '1'})}

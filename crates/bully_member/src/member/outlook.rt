@@ -2,8 +2,8 @@
 ghost use Rattle.std.specs.Prelude.{◌≡◌, ◌+◌, ◌↔◌, ℕ, List, Contains, IfOk};
 ghost use Rattle.std.specs.Option.{option_copied};
 ghost use Rattle.bully_base.specs.NodeSet.{IsFallingBelow};
-ghost use Rattle.bully_member.specs.Member.{AreNodes, IsForeseen, admitted_among, coming_by, is_admitted, is_affected};
-ghost use Rattle.bully_member.specs.Member.{IsAffected, is_in_group, live_of, replica_of};
+ghost use Rattle.bully_member.specs.Member.{AreNodes, IsForeseen, admitted_among, asks_for_change, coming_by, is_admitted};
+ghost use Rattle.bully_member.specs.Member.{IsAffected, is_affected, is_in_group, is_under_way, live_of, replica_of};
 ghost use Rattle.bully_member.specs.declared.values.Lease.{Lease as LeaseState};
 ghost use Rattle.bully_rebalance.specs.Rebalancing.{is_member};
 
@@ -89,7 +89,7 @@ impl Member {
 
     /// Among which nodes the group is stable, or is to be rebalanced if it is cooperative: the live ones that were
     /// admitted when the last snapshot was read. Admitted are those that are up in the log, and those whose session has
-    /// stayed long enough, except those that leave.
+    /// stayed long enough, and all while a change is under way, except those that leave.
     pub fn group(&self) -> &NodeSet
         ensures { result.now ≡ self.now.group }
     {
@@ -116,20 +116,36 @@ impl Member {
     fn admitted_among(&self, now: u64, leases: &[Lease]) -> NodeSet
         ensures { result ≡ admitted_among self.now now leases.now }
     {
+        let is_under_way = self.is_under_way(leases);
         let mut group = NodeSet::new();
         for lease in leases {
-            if self.is_admitted(now, lease) {
+            if self.is_admitted(now, is_under_way, lease) {
                 group.insert(lease.node);
             }
         }
         group
     }
 
-    // Whether a lease is admitted.
-    fn is_admitted(&self, now: u64, lease: &Lease) -> bool
-        ensures { result ≡ is_admitted self.now now lease.now }
+    // Whether a lease is admitted, if a change is under way or isn't.
+    fn is_admitted(&self, now: u64, is_under_way: bool, lease: &Lease) -> bool
+        ensures { result ≡ is_admitted self.now now is_under_way lease.now }
     {
-        !lease.is_leaving && (!self.is_down(lease.node) || self.stay_left(now, lease.node) == 0)
+        !lease.is_leaving
+            && (!self.is_down(lease.node) || self.stay_left(now, lease.node) == 0 || is_under_way)
+    }
+
+    // Whether a change is under way, as far as these leases show: a node that is up in the log has promised its end. Then
+    // all members admit the same nodes, whatever each remembers of them.
+    fn is_under_way(&self, leases: &[Lease]) -> bool
+        ensures { result ≡ is_under_way self.now leases.now }
+    {
+        leases.iter().any(|lease| self.asks_for_change(lease))
+    }
+
+    fn asks_for_change(&self, lease: &Lease) -> bool
+        ensures { result ≡ asks_for_change self.now lease.now }
+    {
+        !self.is_down(lease.node) && lease.promise == self.here()
     }
 }
 

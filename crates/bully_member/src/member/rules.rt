@@ -16,7 +16,7 @@ ghost use Rattle.bully_member.specs.Keeping.{Awaits, Keeps, WorksOnlyIfSure};
 ghost use Rattle.bully_member.specs.Member.{AllAreDown, SeesStable, above, all_ready, are_of, closes, has_promised};
 ghost use Rattle.bully_member.specs.Member.{has_room};
 ghost use Rattle.bully_member.specs.Member.{heeded, heeds_promises, here, is_alone, is_closing, is_down, is_ready, is_ready_itself, lease_of};
-ghost use Rattle.bully_member.specs.Member.{most_promised, offset_in, replica_of, stay_left};
+ghost use Rattle.bully_member.specs.Member.{is_held_off, is_kept_out, is_returning, most_promised, offset_in, replica_of, stay_left};
 ghost use Rattle.bully_member.specs.Roles.{needs_promises};
 ghost use Rattle.bully_member.specs.Told.{SeesIfFound};
 ghost use Rattle.bully_member.specs.Times.{turn_left};
@@ -29,8 +29,8 @@ use super::Member;
 use crate::activities::{any_stopping, any_working, begin_all, stop_all_but, works_at};
 use crate::opening::REBALANCE_MAX;
 use crate::times::{
-    awaiting_backoff, left, pause_left, paused_backoff, renewal_left, stopping_backoff, sure,
-    turn_left,
+    awaiting_backoff, first_stay, left, pause_left, paused_backoff, renewal_left, stopping_backoff,
+    sure, turn_left,
 };
 use crate::values::{
     Ahead, Arrival, Asked, Ending, Lease, Promise, Reason, Request, SessionId, SessionState, Sight,
@@ -566,14 +566,37 @@ impl Member {
 
     /// Whether the next snapshot must show what others have promised. In an eager group it must. In a cooperative one it
     /// must if no higher node is live, or if the group isn't stable for the member and its turn to change the log has
-    /// come. Otherwise a snapshot may leave promises of others out, as if nobody had promised anything: the member does
-    /// the same ([`needs_no_promises`](crate::needs_no_promises)). A snapshot may change what this returns. If it returns
-    /// true after one that left promises out, the member needs another one.
+    /// come, or if it keeps somebody out who came again, unless a change is under way. Otherwise a snapshot may leave
+    /// promises of others out, as if nobody had promised anything: the member does the same
+    /// ([`needs_no_promises`](crate::needs_no_promises)). A snapshot may change what this returns. If it returns true
+    /// after one that left promises out, the member needs another one.
     pub fn needs_promises(&self, now: u64) -> bool
         ensures { (is_stable : Bool) → (IsTrue is_stable ↔ SeesStable self.now)
             → result ≡ needs_promises self.now now is_stable }
     {
-        self.heeds_promises() || (!self.is_stable() && self.turn_left(now) == 0)
+        self.heeds_promises()
+            || (!self.is_stable() && self.turn_left(now) == 0)
+            || self.is_one_held_off(now)
+    }
+
+    fn is_one_held_off(&self, now: u64) -> bool
+        ensures { result ≡ list_any (is_held_off self.now now) self.now.leases }
+    {
+        self.leases.iter().any(|lease| self.is_held_off(now, lease))
+    }
+
+    // Whether a lease is admitted only while a change is under way, since its session came soon after another one.
+    fn is_held_off(&self, now: u64, lease: &Lease) -> bool
+        ensures { result ≡ is_held_off self.now now lease.now }
+    {
+        self.is_kept_out(now, lease) && self.is_returning(lease.node)
+    }
+
+    // Whether a lease is admitted only while a change is under way.
+    fn is_kept_out(&self, now: u64, lease: &Lease) -> bool
+        ensures { result ≡ is_kept_out self.now now lease.now }
+    {
+        !lease.is_leaving && self.is_down(lease.node) && 0 < self.stay_left(now, lease.node)
     }
 
     // Whether all nodes of the group are Down.
@@ -584,7 +607,7 @@ impl Member {
     }
 
     // The end of the log, as far as it was learned.
-    fn here(&self) -> Promise
+    pub(super) fn here(&self) -> Promise
         ensures { result ≡ here self.now }
     {
         Promise {
@@ -717,6 +740,16 @@ impl Member {
         ensures { result ≡ stay_left self.now.arrivals now node }
     {
         stay_left(&self.arrivals, now, node)
+    }
+
+    // Whether the session that holds the lease of a node came soon after another one, so that it must stay longer.
+    fn is_returning(&self, node: Node) -> bool
+        ensures { result ≡ is_returning self.now.arrivals self.now.ttl node }
+    {
+        match self.arrivals.get(usize::from(node.number() - 1)) {
+            Some(arrival) => first_stay(self.ttl) < arrival.stay,
+            None => false,
+        }
     }
 
     // Whether nobody else holds a lease.

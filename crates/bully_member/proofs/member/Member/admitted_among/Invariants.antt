@@ -4,4 +4,4 @@ use Rattle.bully_member.specs.Member.{with_admitted}
 
 -- the set has those so far that are admitted
 abbrev pub invariant-loop-lease : goal.invariant-loop-lease
-invariant-loop-lease l = l.group ≡ fold (with_admitted l.self l.now) [] (take l.lease-index l.leases)
+invariant-loop-lease l = l.group ≡ fold (with_admitted l.self l.now l.is_under_way) [] (take l.lease-index l.leases)
