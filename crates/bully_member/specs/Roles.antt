@@ -22,8 +22,8 @@ abbrev pub without_promises : MemberState → MemberState
 without_promises m = record m { leases = map (unpromised m.terms.node) m.leases }
 
 -- whether a snapshot must show it what others have promised, if the group is stable for it or not: the group is eager, or
--- no higher node is live; or the group isn't stable for it, and its turn to change the log has come; or it keeps
--- somebody out who came again, unless a change is under way
+-- no higher node is live; or the group isn't stable for it, and its turn to change the log has come; or somebody came
+-- again whom it admits only while a change is under way
 abbrev pub needs_promises : MemberState → (now : ℕ) → (is_stable : Bool) → Bool
 needs_promises m now is_stable =
     heeds_promises m || (not is_stable && (turn_left (above m) m.ttl now m.last_change.at == 0))

@@ -6,9 +6,8 @@ use Rattle.bully_member.specs.declared.values.SessionState.{SessionState}
 abbrev pub left : (now length begun : ℕ) → ℕ
 left now length begun = length - (now - begun)
 
--- The premise about time: after its last renewal was asked for, a lease is sure for the ttl less the margin, a fifth of
--- it. The premise holds if the store ends no lease before the ttl is over, and if the clock is no slower than the
--- store's by more than the margin.
+-- After its last renewal was asked for, a lease is sure for the ttl less the margin, a fifth of it. bully_clock proves
+-- that the store keeps it for so long (leases_last), from clocks and from what the store does.
 abbrev pub sure_for : ℕ → ℕ
 sure_for ttl = ttl - ttl / 5
 

@@ -566,7 +566,7 @@ impl Member {
 
     /// Whether the next snapshot must show what others have promised. In an eager group it must. In a cooperative one it
     /// must if no higher node is live, or if the group isn't stable for the member and its turn to change the log has
-    /// come, or if it keeps somebody out who came again, unless a change is under way. Otherwise a snapshot may leave
+    /// come, or if somebody came again whom it admits only while a change is under way. Otherwise a snapshot may leave
     /// promises of others out, as if nobody had promised anything: the member does the same
     /// ([`needs_no_promises`](crate::needs_no_promises)). A snapshot may change what this returns. If it returns true
     /// after one that left promises out, the member needs another one.
