@@ -108,10 +108,12 @@ class PromisesRead(Grouped):
         """It reads promises at once, and not only when its lease has to be renewed: one of another node, which keeps
         work, says that a change is due."""
         log = self.begin_log(COOPERATIVE)
-        self.come('b', TTL)
+        worker = self.come('b', TTL)
         wait_until(lambda: self.is_shared('b'))
+        alone = self.last_token()
         assert log.acquire('a', SESSION, Promise(1, len(log.rows)), LONG)
-        wait_until(lambda: len(self.works().get('b', ())) == 6 and self.works() == self.owners())
+        wait_until(lambda: alone != self.last_token() and set(worker.works.values()) == {self.last_token()})
+        self.assertEqual(len(worker.works), 6)
         log.set_maintenance(Maintenance(frozenset('c')), None)
         assert log.acquire('c', SESSION, Promise(1, len(log.rows)), LONG)
         self.read_none(log, 'b', 'c')
