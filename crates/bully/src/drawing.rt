@@ -113,7 +113,8 @@ fn draw_as<H: Files + AllocGlobal, R: Read + Drop, W: Write, E: Write>(
         None => {
             tell(
                 errors,
-                "bully: words: Rows: --rows takes FROM-TO, as 2-50: row 1 is the header, FROM is at most TO, and 2000 rows are the most\n",
+                "bully: words: Rows: --rows takes FROM-TO, as 2-50: row 1 is the header, FROM is at most TO, and 2000 \
+                 rows are the most\n",
             );
             2
         }

@@ -9,8 +9,8 @@ use bully_member::{Lease, Promise, SessionId};
 use bully_rebalance::Partitions;
 use std::alloc::Global;
 
-/// Who holds the lease of a node: the session, its promise, how many partitions that keeps, and whether it leaves (not 0:
-/// yes).
+/// Who holds the lease of a node: the session, its promise, how many partitions that keeps, and whether it leaves (not
+/// 0: yes).
 #[repr(C)]
 #[derive(Clone, Copy)]
 pub struct CLease {

@@ -96,8 +96,10 @@ fn push_names(text: &mut String, commands: &[Command<'_>]) -> Result<(), AllocEr
 
 fn push_bash(text: &mut String, commands: &[Command<'_>]) -> Result<(), AllocError> {
     text.push_str(
-        "# What bash completes the words of bully by: bully completion bash > FILE, and then source FILE.\n_bully() {\n    \
-         local word=${COMP_WORDS[COMP_CWORD]} before=${COMP_WORDS[COMP_CWORD - 1]} words='--help' paths= values= is_file=\n    \
+        "# What bash completes the words of bully by: bully completion bash > FILE, and then source FILE.\n\
+         _bully() {\n    \
+         local word=${COMP_WORDS[COMP_CWORD]} before=${COMP_WORDS[COMP_CWORD - 1]} words='--help' paths= values= \
+         is_file=\n    \
          case ${COMP_WORDS[1]} in\n",
     )?;
     for command in commands {
@@ -112,7 +114,8 @@ fn push_bash(text: &mut String, commands: &[Command<'_>]) -> Result<(), AllocErr
     text.push_str(
         "'\n    elif [[ \" $values \" == *\" $before \"* ]]; then\n        words=\n    \
          elif [[ \" $paths \" == *\" $before \"* || ( $is_file && $word != -* ) ]]; then\n        \
-         compopt -o filenames 2>/dev/null\n        mapfile -t COMPREPLY < <(compgen -f -- \"$word\")\n        return\n    fi\n    \
+         compopt -o filenames 2>/dev/null\n        mapfile -t COMPREPLY < <(compgen -f -- \"$word\")\n        \
+         return\n    fi\n    \
          mapfile -t COMPREPLY < <(compgen -W \"$words\" -- \"$word\")\n}\ncomplete -F _bully bully\n",
     )?;
     Ok(())
@@ -182,20 +185,24 @@ fn push_bash_options(
 
 fn push_zsh(text: &mut String, commands: &[Command<'_>]) -> Result<(), AllocError> {
     text.push_str(
-        "#compdef bully\n# What zsh completes the words of bully by: a file _bully in a folder of fpath.\n_bully() {\n    local -a commands\n    commands=(\n",
+        "#compdef bully\n# What zsh completes the words of bully by: a file _bully in a folder of fpath.\n\
+         _bully() {\n    local -a commands\n    commands=(\n",
     )?;
     for command in commands {
         push_zsh_name(text, command)?;
     }
     text.push_str(
-        "        'help:Prints help of a command'\n    )\n    if ((CURRENT == 2)); then\n        _describe command commands\n        \
-         _arguments '--help[Prints help]' '--version[Prints the version]'\n        return\n    fi\n    shift words\n    ((CURRENT--))\n    case $words[1] in\n",
+        "        'help:Prints help of a command'\n    )\n    if ((CURRENT == 2)); then\n        _describe command \
+         commands\n        \
+         _arguments '--help[Prints help]' '--version[Prints the version]'\n        return\n    fi\n    shift \
+         words\n    ((CURRENT--))\n    case $words[1] in\n",
     )?;
     for command in commands {
         push_zsh_command(text, command)?;
     }
     text.push_str(
-        "        help) _describe command commands ;;\n    esac\n}\nif [[ $funcstack[1] == _bully ]]; then\n    _bully \"$@\"\nelse\n    compdef _bully bully\nfi\n",
+        "        help) _describe command commands ;;\n    esac\n}\n\
+         if [[ $funcstack[1] == _bully ]]; then\n    _bully \"$@\"\nelse\n    compdef _bully bully\nfi\n",
     )
 }
 
@@ -256,7 +263,8 @@ fn push_fish(text: &mut String, commands: &[Command<'_>]) -> Result<(), AllocErr
         "# What fish completes the words of bully by: ~/.config/fish/completions/bully.fish.\ncomplete -c bully -f\n",
     )?;
     text.push_str(
-        "complete -c bully -n __fish_use_subcommand -l help -d 'Prints help'\ncomplete -c bully -n __fish_use_subcommand -l version -d 'Prints the version'\n",
+        "complete -c bully -n __fish_use_subcommand -l help -d 'Prints help'\n\
+         complete -c bully -n __fish_use_subcommand -l version -d 'Prints the version'\n",
     )?;
     text.push_str(
         "complete -c bully -n __fish_use_subcommand -a help -d 'Prints help of a command'\n",

@@ -83,7 +83,8 @@ fn form_rest<R: Read + Drop>(
     let mut text = Draft::new(alloc);
     if rows.number() == 0 {
         text.push_str(
-            "a trace begins with a header, as bully,1,3,12: the word bully, the version, how many nodes and how many partitions there are",
+            "a trace begins with a header, as bully,1,3,12: the word bully, the version, how many nodes and how many \
+             partitions there are",
         );
     } else if !push_unended(&mut text, rows) {
         push_why(&mut text, rows.fields(), account, cause);

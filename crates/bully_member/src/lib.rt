@@ -14,7 +14,8 @@ ghost use Rattle.bully_member.specs.Admitting.{staying_among};
 ghost use Rattle.bully_member.specs.Asking.{ActsBy, MayBeSilent, Names, promise_of};
 ghost use Rattle.bully_member.specs.Due.{Sees, due, noted};
 ghost use Rattle.bully_member.specs.Keeping.{AcquiresAt, AppendsAt, BeginsBy, PromisesAt, RollsOverAt};
-ghost use Rattle.bully_member.specs.Member.{MemberState, admitted_among, heeds_promises, is_kept_out, is_under_way, replica_of};
+ghost use Rattle.bully_member.specs.Member.{MemberState, admitted_among, heeds_promises, is_kept_out, is_under_way};
+ghost use Rattle.bully_member.specs.Member.{replica_of};
 ghost use Rattle.bully_member.specs.Rebalance.{rebalanced_nodes};
 ghost use Rattle.bully_member.specs.Roles.{needs_promises, unpromised, without_promises};
 ghost use Rattle.bully_member.specs.Stopping.{GoesOnWorking, IsTaken, StopsFor};
@@ -87,8 +88,8 @@ pub fn asks_by_the_rules()
 /// What a snapshot must show, by role. A member of a cooperative group that isn't about to change the log sees and does
 /// the same whether or not it knows what others have promised. That is so if [`Member::needs_promises`] returns false
 /// (`answers`): a higher node is live, and the group is stable for the member, or its turn hasn't come. Without those
-/// promises that returns false, too. So the member needs rows, leases, requests and its own promise alone. It also admits
-/// the same (`admits`), if a snapshot shows it nobody whom it admits only while a change is under way.
+/// promises that returns false, too. So the member needs rows, leases, requests and its own promise alone. It also
+/// admits the same (`admits`), if a snapshot shows it nobody whom it admits only while a change is under way.
 pub fn needs_no_promises()
     ensures sees { (m : MemberState) (now : ℕ) (s : SightState) → heeds_promises m ≡ false → Sees m now s
         → Sees (without_promises m) now s }
@@ -98,7 +99,8 @@ pub fn needs_no_promises()
         → needs_promises m now s.is_stable ≡ false
         → Sees (without_promises m) now s × (due (without_promises m) now s ≡ due m now s)
         × (needs_promises (without_promises m) now s.is_stable ≡ false) }
-    ensures admits { (m : MemberState) (now : ℕ) (leases : List LeaseState) → list_any (is_kept_out m now) leases ≡ false
+    ensures admits { (m : MemberState) (now : ℕ) (leases : List LeaseState)
+        → list_any (is_kept_out m now) leases ≡ false
         → admitted_among m now (map (unpromised m.terms.node) leases) ≡ admitted_among m now leases }
 {}
 

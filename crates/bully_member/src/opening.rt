@@ -26,8 +26,8 @@ pub struct Terms {
     /// a node that the group doesn't have.
     pub old: Option<Table>,
     /// Whether the group is cooperative: a change of it stops only the work that moves. Otherwise it is eager, and a
-    /// change stops all work. All members of a group must agree on that. In a cooperative group a resource must keep the
-    /// highest token of each partition.
+    /// change stops all work. All members of a group must agree on that. In a cooperative group a resource must keep
+    /// the highest token of each partition.
     pub is_cooperative: bool,
 }
 

@@ -49,7 +49,8 @@ details::details-content { content-visibility: visible; block-size: auto; }\n\
 
 // The search. It is hidden, until the script shows it.
 const SEARCH: &str = "\
-<p id=\"search\" hidden><label>Rows with <input type=\"search\" id=\"sought\" autocomplete=\"off\"></label> <output id=\"found\"></output></p>\n";
+<p id=\"search\" hidden><label>Rows with <input type=\"search\" id=\"sought\" autocomplete=\"off\"></label> <output \
+id=\"found\"></output></p>\n";
 
 // The script. The box of the picture opens at the row that decided, and the verdict is a link to it, if it is shown.
 // The search: of what is typed, the rows that have it are open, and the others hidden.
@@ -72,7 +73,8 @@ found.textContent = words ? `${count} of ${rows.length}` : '';\n\
 }\n\
 sought.addEventListener('input', search);\n\
 document.getElementById('search').hidden = false;\n\
-const decided = document.getElementById('decided'), box = document.querySelector('.picture'), heading = document.querySelector('h1');\n\
+const decided = document.getElementById('decided'), box = document.querySelector('.picture'), heading = \
+document.querySelector('h1');\n\
 if (decided) {\n\
 box.scrollTop = decided.getBoundingClientRect().top - box.getBoundingClientRect().top - box.clientHeight / 2;\n\
 const link = document.createElement('a');\n\

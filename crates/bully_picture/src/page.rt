@@ -35,9 +35,12 @@ const BELOW: u32 = 40;
 // What stands at the head of each picture.
 const MARKERS: &str = "\
 <defs>\
-<marker id=\"call\" viewBox=\"0 0 8 8\" refX=\"7\" refY=\"4\" markerWidth=\"7\" markerHeight=\"7\" orient=\"auto\"><path d=\"M0 0L8 4L0 8z\" fill=\"#222\"/></marker>\n\
-<marker id=\"reply\" viewBox=\"0 0 8 8\" refX=\"7\" refY=\"4\" markerWidth=\"6\" markerHeight=\"6\" orient=\"auto\"><path d=\"M0 0L8 4L0 8z\" fill=\"#999\"/></marker>\n\
-<marker id=\"lost\" viewBox=\"0 0 8 8\" refX=\"5\" refY=\"4\" markerWidth=\"9\" markerHeight=\"9\"><path d=\"M1 1L7 7M7 1L1 7\" stroke=\"#D55E00\" stroke-width=\"1.6\"/></marker>\
+<marker id=\"call\" viewBox=\"0 0 8 8\" refX=\"7\" refY=\"4\" markerWidth=\"7\" markerHeight=\"7\" \
+orient=\"auto\"><path d=\"M0 0L8 4L0 8z\" fill=\"#222\"/></marker>\n\
+<marker id=\"reply\" viewBox=\"0 0 8 8\" refX=\"7\" refY=\"4\" markerWidth=\"6\" markerHeight=\"6\" \
+orient=\"auto\"><path d=\"M0 0L8 4L0 8z\" fill=\"#999\"/></marker>\n\
+<marker id=\"lost\" viewBox=\"0 0 8 8\" refX=\"5\" refY=\"4\" markerWidth=\"9\" markerHeight=\"9\"><path d=\"M1 1L7 \
+7M7 1L1 7\" stroke=\"#D55E00\" stroke-width=\"1.6\"/></marker>\
 </defs>\n\
 <rect width=\"100%\" height=\"100%\" fill=\"white\"/>\n";
 
@@ -45,10 +48,14 @@ const MARKERS: &str = "\
 const LEGEND: &str = "\
 <line x1=\"70\" y1=\"36\" x2=\"70\" y2=\"52\" stroke=\"#aaa\" stroke-width=\"2\" stroke-dasharray=\"2 4\"/>\
 <text x=\"81\" y=\"48\" font-size=\"11\">down</text>\
-<rect x=\"122\" y=\"38\" width=\"12\" height=\"12\" fill=\"#E69F00\"/><text x=\"139\" y=\"48\" font-size=\"11\">election</text>\
-<rect x=\"208\" y=\"38\" width=\"12\" height=\"12\" fill=\"#56B4E9\"/><text x=\"225\" y=\"48\" font-size=\"11\">reorganization</text>\
-<rect x=\"336\" y=\"38\" width=\"12\" height=\"12\" fill=\"#009E73\"/><text x=\"353\" y=\"48\" font-size=\"11\">normal</text>\n\
-<text x=\"64\" y=\"64\" font-size=\"10\" fill=\"#555\">solid: a call; dotted: its reply; a red cross: it fails; grey: an orphan; rings: recover and move; a black bar: a Halt cuts a procedure off</text>\n";
+<rect x=\"122\" y=\"38\" width=\"12\" height=\"12\" fill=\"#E69F00\"/><text x=\"139\" y=\"48\" \
+font-size=\"11\">election</text>\
+<rect x=\"208\" y=\"38\" width=\"12\" height=\"12\" fill=\"#56B4E9\"/><text x=\"225\" y=\"48\" \
+font-size=\"11\">reorganization</text>\
+<rect x=\"336\" y=\"38\" width=\"12\" height=\"12\" fill=\"#009E73\"/><text x=\"353\" y=\"48\" \
+font-size=\"11\">normal</text>\n\
+<text x=\"64\" y=\"64\" font-size=\"10\" fill=\"#555\">solid: a call; dotted: its reply; a red cross: it fails; grey: \
+an orphan; rings: recover and move; a black bar: a Halt cuts a procedure off</text>\n";
 
 // What letters at arrows mean.
 const LETTERS: &str = "\

@@ -61,8 +61,8 @@ fn push_if(is_left: bool, partition: u16, left: &mut Vec<u16>) -> Result<(), Out
     Ok(())
 }
 
-/// The nodes that lose a partition if the first table is followed by the second: those to which the first gives one that
-/// the second, if there is one, doesn't give them. All others lose nothing by it. The rule: docs/REBALANCING.md.
+/// The nodes that lose a partition if the first table is followed by the second: those to which the first gives one
+/// that the second, if there is one, doesn't give them. All others lose nothing by it. The rule: docs/REBALANCING.md.
 pub fn losers(before: &Table, after: Option<&Table>) -> NodeSet
     ensures { (i : ℕ) → Contains result i ↔ Loses before.now (option_copied after.entry) i }
 {

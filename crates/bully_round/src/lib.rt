@@ -20,7 +20,8 @@ ghost use Rattle.bully_member.specs.declared.values.Step.{Step};
 ghost use Rattle.bully_replica.specs.Replica.{IsLogOf};
 ghost use Rattle.bully_round.specs.From.{AreReady, HasFoundSame, HasMember, InRun, IsGrownBy, IsPartOf, IsRoundFrom};
 ghost use Rattle.bully_round.specs.From.{IsSameReplica, IsUpTo, NamesReady, TakesTurns, calls_on};
-ghost use Rattle.bully_round.specs.Group.{Appends, HasLearnedOf, HasSameView, HaveLooked, HaveOneView, IsAlert, IsAtRest};
+ghost use Rattle.bully_round.specs.Group.{Appends, HasLearnedOf, HasSameView, HaveLooked, HaveOneView, IsAlert};
+ghost use Rattle.bully_round.specs.Group.{IsAtRest};
 ghost use Rattle.bully_round.specs.Group.{IsRound, Look, LooksAgain, Passage, after_in, all_turns, table_of};
 ghost use Rattle.bully_round.specs.Progress.{DoesTasks, IsCalm, Owns, ShowsChange, TakesTurn, Turn, change_of};
 ghost use Rattle.bully_round.specs.Progress.{changes_log, is_task, step_at_rest, to_do};
@@ -30,13 +31,13 @@ ghost use Rattle.bully_work.specs.Store.{AcceptsAppend, Lease as Held, Piece, cu
 ghost use Rattle.bully_work.specs.Working.{GivesTo};
 
 /// The law of one member's progress. A member is *calm* if it has its lease, goes on in its epoch, and nothing is under
-/// way (`IsCalm`). What is left for it to do by itself is a number (`to_do`): to stop what it may not go on with, to read
-/// a snapshot if one is due, and then to promise, or in a stable group to begin. In a turn (`TakesTurn`) it does its next
-/// step; a request is then done, what was to be stopped ends, and a snapshot is of its epoch.
+/// way (`IsCalm`). What is left for it to do by itself is a number (`to_do`): to stop what it may not go on with, to
+/// read a snapshot if one is due, and then to promise, or in a stable group to begin. In a turn (`TakesTurn`) it does
+/// its next step; a request is then done, what was to be stopped ends, and a snapshot is of its epoch.
 ///
 /// - `acts`: as long as something is left, its next step does some of it: it doesn't wait.
-/// - `rests`: once nothing is left, its next step is this: in a stable group it waits; otherwise it waits to be admitted,
-///   for its turn, or for the others; and once its turn has come, and all are ready, it changes the log.
+/// - `rests`: once nothing is left, its next step is this: in a stable group it waits; otherwise it waits to be
+///   admitted, for its turn, or for the others; and once its turn has come, and all are ready, it changes the log.
 /// - `falls`: each turn that does some of it leaves less.
 /// - `bounded`: so after at most 4 such turns nothing is left. It doesn't read snapshots, promise or begin for ever.
 /// - `exactly`: if nothing is left in a stable group, it works on exactly what its node owns.
@@ -98,8 +99,8 @@ pub fn progress_of_one()
 ///
 /// There are such members: two that have promised and look again (`look`), two of one view (`some`), two to whom a
 /// snapshot showed a change, of whom the higher one changes the log (`alert`), and those that have learned a rebalance
-/// (`after`). There is such a round (`whole`): of two members, after a log that they have learned. So both read the rows
-/// of its rebalance.
+/// (`after`). There is such a round (`whole`): of two members, after a log that they have learned. So both read the
+/// rows of its rebalance.
 pub fn round_becomes_stable()
     ensures again { (leases : List Lease) (m after : MemberState) (later : ℕ) (t : Sight) → LooksAgain leases m after
         → IsCalm after later → Sees after later t → t.is_stable ≡ false → to_do after t ≡ 0 }

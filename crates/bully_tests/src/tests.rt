@@ -1,5 +1,6 @@
-//! Worked cases: of the model, of groups under their lock, and of nodes at work; and the scripts.
+//! Worked cases: of the model, of groups under their lock, of nodes at work, and of colours; and the scripts.
 
+mod colours;
 mod groups;
 mod model;
 mod nodes;

@@ -1,17 +1,21 @@
 //! A workbench: what the scripts of `bench/` time, nodes on their own over simulated networks, and each public call
 //! that takes memory.
 //!
-//!     plan ROUNDS               plans for random groups: the sums of their moves and of their bounds, and a number that all owners make
+//!     plan ROUNDS               plans for random groups: the sums of their moves and of their bounds, and a number
+//!                               that all owners make
 //!     records                   how many records `csv` finds on standard input
-//!     turns NODES COUNT         turns of a group under its lock: how many entries there are, and a number that all make
+//!     turns NODES COUNT         turns of a group under its lock: how many entries there are, and a number that all
+//!                               make
 //!     quiet NODES LOOKS         looks of an observer, with nothing beside them, and a number that the last view makes
 //!     glances NODES GLANCES     glances of an observer, with nothing beside them, and a number that the last one makes
-//!     publishing NODES LOOKS    looks of an observer beside a thread that takes turns, and how often that one published
-//!     watch TURNS               turns of each node in a thread of its own, beside threads that look: entries, looks, entries seen at most
+//!     publishing NODES LOOKS    looks of an observer beside a thread that takes turns, and how often that published
+//!     watch TURNS               turns of each node in a thread of its own, beside threads that look: entries, looks,
+//!                               entries seen at most
 //!
 //!     trace NODES SEED STEPS [BREACH]   the trace of a network, at whose end each node's vector stands
 //!     requests NODES STEPS              how many requests ran in the network of seed 1
-//!     follow                            how many events of a trace nodes on their own take as a world does, up to one that is refused
+//!     follow                            how many events of a trace nodes on their own take as a world does, up to one
+//!                                       that is refused
 //!     agents TURNS                      the same, and then two of these nodes take so many turns
 //!     world TURNS                       the same, and then the world takes these turns
 //!     learn                             the verdict on a trace that a replica learns row by row

@@ -172,8 +172,8 @@ impl Member {
         }
     }
 
-    /// All work has ended by itself. The token is that of the last `Step::Begin`, also for work that was started before.
-    /// Nothing changes with another one, or if the member works on nothing that it wasn't asked to stop.
+    /// All work has ended by itself. The token is that of the last `Step::Begin`, also for work that was started
+    /// before. Nothing changes with another one, or if the member works on nothing that it wasn't asked to stop.
     pub fn lost(&mut self, token: u32)
         ensures { self.new ≡ lost self.old token }
     {

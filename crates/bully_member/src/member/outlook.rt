@@ -2,7 +2,8 @@
 ghost use Rattle.std.specs.Prelude.{◌≡◌, ◌+◌, ◌↔◌, ℕ, List, Contains, IfOk};
 ghost use Rattle.std.specs.Option.{option_copied};
 ghost use Rattle.bully_base.specs.NodeSet.{IsFallingBelow};
-ghost use Rattle.bully_member.specs.Member.{AreNodes, IsForeseen, admitted_among, asks_for_change, coming_by, is_admitted};
+ghost use Rattle.bully_member.specs.Member.{AreNodes, IsForeseen, admitted_among, asks_for_change, coming_by};
+ghost use Rattle.bully_member.specs.Member.{is_admitted};
 ghost use Rattle.bully_member.specs.Member.{IsAffected, is_affected, is_in_group, is_under_way, live_of, replica_of};
 ghost use Rattle.bully_member.specs.declared.values.Lease.{Lease as LeaseState};
 ghost use Rattle.bully_rebalance.specs.Rebalancing.{is_member};
@@ -134,8 +135,8 @@ impl Member {
             && (!self.is_down(lease.node) || self.stay_left(now, lease.node) == 0 || is_under_way)
     }
 
-    // Whether a change is under way, as far as these leases show: a node that is up in the log has promised its end. Then
-    // all members admit the same nodes, whatever each remembers of them.
+    // Whether a change is under way, as far as these leases show: a node that is up in the log has promised its end.
+    // Then all members admit the same nodes, whatever each remembers of them.
     fn is_under_way(&self, leases: &[Lease]) -> bool
         ensures { result ≡ is_under_way self.now leases.now }
     {

@@ -15,8 +15,10 @@ ghost use Rattle.bully_member.specs.Due.{unstable_step, until_ready};
 ghost use Rattle.bully_member.specs.Keeping.{Awaits, Keeps, WorksOnlyIfSure};
 ghost use Rattle.bully_member.specs.Member.{AllAreDown, SeesStable, above, all_ready, are_of, closes, has_promised};
 ghost use Rattle.bully_member.specs.Member.{has_room};
-ghost use Rattle.bully_member.specs.Member.{heeded, heeds_promises, here, is_alone, is_closing, is_down, is_ready, is_ready_itself, lease_of};
-ghost use Rattle.bully_member.specs.Member.{is_held_off, is_kept_out, is_returning, most_promised, offset_in, replica_of, stay_left};
+ghost use Rattle.bully_member.specs.Member.{heeded, heeds_promises, here, is_alone, is_closing, is_down, is_ready};
+ghost use Rattle.bully_member.specs.Member.{is_ready_itself, lease_of};
+ghost use Rattle.bully_member.specs.Member.{is_held_off, is_kept_out, is_returning, most_promised, offset_in};
+ghost use Rattle.bully_member.specs.Member.{replica_of, stay_left};
 ghost use Rattle.bully_member.specs.Roles.{needs_promises};
 ghost use Rattle.bully_member.specs.Told.{SeesIfFound};
 ghost use Rattle.bully_member.specs.Times.{turn_left};
@@ -564,10 +566,10 @@ impl Member {
             && !self.is_closing()
     }
 
-    /// Whether the next snapshot must show what others have promised. In an eager group it must. In a cooperative one it
-    /// must if no higher node is live, or if the group isn't stable for the member and its turn to change the log has
-    /// come, or if somebody came again whom it admits only while a change is under way. Otherwise a snapshot may leave
-    /// promises of others out, as if nobody had promised anything: the member does the same
+    /// Whether the next snapshot must show what others have promised. In an eager group it must. In a cooperative one
+    /// it must if no higher node is live, or if the group isn't stable for the member and its turn to change the log
+    /// has come, or if somebody came again whom it admits only while a change is under way. Otherwise a snapshot may
+    /// leave promises of others out, as if nobody had promised anything: the member does the same
     /// ([`needs_no_promises`](crate::needs_no_promises)). A snapshot may change what this returns. If it returns true
     /// after one that left promises out, the member needs another one.
     pub fn needs_promises(&self, now: u64) -> bool

@@ -5,7 +5,8 @@ ghost use Rattle.std.specs.Option.{option_copied};
 ghost use Rattle.bully_member.specs.Member.{AreNodes, Foresees, IsForeseen, lease_of, replica_of};
 ghost use Rattle.bully_member.specs.Told.{alike, arrivals_then, arrived, found, found_here, awaits_snapshot};
 ghost use Rattle.bully_member.specs.Told.{TakesIn, own_promise, same_leases, snapshot_lost, snapshot_read, stay_of};
-ghost use Rattle.bully_member.specs.Told.{is_passed, last_change_then, passed_among, with_arrival, with_arrivals, with_own};
+ghost use Rattle.bully_member.specs.Told.{is_passed, last_change_then, passed_among, with_arrival, with_arrivals};
+ghost use Rattle.bully_member.specs.Told.{with_own};
 
 use super::Member;
 use super::outlook::{Outlook, has};
@@ -233,8 +234,8 @@ fn note_arrival(arrivals: &mut [Arrival], lease: &Lease, passed: &NodeSet, ttl: 
     }
 }
 
-// What is noted of a session that holds the lease of a node, after this was noted for that node: if it is known, and was
-// passed over, it must stay longer from now on.
+// What is noted of a session that holds the lease of a node, after this was noted for that node: if it is known, and
+// was passed over, it must stay longer from now on.
 fn arrived(before: Arrival, session: SessionId, is_passed: bool, ttl: u64, now: u64) -> Arrival
     requires { ttl ≤ TTL_MAX }
     ensures { result ≡ arrived before session is_passed ttl now }
