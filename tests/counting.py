@@ -62,7 +62,8 @@ class CountingResult(unittest.TextTestResult):
 
 
 def run_folder(folder: Path, package: str, counts: Counts, names: Sequence[str] = ()) -> None:
-    """Runs the tests of each module `test_NAME.py` of the folder, which is that package; of those of these names, if some are told."""
+    """Runs the tests of each module `test_NAME.py` of the folder, which is that package; of those of these names, if
+    some are told."""
     there = sorted(path.stem for path in folder.glob('test_*.py'))
     for name in [name for name in there if not names or name in names]:
         tests = unittest.defaultTestLoader.loadTestsFromName(f'{package}.{name}')

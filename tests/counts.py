@@ -1,5 +1,5 @@
-"""Results. The last line of each program that tests is 'N passed, M failed', or 'N passed, M failed, K skipped' if something isn't there that
-it takes to try them; its exit status is 0 if M is 0 and something was tried or skipped."""
+"""Results. The last line of each program that tests is 'N passed, M failed', or 'N passed, M failed, K skipped' if
+something isn't there that it takes to try them; its exit status is 0 if M is 0 and something was tried or skipped."""
 import re
 
 # (and what rattle-test says)
@@ -26,7 +26,8 @@ class Counts:
         print(f'skipped: {what}: {why}', flush=True)
 
     def add(self, said: str, status: int, command: str) -> None:
-        """Adds the counts of the last line that a command said. One that ended badly has to count a failure, and each has to count one at all."""
+        """Adds the counts of the last line that a command said. One that ended badly has to count a failure, and each
+        has to count one at all."""
         lines = said.splitlines()
         last = LAST.fullmatch(lines[-1]) if lines else None
         passed, failed, skipped = (int(each or 0) for each in last.groups()) if last else (0, 0, 0)

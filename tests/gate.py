@@ -25,8 +25,8 @@ DONE = re.compile(r'^rt: (\w+) (?:NOT PROVED|proved|is kept)')
 
 
 def run_gate(run: Run, crates: Crates, pool: ThreadPoolExecutor) -> bool:
-    """Runs `rt ci`, says which crates it is done with, and adds its counts. Returns whether it was green. A thread begins it: a signal, which
-    comes to the main one, comes before that or after it."""
+    """Runs `rt ci`, says which crates it is done with, and adds its counts. Returns whether it was green. A thread
+    begins it: a signal, which comes to the main one, comes before that or after it."""
     if 'library' in run.done:
         pool.submit(make_library, run, crates)
     words = ['env', 'PYTHONUNBUFFERED=1', f'RT_JOBS={os.environ.get("RT_JOBS") or all_jobs()}', 'rt', 'ci']
@@ -55,7 +55,8 @@ def make_library(run: Run, crates: Crates) -> None:
 
 
 def take_gated(crates: Crates, texts: Dict[str, str]) -> None:
-    """Takes what a green gate has proved and built as made of what these texts say. It left each library in out/rlib."""
+    """Takes what a green gate has proved and built as made of what these texts say. It left each library in
+    out/rlib."""
     for crate in crates.values():
         if crate.kind == 'library':
             drop(crate.product)
@@ -77,18 +78,20 @@ def commit_here() -> str:
 
 
 def record_of(last: str, commit: str) -> List[str]:
-    """What is recorded of a run: its last line, the commit, the kit, and the SHA-256 of what it built that is handed out."""
+    """What is recorded of a run: its last line, the commit, the kit, and the SHA-256 of what it built that is handed
+    out."""
     built = [f'{hashlib.sha256((ROOT / name).read_bytes()).hexdigest()}  {name}' for name in HANDED_OUT]
     return [last, commit, version_of(find_kit()), *built]
 
 
 def prove(how: str) -> Counts:
-    """The gate, and all that is tried beside it. What a green gate built is taken; and if all is green, and was committed, it is recorded for
-    bindings/packaging/release; but not if something changed meanwhile."""
+    """The gate, and all that is tried beside it. What a green gate built is taken; and if all is green, and was
+    committed, it is recorded for bindings/packaging/release; but not if something changed meanwhile."""
     crates, commit = read_crates(), commit_here()
     texts = made_of(crates, crates, find_kit())
     RECORD.unlink(missing_ok=True)
-    # (at its end `rt ci` puts back over its own libraries what was there; and no older archive is to be taken for its own)
+    # (at its end `rt ci` puts back over its own libraries what was there; and no older archive is to be taken for its
+    # own)
     drop(ARCHIVE)
     for crate in crates.values():
         shutil.rmtree(crate.library('rlib').parent, ignore_errors=True)
@@ -97,7 +100,10 @@ def prove(how: str) -> Counts:
             Path(room, crate.name).symlink_to(crate.product)
         # (of a crate with a folder must-fail `rt ci` tries those, each alone)
         tried = dict.fromkeys(edit.crate for edit in edits('wrong-bodies') if not (edit.folder / 'must-fail').is_dir())
-        refused = [Part(f'wrong-bodies of {name}', f'tests/edits/try --gated {name}', proved=name, limit=7200) for name in tried]
+        refused = [
+            Part(f'wrong-bodies of {name}', f'tests/edits/try --gated {name}', proved=name, limit=7200)
+            for name in tried
+        ]
         run = Run([*chosen([], how), *refused], how, Path(room), crates)
         is_green = run.run(lambda pool: run_gate(run, crates, pool))
     counts = run.counts

@@ -1,5 +1,5 @@
-"""The parts of what is tried, and how they run: each as soon as what it needs is built, beside the others. Over what is built without proofs
-here for `bin/test`, and over what the gate proves for `bin/prove`."""
+"""The parts of what is tried, and how they run: each as soon as what it needs is built, beside the others. Over what is
+built without proofs here for `bin/test`, and over what the gate proves for `bin/prove`."""
 import resource
 import shutil
 import tempfile
@@ -20,9 +20,10 @@ from counts import Counts
 
 
 class Part(NamedTuple):
-    """A command that counts by itself, in which BUILT stands for the folder of what is tried, and KIT for the kit; what of that it needs; the tools
-    without which it is skipped; its words more in `bin/test`, in `bin/prove`, and for `--full`; after how many seconds it is ended; and a crate for
-    whose proof it waits, over which it has the prover work. One of an option alone says so by `none` in the place of the words of the others."""
+    """A command that counts by itself, in which BUILT stands for the folder of what is tried, and KIT for the kit; what
+    of that it needs; the tools without which it is skipped; its words more in `bin/test`, in `bin/prove`, and for
+    `--full`; after how many seconds it is ended; and a crate for whose proof it waits, over which it has the prover
+    work. One of an option alone says so by `none` in the place of the words of the others."""
 
     name: str
     words: str
@@ -35,7 +36,8 @@ class Part(NamedTuple):
     proved: str = ''
 
     def more(self, how: str) -> str:
-        """The words more of a way to run it: `short`, `whole`, or `full`, which are those of `whole` if it has none of its own."""
+        """The words more of a way to run it: `short`, `whole`, or `full`, which are those of `whole` if it has none of
+        its own."""
         return {'short': self.short, 'whole': self.whole, 'full': self.full or self.whole}[how]
 
 
@@ -141,16 +143,21 @@ class Run:
         if lacking:
             return f'skipped: {part.name}: there is no {lacking[0]}\n0 passed, 0 failed, 1 skipped', 0, 0.0
         kit = str(find_kit()) if 'KIT' in part.words else ''
-        words = f'{part.words} {"" if more == NONE else more}'.replace('BUILT', str(self.built)).replace('KIT', kit).split()
+        words = (
+            f'{part.words} {"" if more == NONE else more}'.replace('BUILT', str(self.built)).replace('KIT', kit).split()
+        )
         with self.provers if part.proved else self.turns, tempfile.TemporaryFile() as said:
             began = time.monotonic()
-            status = self.children.begin(['env', f'BULLY_BUILT={self.built}', 'timeout', str(part.limit), *words], ROOT, said).wait()
+            status = self.children.begin(
+                ['env', f'BULLY_BUILT={self.built}', 'timeout', str(part.limit), *words], ROOT, said
+            ).wait()
             said.seek(0)
             return said.read().decode(errors='replace'), status, time.monotonic() - began
 
     def run(self, make: Callable[[ThreadPoolExecutor], bool]) -> bool:
-        """Runs the parts beside what makes the things that they need, adds their counts, and prints how long all took. Returns what that gave. If
-        this command is ended meanwhile, what runs is ended, too; then the parts that wait continue, and start nothing."""
+        """Runs the parts beside what makes the things that they need, adds their counts, and prints how long all took.
+        Returns what that gave. If this command is ended meanwhile, what runs is ended, too; then the parts that wait
+        continue, and start nothing."""
         began = time.monotonic()
         with ThreadPoolExecutor(len(self.parts) + len(self.done) + 1) as pool, ExitStack() as behind, self.children:
             behind.callback(self.all_are_done)
@@ -173,7 +180,9 @@ def make_unproved(name: str, run: Run, room: Path, say: Say) -> None:
     kit, crates = find_kit(), read_crates()
     crate = crates['bully_c' if name == 'library' else name]
     try:
-        build_for_tests(Building(kit, crates, crate, made_of(crates, crate.all, kit), say, run.children, room, time.monotonic()))
+        build_for_tests(
+            Building(kit, crates, crate, made_of(crates, crate.all, kit), say, run.children, room, time.monotonic())
+        )
         if name == 'library':
             make_library(run.built / name, lambda _: product_of(crate), say)
     except (Stopped, OSError) as why:
@@ -182,7 +191,8 @@ def make_unproved(name: str, run: Run, room: Path, say: Say) -> None:
 
 
 def test(names: List[str], how: str, say: Say) -> Counts:
-    """Tries these parts, or all, over what is built without proofs: as many things at once as there are cores, first those that most waits for."""
+    """Tries these parts, or all, over what is built without proofs: as many things at once as there are cores, first
+    those that most waits for."""
     run = Run(chosen(names, how), how, FOLDER)
     things = sorted(run.done, key=lambda name: FIRST.index(name) if name in FIRST else len(FIRST))
     with alone(say), tempfile.TemporaryDirectory() as room, ThreadPoolExecutor(all_jobs()) as builders:

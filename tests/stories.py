@@ -1,4 +1,5 @@
-"""Reads the stories of `bindings/stories`, which the bindings of C and Python are tried by. (That of Rust has a reader of its own.)
+"""Reads the stories of `bindings/stories`, which the bindings of C and Python are tried by. (That of Rust has a reader
+of its own.)
 
 The README there has the format."""
 from __future__ import annotations
@@ -104,7 +105,9 @@ class Reader:
     def call(self, file: str, number: int, line: str) -> Call:
         told, arrow, answered = line.partition(' -> ')
         first, _, rest = told.partition(' ')
-        handle, name = ('', first) if not re.match('(agent|replica|member)[0-9]*$', first) else (first, rest.partition(' ')[0])
+        handle, name = (
+            ('', first) if not re.match('(agent|replica|member)[0-9]*$', first) else (first, rest.partition(' ')[0])
+        )
         answers = self.all_values(answered)
         status = 'OK'
         if answers and isinstance(answers[0], Word) and answers[0] in self.statuses:
@@ -160,14 +163,17 @@ def name_of(told: str) -> Word:
 
 
 def example(path: Path) -> Iterator[Call]:
-    """What a trace of `examples/` says, and the verdict beside it: one replica learns its rows one by one, and another one at once."""
+    """What a trace of `examples/` says, and the verdict beside it: one replica learns its rows one by one, and another
+    one at once."""
     header, *rows = path.read_bytes().splitlines(keepends=True)
     verdict, *nodes = path.with_suffix('.out').read_text().splitlines()
     kind, told, *cause = verdict.split()
     is_lawful, number = kind == 'lawful', int(told)
     status, taken = (name_of(cause[0]), number - 2) if cause else ('OK', len(rows))
 
-    def call(handle: str, name: str, arguments: list[Value], answers: list[Value], status: str = 'OK', line: int = 1) -> Call:
+    def call(
+        handle: str, name: str, arguments: list[Value], answers: list[Value], status: str = 'OK', line: int = 1
+    ) -> Call:
         return Call(path.name, line, handle, name, arguments, status, answers)
 
     judged: dict[str, Value] = {'kind': name_of(kind), 'number': number, 'cause': Word('OK' if is_lawful else status)}
@@ -182,7 +188,12 @@ def example(path: Path) -> Iterator[Call]:
         yield call(replica, 'group', [], [Fields({'rows': taken, **({'events': number} if is_lawful else {})}, False)])
         for node, shown, *others, owners in (line.split() for line in nodes):
             coordinator, halter = (0 if each == '-' else int(each) for each in others)
-            state: dict[str, Value] = {'node': int(node), 'status': name_of(shown), 'coordinator': coordinator, 'halter': halter}
+            state: dict[str, Value] = {
+                'node': int(node),
+                'status': name_of(shown),
+                'coordinator': coordinator,
+                'halter': halter,
+            }
             yield call(replica, 'show', [int(node)], [Fields(state, False)])
             yield call(replica, 'task', [int(node)], [[] if owners == '-' else list(map(int, owners.split(',')))])
 
@@ -190,4 +201,6 @@ def example(path: Path) -> Iterator[Call]:
 def bytes_of(text: str) -> bytes:
     """A text in quotes: \\n, \\r, \\", \\\\, and \\xHH for any other byte."""
     parts = re.findall(r'\\x(..)|\\(.)|([^\\]+)', text)
-    return b''.join(bytes.fromhex(code) if code else ESCAPES[escape] if escape else plain.encode() for code, escape, plain in parts)
+    return b''.join(
+        bytes.fromhex(code) if code else ESCAPES[escape] if escape else plain.encode() for code, escape, plain in parts
+    )

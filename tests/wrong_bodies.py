@@ -1,9 +1,10 @@
-"""The wrong bodies: edits of crates/NAME/must-fail, wrong-bodies and more-wrong-bodies, and what each says of itself. The gate tries those of the first
-two.
+"""The wrong bodies: edits of crates/NAME/must-fail, wrong-bodies and more-wrong-bodies, and what each says of itself.
+The gate tries those of the first two.
 
-An edit has lines `file: PATH`, and then `old: TEXT` and `new: TEXT` of one line each, where the text stands once in that file. Its first line names
-the clause that refuses it, and after that where a goal stays open, if that is elsewhere: '# film_of (told), in keep'. Without brackets it
-is whichever clause stays open. A field of what a clause says comes after a colon: '# World::apply_allowed (applied: step)'."""
+An edit has lines `file: PATH`, and then `old: TEXT` and `new: TEXT` of one line each, where the text stands once in
+that file. Its first line names the clause that refuses it, and after that where a goal stays open, if that is
+elsewhere: '# film_of (told), in keep'. Without brackets it is whichever clause stays open. A field of what a clause
+says comes after a colon: '# World::apply_allowed (applied: step)'."""
 import re
 from pathlib import Path
 from typing import Dict, List, NamedTuple, Optional, Set, Tuple
@@ -24,8 +25,9 @@ class Change(NamedTuple):
 
 
 class Edit(NamedTuple):
-    """A wrong body: its file, and what its first line names, each empty if it doesn't: the function and the clause that refuse it, a field of that
-    clause, and the function or the type in which a goal stays open, with the clause there."""
+    """A wrong body: its file, and what its first line names, each empty if it doesn't: the function and the clause that
+    refuse it, a field of that clause, and the function or the type in which a goal stays open, with the clause
+    there."""
 
     path: Path
     name: str
@@ -54,7 +56,8 @@ class Edit(NamedTuple):
         return (self.place, self.clause_there) if self.place else (self.name, self.clause)
 
     def applied(self, texts: Dict[str, str]) -> Optional[str]:
-        """Makes its changes in these texts of its crate, to which it adds the files that it changes. Says why it can't, if it can't."""
+        """Makes its changes in these texts of its crate, to which it adds the files that it changes. Says why it can't,
+        if it can't."""
         for file, old, new in self.changes:
             if not (self.folder / file).is_file():
                 return f'there is no {file}'
@@ -66,7 +69,9 @@ class Edit(NamedTuple):
 
     def functions(self) -> Set[str]:
         """The functions in whose bodies its changes lie; an empty name for a change that lies in none."""
-        return {function_at((self.folder / change.file).read_text(encoding='utf-8'), change.old) for change in self.changes}
+        return {
+            function_at((self.folder / change.file).read_text(encoding='utf-8'), change.old) for change in self.changes
+        }
 
 
 def function_at(text: str, old: str) -> str:
@@ -94,4 +99,6 @@ def read_edit(path: Path) -> Edit:
 
 def edits(*folders: str) -> List[Edit]:
     """The edits of these folders of all crates, in the order of their names."""
-    return [read_edit(path) for path in sorted(ROOT.glob('crates/*/*/*.edit')) if path.parts[-2] in (folders or FOLDERS)]
+    return [
+        read_edit(path) for path in sorted(ROOT.glob('crates/*/*/*.edit')) if path.parts[-2] in (folders or FOLDERS)
+    ]

@@ -14,7 +14,8 @@ class Stopped(Exception):
 
 
 class Crate(NamedTuple):
-    """A line of crates.txt: the libraries that it names, and those of this repository that the crate stands on, lowest first."""
+    """A line of crates.txt: the libraries that it names, and those of this repository that the crate stands on, lowest
+    first."""
 
     name: str
     folder: Path
@@ -49,11 +50,17 @@ Crates = Dict[str, Crate]
 
 def read_crates(root: Path = ROOT) -> Crates:
     """The crates whose folders are there, each behind those that it stands on."""
-    heads = {line.split(':')[0].split()[0]: line for line in (root / 'crates.txt').read_text().splitlines() if ':' in line and line[0] != '#'}
+    heads = {
+        line.split(':')[0].split()[0]: line
+        for line in (root / 'crates.txt').read_text().splitlines()
+        if ':' in line and line[0] != '#'
+    }
     named = {name: line.partition(':')[2].split() for name, line in heads.items() if (root / 'crates' / name).is_dir()}
     crates: Crates = {}
     try:
-        order = list(TopologicalSorter({name: [each for each in named[name] if each in named] for name in named}).static_order())
+        order = list(
+            TopologicalSorter({name: [each for each in named[name] if each in named] for name in named}).static_order()
+        )
     except CycleError as error:
         raise Stopped(f'crates.txt has crates that stand on themselves: {" ".join(error.args[1])}') from None
     for name in order:
@@ -93,12 +100,18 @@ def words_of_logic(kit: Path, crate: Crate) -> List[str]:
 def sources_below(crates: Crates, crate: Crate) -> List[str]:
     """The words that hand the libraries below a crate on as source."""
     uses = {lower: ','.join(dict.fromkeys(('core', 'std', *crates[lower].named))) for lower in crate.below}
-    return [word for lower in crate.below for word in ('--lib', f'{lower}:{uses[lower]}={crates[lower].folder}/src/lib.rt')]
+    return [
+        word for lower in crate.below for word in ('--lib', f'{lower}:{uses[lower]}={crates[lower].folder}/src/lib.rt')
+    ]
 
 
 def libraries_of_kit(crates: Crates, crate: Crate) -> List[str]:
     """The libraries of the kit that a crate and those below it name, with std."""
-    return list(dict.fromkeys(['std', *(library for each in crate.all for library in crates[each].named if library not in crates)]))
+    return list(
+        dict.fromkeys(
+            ['std', *(library for each in crate.all for library in crates[each].named if library not in crates)]
+        )
+    )
 
 
 def sources_of_kit(kit: Path, names: Iterable[str]) -> List[str]:
@@ -121,7 +134,10 @@ def words_over_sources(kit: Path, crates: Crates, crate: Crate) -> List[str]:
 
 def words_over_libraries(kit: Path, crates: Crates, crate: Crate, part: str = 'built') -> List[str]:
     """The words by which `rattle` checks a crate over the libraries that were built."""
-    files = {name: crates[name].library(part) if name in crates else f'{kit}/rlibs/{name}.rlib' for name in ('std', *crate.named)}
+    files = {
+        name: crates[name].library(part) if name in crates else f'{kit}/rlibs/{name}.rlib'
+        for name in ('std', *crate.named)
+    }
     words = [word for name, file in files.items() for word in ('--extern', f'{name}={file}')]
     words += [word for lower in crate.below for word in ('-L', f'dependency={crates[lower].library(part).parent}')]
     kind = ['--crate-type', 'staticlib'] if crate.kind == 'archive' else []

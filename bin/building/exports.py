@@ -1,5 +1,6 @@
-"""The functions for C of a library: each is public, and marked as one whose name C sees. A static library shows C none but its own functions, so one is
-made that has a function of the same name for each, and hands its arguments on. Thus the library is proved once, as any other is."""
+"""The functions for C of a library: each is public, and marked as one whose name C sees. A static library shows C none
+but its own functions, so one is made that has a function of the same name for each, and hands its arguments on. Thus
+the library is proved once, as any other is."""
 import re
 from pathlib import Path
 from typing import Iterator, NamedTuple, Tuple
@@ -11,7 +12,8 @@ EXPORT = re.compile(re.escape(MARK) + r'\s*pub extern "C" fn (\w+)\(([^)]*)\)( -
 
 
 class Export(NamedTuple):
-    """A function for C: its module, its name, its parameters as they are written, and the name of each; and what it gives."""
+    """A function for C: its module, its name, its parameters as they are written, and the name of each; and what it
+    gives."""
 
     module: str
     name: str
@@ -40,7 +42,12 @@ def text_of_exports(crate: Crate) -> str:
     """The source of the static library."""
     exports = list(exports_of(crate))
     types = sorted({word for each in exports for word in re.findall(r'\b[A-Z]\w+', each.takes)} - {'Global'})
-    text = [f'//! What C sees of {crate.name}.', '#![tactic(auto)]', f'use {crate.name}::{{{", ".join(types)}}};', 'use std::alloc::Global;']
+    text = [
+        f'//! What C sees of {crate.name}.',
+        '#![tactic(auto)]',
+        f'use {crate.name}::{{{", ".join(types)}}};',
+        'use std::alloc::Global;',
+    ]
     for each in exports:
         text += [MARK, f'pub extern "C" fn {each.name}({each.takes}){each.gives} {{']
         text += [f'    {crate.name}::{each.module}::{each.name}({", ".join(each.names)})', '}']

@@ -1,4 +1,5 @@
-"""What is kept of a build: the sum of what something is made of, the stamp beside it, and the locks that keep others out."""
+"""What is kept of a build: the sum of what something is made of, the stamp beside it, and the locks that keep others
+out."""
 import contextlib
 import fcntl
 import hashlib
@@ -11,7 +12,8 @@ from .crates import Crate, Crates, Stopped, version_of
 
 
 def sum_of(crate: Crate) -> str:
-    """The SHA-256 of its line in crates.txt, and of the names and the contents of its files, as sha256sum tells them."""
+    """The SHA-256 of its line in crates.txt, and of the names and the contents of its files, as sha256sum tells
+    them."""
     files = [path for part in ('src', 'specs', 'proofs') for path in (crate.folder / part).rglob('*') if path.is_file()]
     told = {str(path.relative_to(crate.folder)): hashlib.sha256(path.read_bytes()).hexdigest() for path in files}
     lines = [crate.line, *(f'{told[name]}  {name}' for name in sorted(told))]
@@ -19,9 +21,13 @@ def sum_of(crate: Crate) -> str:
 
 
 def made_of(crates: Crates, names: Iterable[str], kit: Path) -> Dict[str, str]:
-    """Of each of these crates what its build is made of: the kit, and the sums of all crates below it, which are to be among them, and its own."""
+    """Of each of these crates what its build is made of: the kit, and the sums of all crates below it, which are to be
+    among them, and its own."""
     sums = {name: sum_of(crates[name]) for name in names}
-    return {name: '\n'.join([version_of(kit), *(f'{each} {sums[each]}' for each in crates[name].all)]) + '\n' for name in sums}
+    return {
+        name: '\n'.join([version_of(kit), *(f'{each} {sums[each]}' for each in crates[name].all)]) + '\n'
+        for name in sums
+    }
 
 
 def stamp_of(product: Path) -> Path:
@@ -49,7 +55,8 @@ def keep(product: Path, text: str, crates: Iterable[Crate] = ()) -> None:
 
 
 def drop(product: Path) -> None:
-    """Takes away what was built, and its stamp first. Nothing is written over it: it may run, or be the gate's own, under two names."""
+    """Takes away what was built, and its stamp first. Nothing is written over it: it may run, or be the gate's own,
+    under two names."""
     product.parent.mkdir(parents=True, exist_ok=True)
     stamp_of(product).unlink(missing_ok=True)
     shutil.rmtree(product, ignore_errors=True)
@@ -67,8 +74,8 @@ def lock(handle: int, what: str, say: Callable[[str], None]) -> None:
 
 @contextlib.contextmanager
 def locked(crates: Sequence[Crate], say: Callable[[str], None]) -> Iterator[Tuple[int, ...]]:
-    """Keeps all others from building or checking in the folders of these crates. A process that is begun with these handles keeps them locked,
-    even if this one is killed."""
+    """Keeps all others from building or checking in the folders of these crates. A process that is begun with these
+    handles keeps them locked, even if this one is killed."""
     handles = {crate.name: os.open(crate.folder, os.O_RDONLY) for crate in sorted(crates)}
     try:
         for name, handle in handles.items():

@@ -1,8 +1,9 @@
-"""The layer of C before the proved functions, as far as `bully.h` says all of it: for each function that answers a status a wrapper,
-which tests its pointers and lengths and calls the proved one; and the names of the statuses. `bindings/c/bully.c` has the rest.
+"""The layer of C before the proved functions, as far as `bully.h` says all of it: for each function that answers a
+status a wrapper, which tests its pointers and lengths and calls the proved one; and the names of the statuses.
+`bindings/c/bully.c` has the rest.
 
-The rule is the header's: a pointer with a `size_t` after it leads to so many items, a slice; any other pointer leads to one, a reference.
-What the rule doesn't say, as a text without a length, is refused, and never guessed.
+The rule is the header's: a pointer with a `size_t` after it leads to so many items, a slice; any other pointer leads to
+one, a reference. What the rule doesn't say, as a text without a length, is refused, and never guessed.
 
     cd bin && python3 -m building.layer    prints the wrappers of `include/bully.h`, for whoever reads them
 """
@@ -43,7 +44,11 @@ class Argument(NamedTuple):
 
     def handed_on(self) -> str:
         name = self.told.name
-        return f'{"source" if self.told.is_const else "target"}({name}, {self.length}), {self.length}' if self.length else name
+        return (
+            f'{"source" if self.told.is_const else "target"}({name}, {self.length}), {self.length}'
+            if self.length
+            else name
+        )
 
 
 class Header(NamedTuple):
@@ -55,7 +60,8 @@ class Header(NamedTuple):
 
 
 def read_header(text: str) -> Header:
-    """What a header of this text declares, by the reader of the package for Python alone: the package itself needs the library."""
+    """What a header of this text declares, by the reader of the package for Python alone: the package itself needs the
+    library."""
     spec = importlib.util.spec_from_file_location('header_of_bully', READER)
     assert spec and spec.loader
     reader = importlib.util.module_from_spec(spec)
@@ -88,7 +94,12 @@ def arguments_of(function: 'Function', structures: Iterable[str]) -> List[Argume
             arguments[-1] = Argument(last.told, told.name)
         else:
             arguments.append(Argument(told))
-    faults = [f'{each.told.name} of {function.name} is {fault}' for each in arguments for fault in [fault_of(each, structures)] if fault]
+    faults = [
+        f'{each.told.name} of {function.name} is {fault}'
+        for each in arguments
+        for fault in [fault_of(each, structures)]
+        if fault
+    ]
     if faults:
         raise Stopped(f'bully.h: {faults[0]}, and bin/building/layer.py makes no wrapper of that')
     return arguments
@@ -97,9 +108,13 @@ def arguments_of(function: 'Function', structures: Iterable[str]) -> List[Argume
 def wrapper(function: 'Function', structures: Iterable[str]) -> str:
     """The proved function behind a function of the header, and the wrapper that is called in its place."""
     if function.gives != 'bully_status':
-        raise Stopped(f'bully.h: {function.name} gives {function.gives}, and bin/building/layer.py makes no wrapper of that')
+        raise Stopped(
+            f'bully.h: {function.name} gives {function.gives}, and bin/building/layer.py makes no wrapper of that'
+        )
     arguments = arguments_of(function, structures)
-    declared, handed_on = (', '.join(part(each) for each in arguments) for part in (Argument.declared, Argument.handed_on))
+    declared, handed_on = (
+        ', '.join(part(each) for each in arguments) for part in (Argument.declared, Argument.handed_on)
+    )
     proved = function.name.replace('bully_', 'bully_c_', 1)
     wrong = ' || '.join(each.refused() for each in arguments if each.is_pointer)
     test = f'    if ({wrong}) {{\n        return BULLY_NULL;\n    }}\n' if wrong else ''

@@ -1,6 +1,6 @@
-"""The library for C: the proved functions of crates/bully_c, the layer of C before them, and nothing else that links with more than the
-C library. What it exports is what bully.h declares. Its folder has the layout of what is handed out: include/, lib/, and in lib/ by what
-pkg-config and CMake find it."""
+"""The library for C: the proved functions of crates/bully_c, the layer of C before them, and nothing else that links
+with more than the C library. What it exports is what bully.h declares. Its folder has the layout of what is handed out:
+include/, lib/, and in lib/ by what pkg-config and CMake find it."""
 import contextlib
 import os
 import shlex
@@ -36,9 +36,13 @@ def must(words: List[str], folder: Path = ROOT, log: Optional[Path] = None) -> N
     with contextlib.ExitStack() as closing:
         out = closing.enter_context(log.open('wb')) if log else None
         errors = subprocess.STDOUT if log else None
-        status = subprocess.run(words, cwd=folder, stdin=subprocess.DEVNULL, stdout=out or sys.stderr, stderr=errors).returncode
+        status = subprocess.run(
+            words, cwd=folder, stdin=subprocess.DEVNULL, stdout=out or sys.stderr, stderr=errors
+        ).returncode
     if status:
-        raise Stopped(f'it was not built: {Path(words[0]).name} failed' + (f'; {log} has what it printed' if log else ''))
+        raise Stopped(
+            f'it was not built: {Path(words[0]).name} failed' + (f'; {log} has what it printed' if log else '')
+        )
 
 
 def proved_archive(say: Say) -> Path:
@@ -94,19 +98,42 @@ def filled(template: str, version: str) -> str:
 
 
 def make_files(room: Path, archive: Path, made: Dict[str, str]) -> None:
-    """Makes one object of the proved functions, the layer before them and the kit's heap of C, with the header's names; and libraries of it.
-    They stand in the room as they do in the folder, beside what they are made of, as what was made of the header."""
+    """Makes one object of the proved functions, the layer before them and the kit's heap of C, with the header's names;
+    and libraries of it. They stand in the room as they do in the folder, beside what they are made of, as what was made
+    of the header."""
     for name in FILES:
         (room / name).parent.mkdir(parents=True, exist_ok=True)
     for name, text in made.items():
         (room / name).write_text(text)
     whole, layer, shared = f'{room}/bully.o', f'{room}/layer.o', f'{room}/lib/{SHARED}'
-    flags = [f'-I{HEADER.parent}', f'-I{room}', '-std=c99', '-O2', '-fPIC', '-fno-lto', '-Wall', '-Wextra', f'-DBULLY_VERSION="{version_of_all()}"']
+    flags = [
+        f'-I{HEADER.parent}',
+        f'-I{room}',
+        '-std=c99',
+        '-O2',
+        '-fPIC',
+        '-fno-lto',
+        '-Wall',
+        '-Wextra',
+        f'-DBULLY_VERSION="{version_of_all()}"',
+    ]
     must([*COMPILER, *flags, '-c', f'{ROOT}/bindings/c/bully.c', '-o', layer])
     must(['ld', '-r', '-z', 'noexecstack', '-o', whole, layer, str(archive), f'{find_kit()}/{ARCHIVES[1]}'])
     must(['objcopy', f'--keep-global-symbols={room}/declared', whole])
     must(['ar', 'rcsD', f'{room}/lib/libbully.a', whole])
-    must([*COMPILER, '-shared', '-o', shared, whole, f'-Wl,-soname,{SHARED}', '-Wl,-z,defs', '-Wl,-z,now', '-Wl,--gc-sections'])
+    must(
+        [
+            *COMPILER,
+            '-shared',
+            '-o',
+            shared,
+            whole,
+            f'-Wl,-soname,{SHARED}',
+            '-Wl,-z,defs',
+            '-Wl,-z,now',
+            '-Wl,--gc-sections',
+        ]
+    )
     if not made['declared'].split() == defined('-g', whole) == defined('-D', shared):
         raise Stopped('it was not built: its functions are not those of bully.h')
     shutil.copyfile(HEADER, room / 'include' / 'bully.h')
@@ -116,7 +143,8 @@ def make_files(room: Path, archive: Path, made: Dict[str, str]) -> None:
 
 
 def make_library(folder: Path, archive_of: Callable[[Say], Path], say: Say) -> None:
-    """Makes the files, of the functions that this brings about, in a room of the folder, and then puts them in their places."""
+    """Makes the files, of the functions that this brings about, in a room of the folder, and then puts them in their
+    places."""
     missing = [tool for tool in (COMPILER[0], 'ld', 'objcopy', 'ar', 'nm') if not shutil.which(tool)]
     if missing:
         raise Stopped(f'there is no {missing[0]} on the path')

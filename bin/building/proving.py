@@ -1,4 +1,5 @@
-"""What the commands bring about: a crate proved and built over all that it stands on, if something changed, and run or checked."""
+"""What the commands bring about: a crate proved and built over all that it stands on, if something changed, and run or
+checked."""
 import os
 import sys
 import tempfile
@@ -7,7 +8,17 @@ from contextlib import suppress
 from pathlib import Path
 from typing import Callable, Dict, List, NamedTuple, NoReturn, Optional
 
-from .crates import ARCHIVES, Crate, Crates, Stopped, find_kit, read_crates, version_of_all, words_over_sources, words_to_build
+from .crates import (
+    ARCHIVES,
+    Crate,
+    Crates,
+    Stopped,
+    find_kit,
+    read_crates,
+    version_of_all,
+    words_over_sources,
+    words_to_build,
+)
 from .kept import drop, is_made_of, keep, locked, made_of, see_unchanged, stamp_of
 from .running import Children, all_jobs, become, give_back_streams, run_beside
 
@@ -15,7 +26,8 @@ Say = Callable[[str], None]
 
 
 def run_command(name: str, status: int, command: Callable[[List[str], Say], Optional[int]]) -> NoReturn:
-    """Ends this process as the command ends, which gets its words. If it can't go on, why is told, and the exit status is this one."""
+    """Ends this process as the command ends, which gets its words. If it can't go on, why is told, and the exit status
+    is this one."""
 
     def say(line: str) -> None:
         with suppress(OSError):
@@ -29,7 +41,8 @@ def run_command(name: str, status: int, command: Callable[[List[str], Say], Opti
 
 
 class Building(NamedTuple):
-    """A call that builds a crate: what that and each crate below it were made of when it began, and a folder for what the tools say."""
+    """A call that builds a crate: what that and each crate below it were made of when it began, and a folder for what
+    the tools say."""
 
     kit: Path
     crates: Crates
@@ -44,11 +57,19 @@ class Building(NamedTuple):
         return f'{(time.monotonic() - self.began) / 60:.1f} min'
 
     def build(self, name: str, processes: int) -> None:
-        """Proves and builds a crate. The first time nothing is kept for the next one, and of a library only its statements are built, by
-        which those above it are proved sooner."""
+        """Proves and builds a crate. The first time nothing is kept for the next one, and of a library only its
+        statements are built, by which those above it are proved sooner."""
         kit, crate, product = self.kit, self.crates[name], self.crates[name].product
         file = f'{product}.o' if crate.kind == 'program' else str(product)
-        words = [f'{kit}/bin/rattle', 'build', *words_to_build(kit, self.crates, crate), '--jobs', str(processes), '-o', file]
+        words = [
+            f'{kit}/bin/rattle',
+            'build',
+            *words_to_build(kit, self.crates, crate),
+            '--jobs',
+            str(processes),
+            '-o',
+            file,
+        ]
         if product.exists() or (crate.folder / 'out' / 'incremental').exists():
             words += ['--incremental', 'out/incremental']
         elif crate.kind == 'library':
@@ -60,7 +81,16 @@ class Building(NamedTuple):
         drop(product)
         self.run(name, words)
         if crate.kind == 'program':
-            link = [f'{kit}/bin/rattle-link', '--target', 'x86_64-unknown-linux-gnu', '--toolchain', f'{kit}/toolchain', '-o', str(product), file]
+            link = [
+                f'{kit}/bin/rattle-link',
+                '--target',
+                'x86_64-unknown-linux-gnu',
+                '--toolchain',
+                f'{kit}/toolchain',
+                '-o',
+                str(product),
+                file,
+            ]
             self.run(name, [*link, *(f'{kit}/{each}' for each in ARCHIVES)])
         keep(product, self.made_of[name], [crate])
 
@@ -70,11 +100,14 @@ class Building(NamedTuple):
 
 
 def chains(crates: Crates, crate: Crate) -> Dict[str, int]:
-    """Of each crate the lines of code in the longest chain of crates from it on up, and 300 for what each reads: a guess of how long it takes."""
+    """Of each crate the lines of code in the longest chain of crates from it on up, and 300 for what each reads: a
+    guess of how long it takes."""
     found: Dict[str, int] = {}
     for name in reversed(crate.all):
         above = max((lines for upper, lines in found.items() if name in crates[upper].below), default=0)
-        found[name] = above + 300 + sum(path.read_bytes().count(b'\n') for path in (crates[name].folder / 'src').rglob('*.rt'))
+        found[name] = (
+            above + 300 + sum(path.read_bytes().count(b'\n') for path in (crates[name].folder / 'src').rglob('*.rt'))
+        )
     return found
 
 
@@ -85,10 +118,13 @@ def build_all(building: Building) -> None:
     due = [name for name in crate.all if stale.intersection(crates[name].all)]
     needs = {name: [lower for lower in crates[name].below if lower in due] for name in due}
     length, new = chains(crates, crate), sum(not (crates[name].folder / 'out' / 'incremental').exists() for name in due)
-    # (25 s for each from nothing, 10 s over what an earlier build kept, two minutes to compile and link; three times as much on a slow machine)
+    # (25 s for each from nothing, 10 s over what an earlier build kept, two minutes to compile and link; three times as
+    # much on a slow machine)
     minutes = -(-(120 + 10 * len(due) + 15 * new) // 60)
-    say(f'proves and builds {crate.name}: {len(due)} of {len(crate.all)} crates, {new} of them from nothing; '
-        f'{minutes} to {3 * minutes} min on four cores that do nothing else')
+    say(
+        f'proves and builds {crate.name}: {len(due)} of {len(crate.all)} crates, {new} of them from nothing; '
+        f'{minutes} to {3 * minutes} min on four cores that do nothing else'
+    )
     for number, name in enumerate(run_beside(needs, length, building.build, building.children), 1):
         say(f'{number} of {len(due)} crates proved after {building.minutes()}: {name}')
         if name == 'bully_trace' and crate.name == 'bully':
@@ -96,11 +132,14 @@ def build_all(building: Building) -> None:
 
 
 def bring(product: Path, crates: Crates, crate: Crate, say: Say, make: Callable[[Building], None]) -> None:
-    """Has the product made, if it isn't there of what the crate is made of now, also once a call that this one waited for is done."""
+    """Has the product made, if it isn't there of what the crate is made of now, also once a call that this one waited
+    for is done."""
     kit, began = find_kit(), time.monotonic()
     if is_made_of(product, made_of(crates, crate.all, kit)[crate.name]):
         return
-    with locked([crates[name] for name in crate.all], say) as handles, tempfile.TemporaryDirectory() as room, Children(handles) as children:
+    with locked([crates[name] for name in crate.all], say) as handles, tempfile.TemporaryDirectory() as room, Children(
+        handles
+    ) as children:
         building = Building(kit, crates, crate, made_of(crates, crate.all, kit), say, children, Path(room), began)
         if not is_made_of(product, building.made_of[crate.name]):
             make(building)
@@ -117,7 +156,9 @@ def run_program(name: str, words: List[str], say: Say) -> NoReturn:
     crates = read_crates()
     crate = crate_of(crates, name, 'program')
     if name == 'bully' and not crate.product.exists():
-        say(f'to use it, take the archive cinnabarloom-{version_of_all()}-x86_64-linux.tar.gz of a release, which has it built')
+        say(
+            f'to use it, take the archive cinnabarloom-{version_of_all()}-x86_64-linux.tar.gz of a release, which has it built'
+        )
     bring(crate.product, crates, crate, say, build_all)
     give_back_streams()
     become([str(crate.product), *words])

@@ -26,39 +26,59 @@ def give_way(process: int) -> None:
 
 
 def all_jobs(more: int = 0) -> int:
-    """As many processes of the prover as there are cores, or some more; but one for each 3 GB of free memory, and one at least."""
+    """As many processes of the prover as there are cores, or some more; but one for each 3 GB of free memory, and one
+    at least."""
     most, told = len(os.sched_getaffinity(0)) + more, Path('/proc/meminfo').read_text()
     free = re.search(r'^MemAvailable: *(\d+) kB$', told, re.MULTILINE)
     return max(1, min(most, int(free[1]) // 3_000_000 if free else most))
 
 
 def on_signals(answer: Callable[[int, Optional[FrameType]], object]) -> List[object]:
-    """Has the signals that end a command answered so, but none that is ignored, as by `nohup`. Gives how they were answered before."""
+    """Has the signals that end a command answered so, but none that is ignored, as by `nohup`. Gives how they were
+    answered before."""
     ending = (signal.SIGINT, signal.SIGTERM, signal.SIGHUP, signal.SIGQUIT)
     return [signal.signal(each, answer) for each in ending if signal.getsignal(each) != signal.SIG_IGN]
 
 
 class Children:
-    """The processes that a command has begun, each with all that it begins. They hold its locks, and are ended if it is, also by a signal."""
+    """The processes that a command has begun, each with all that it begins. They hold its locks, and are ended if it
+    is, also by a signal."""
 
     def __init__(self, handles: Tuple[int, ...] = ()) -> None:
         self.handles, self.is_ending, self.lock = handles, False, Lock()
         self.begun: 'List[Popen[bytes]]' = []
 
-    def begin(self, words: Sequence[str], folder: Path, out: 'int | IO[bytes]', errors: Optional[int] = STDOUT) -> 'Popen[bytes]':
-        """Begins these words in a folder, in a group of processes of their own. Nothing begins once the command ends."""
+    def begin(
+        self, words: Sequence[str], folder: Path, out: 'int | IO[bytes]', errors: Optional[int] = STDOUT
+    ) -> 'Popen[bytes]':
+        """Begins these words in a folder, in a group of processes of their own. Nothing begins once the command
+        ends."""
         with self.lock:
             if self.is_ending:
                 raise Stopped('nothing more is begun')
-            self.begun.append(Popen(words, cwd=folder, stdin=DEVNULL, stdout=out, stderr=errors, pass_fds=self.handles, start_new_session=True))
+            self.begun.append(
+                Popen(
+                    words,
+                    cwd=folder,
+                    stdin=DEVNULL,
+                    stdout=out,
+                    stderr=errors,
+                    pass_fds=self.handles,
+                    start_new_session=True,
+                )
+            )
             return self.begun[-1]
 
     def run(self, words: Sequence[str], folder: Path, said: Path) -> bool:
-        """Whether these words, run in a folder, end with status 0. What they say goes into a file, and is told if they don't."""
+        """Whether these words, run in a folder, end with status 0. What they say goes into a file, and is told if they
+        don't."""
         with said.open('ab') as out:
             status = self.begin(words, folder, out).wait()
         if status and not self.is_ending:
-            sys.stderr.write(said.read_text(errors='replace') + (f'{Path(words[0]).name} was ended by signal {-status}\n' if status < 0 else ''))
+            sys.stderr.write(
+                said.read_text(errors='replace')
+                + (f'{Path(words[0]).name} was ended by signal {-status}\n' if status < 0 else '')
+            )
         return status == 0
 
     def end(self, *_: object) -> None:
@@ -72,7 +92,8 @@ class Children:
             child.wait()
 
     def __enter__(self) -> 'Children':
-        """From here on a signal that would end the command has it leave, and so end them; and no other one breaks that off."""
+        """From here on a signal that would end the command has it leave, and so end them; and no other one breaks that
+        off."""
         on_signals(lambda number, _: (on_signals(lambda *_: None), sys.exit(128 + number)))
         return self
 
@@ -90,7 +111,8 @@ def give_back_streams() -> None:
 
 
 def become(words: Sequence[str]) -> NoReturn:
-    """Goes on as this program, with the signals as they were: Python lets no closed pipe end it, and that would stay."""
+    """Goes on as this program, with the signals as they were: Python lets no closed pipe end it, and that would
+    stay."""
     for each in (signal.SIGPIPE, signal.SIGXFSZ):
         signal.signal(each, signal.SIG_DFL)
     os.execv(words[0], list(words))
@@ -101,11 +123,14 @@ def hand_on(tool: str) -> NoReturn:
     become([str(ROOT / tool), *sys.argv[1:]])
 
 
-def run_beside(needs: Dict[str, List[str]], length: Dict[str, int], run: Callable[[str, int], object], children: Children) -> Iterator[str]:
-    """Does each task once those that it needs are done, those of long chains first, and tells its name when it is done. `length` has, as a
-    guess, how long the chain of tasks is that begins with it. `run` is given how many processes a task may use: up to two if its chain is three
-    fifths of the longest that is left or more, else one; and the first what the others that are ready leave of the cores. At most as many tasks
-    as cores are under way, in at most two processes more than cores, and fewer of both if memory is short: each reads alone at first."""
+def run_beside(
+    needs: Dict[str, List[str]], length: Dict[str, int], run: Callable[[str, int], object], children: Children
+) -> Iterator[str]:
+    """Does each task once those that it needs are done, those of long chains first, and tells its name when it is done.
+    `length` has, as a guess, how long the chain of tasks is that begins with it. `run` is given how many processes a
+    task may use: up to two if its chain is three fifths of the longest that is left or more, else one; and the first
+    what the others that are ready leave of the cores. At most as many tasks as cores are under way, in at most two
+    processes more than cores, and fewer of both if memory is short: each reads alone at first."""
     tasks, cores, most = TopologicalSorter(needs), all_jobs(), all_jobs(2)
     tasks.prepare()
     ready: List[str] = []
@@ -113,7 +138,11 @@ def run_beside(needs: Dict[str, List[str]], length: Dict[str, int], run: Callabl
     with ThreadPoolExecutor(cores) as pool, children:
         while tasks.is_active():
             ready = sorted([*ready, *tasks.get_ready()], key=lambda name: length[name])
-            while ready and len(under_way) < cores and (used := sum(processes for _, processes in under_way.values())) < most:
+            while (
+                ready
+                and len(under_way) < cores
+                and (used := sum(processes for _, processes in under_way.values())) < most
+            ):
                 name = ready.pop()
                 longest = max(length[each] for each in (name, *(other for other, _ in under_way.values())))
                 least = 2 if 5 * length[name] >= 3 * longest else 1

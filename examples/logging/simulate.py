@@ -3,13 +3,14 @@
 
     simulate.py SEED [--say-all] [--bug BUG] [--skew SKEW]
 
-The log is a trace of version 1. With --say-all it is one of version 3: each row of a call says which call it is, to whom, and
-how it was answered, and behind each row at which the vector of a node may change stands a claim of all that the node stores,
-also where nothing changed: so a change that was left out shows there. No row says more than what the node that writes it knows.
+The log is a trace of version 1. With --say-all it is one of version 3: each row of a call says which call it is, to
+whom, and how it was answered, and behind each row at which the vector of a node may change stands a claim of all that
+the node stores, also where nothing changed: so a change that was left out shows there. No row says more than what the
+node that writes it knows.
 
-With a bug, the first row that is wrong by it is told on standard error, as 'row node', where there is one. With a skew each
-node's clock is wrong by up to so much, where a message takes 1 to 9, and the log is put into order by these clocks.
-"""
+With a bug, the first row that is wrong by it is told on standard error, as 'row node', where there is one. With a skew
+each node's clock is wrong by up to so much, where a message takes 1 to 9, and the log is put into order by these
+clocks. """
 import argparse
 import heapq
 import itertools
@@ -123,14 +124,14 @@ class Group:
 
     def election(self, node):
         while True:
-            for other in self.nodes[node.number:]:
+            for other in self.nodes[node.number :]:
                 if (yield 'are-you-up', other) == 'yes':
                     return
             yield 'move', None
             node.status, node.halter = 'election', node
             if self.bug != 'hoarding':
                 node.up = set()
-            for other in reversed(self.nodes[:node.number - 1]):
+            for other in reversed(self.nodes[: node.number - 1]):
                 if (yield 'halt', other) == 'yes' and not self.slips('forgetful'):
                     node.up.add(other)
             yield 'move', None
@@ -302,7 +303,10 @@ def write_log(options, seed, log, wrong):
     group = Group(seed, options.bug, options.say_all)
     clock = {node: random.Random(f'{seed} {node.number}').uniform(0, options.skew) for node in group.nodes}
     weights = numbers_text([1] * NODES)
-    print(f'bully,3,{NODES},{PARTITIONS},{weights},clear' if options.say_all else f'bully,1,{NODES},{PARTITIONS}', file=log)
+    print(
+        f'bully,3,{NODES},{PARTITIONS},{weights},clear' if options.say_all else f'bully,1,{NODES},{PARTITIONS}',
+        file=log,
+    )
     for _, writer, row in sorted(group.rows, key=lambda row: row[0] + clock[row[1]]):
         print(row, file=log)
     if group.wrong:
@@ -315,7 +319,9 @@ def main():
     words.add_argument('--say-all', action='store_true')
     words.add_argument('--bug', choices=[*BUGS, *TOLD_BUGS])
     words.add_argument('--skew', type=float, default=0)
-    words.add_argument('--into', type=Path, metavar='FOLDER', help='write SEED.log and SEED.wrong of each seed from 1 to this one')
+    words.add_argument(
+        '--into', type=Path, metavar='FOLDER', help='write SEED.log and SEED.wrong of each seed from 1 to this one'
+    )
     options = words.parse_args()
     if options.bug in TOLD_BUGS and not options.say_all:
         words.error(f'{options.bug} shows only with --say-all')

@@ -1,6 +1,7 @@
 #!/usr/bin/env python3
-"""A process that embeds a member, instead of a worker beside `bully-member`. It adds a line to the file of each partition that its node owns, again
-and again, until SIGTERM or SIGINT. The file refuses an old token: nothing else stops this process if it is suspended, because it has no watchdog.
+"""A process that embeds a member, instead of a worker beside `bully-member`. It adds a line to the file of each
+partition that its node owns, again and again, until SIGTERM or SIGINT. The file refuses an old token: nothing else
+stops this process if it is suspended, because it has no watchdog.
 
     bully-member init --config group.toml --log sqlite:group.db
     embedded.py group.db NODE FOLDER
@@ -41,7 +42,8 @@ class Work:
         self.thread.start()
 
     def stop(self, _: Assignment) -> None:
-        """Returns once nothing is worked on any more. If it raises an exception, the member doesn't release its lease."""
+        """Returns once nothing is worked on any more. If it raises an exception, the member doesn't release its
+        lease."""
         self.is_over.set()
         self.thread.join()
 
@@ -51,7 +53,8 @@ class Work:
                 if self.member.assignment() is None:  # asked before each unit: ownership isn't sure now
                     break
                 if not write(self.folder, partition, assignment.token, self.node):
-                    self.member.lose(assignment)  # a newer token was seen; the member stops this work, and starts it again
+                    # (a newer token was seen; the member stops this work, and starts it again)
+                    self.member.lose(assignment)
                     return
 
 
@@ -65,7 +68,8 @@ def main() -> None:
     work.member = Member(SqliteLog(path, patience=min(1.0, ttl / 5)), node, work.start, work.stop, ttl=ttl)
     with work.member as member:  # at the end it closes the log
         for number in (signal.SIGTERM, signal.SIGINT):
-            signal.signal(number, lambda *_: member.leave())  # `run` then stops the work, releases the lease, and returns
+            # `run` then stops the work, releases the lease, and returns.
+            signal.signal(number, lambda *_: member.leave())
         member.run()  # in the main thread, so that signals reach it
 
 

@@ -1,5 +1,6 @@
 #!/usr/bin/env python3
-"""A worker that stays over changes: it is told of them by lines of JSON on its standard input, and keeps meanwhile what it has in memory.
+"""A worker that stays over changes: it is told of them by lines of JSON on its standard input, and keeps meanwhile what
+it has in memory.
 
     bully-member run --talk .. -- talking.py FOLDER
 
@@ -7,9 +8,9 @@
     {"stop": true}                                                                  work on nothing, and then answer `stopped`
     {"stop": [5]}                                                                   the same for these; in a cooperative group
 
-It answers on the descriptor BULLY_ANSWERS. As `worker.py` does it adds a line to the file of each of its partitions, and refuses to if that has
-seen a newer token. What it keeps are the files that it has opened: whoever keeps more has to see whether others have changed it.
-"""
+It answers on the descriptor BULLY_ANSWERS. As `worker.py` does it adds a line to the file of each of its partitions,
+and refuses to if that has seen a newer token. What it keeps are the files that it has opened: whoever keeps more has to
+see whether others have changed it. """
 import fcntl
 import json
 import os

@@ -4,11 +4,11 @@
     BULLY_LIBRARY=FOLDER cluster.py [--nodes N] [--partitions P] [--kills K] [--every ROWS] [--pauses K] [--seed SEED]
                                     [--folder FOLDER] [--all-details] [--bug BUG]
 
-It prints who leads as it goes. Processes are killed by SIGKILL, one in so many rows of the log in the mean, and started again.
-Then it stops killing, starts all, and waits until all are at rest under the highest node. The log is FOLDER/log.csv, a trace of
-version 3, which `check` judges; where the program `bully` is on the path, that explains and draws it, too. With --all-details
-behind each row that may change a vector stands a claim of all of it. With --pauses processes are also stopped for a while by
-SIGSTOP: they are only slow, and nobody takes them for Down.
+It prints who leads as it goes. Processes are killed by SIGKILL, one in so many rows of the log in the mean, and started
+again. Then it stops killing, starts all, and waits until all are at rest under the highest node. The log is
+FOLDER/log.csv, a trace of version 3, which `check` judges; where the program `bully` is on the path, that explains and
+draws it, too. With --all-details behind each row that may change a vector stands a claim of all of it. With --pauses
+processes are also stopped for a while by SIGSTOP: they are only slow, and nobody takes them for Down.
 
 With a BUG one node makes a mistake, once in each of its processes, and the check has to find it:
 
@@ -16,8 +16,8 @@ With a BUG one node makes a mistake, once in each of its processes, and the chec
     deaf       it answers a Halt, and goes on as if it had not been halted
     impatient  it takes a call as failed though its callee is up, and nobody told otherwise
 
-The exit status is 0 where the log is lawful and all were seen at rest, and else 1. `README.md` says how the premises are kept.
-"""
+The exit status is 0 where the log is lawful and all were seen at rest, and else 1. `README.md` says how the premises
+are kept. """
 import argparse
 import collections
 import json
@@ -196,7 +196,8 @@ class Cluster:
             self.say(f'killed node {member.node}, {member.status}')
 
     def signal(self, member: Member, life: int, number: int) -> None:
-        """Signals that process of the node, unless it is gone: no other process can have its number before it is waited for."""
+        """Signals that process of the node, unless it is gone: no other process can have its number before it is waited
+        for."""
         if member.process is not None and member.life == life:
             member.process.send_signal(number)
 
@@ -211,7 +212,9 @@ class Cluster:
             'nodes': self.options.nodes, 'partitions': self.options.partitions,
             'says_all': self.options.all_details, 'bug': bug,
         }  # fmt: skip
-        member.process = subprocess.Popen([sys.executable, str(HERE / 'node.py'), json.dumps(told)], start_new_session=True)
+        member.process = subprocess.Popen(
+            [sys.executable, str(HERE / 'node.py'), json.dumps(told)], start_new_session=True
+        )
 
     def meet(self) -> None:
         connection, _ = self.listener.accept()
@@ -248,8 +251,8 @@ class Cluster:
     # ---- A process is gone
 
     def fall(self, member: Member) -> None:
-        """The process of the node is gone. What it sent is served by now, or never; then its crash is logged; and then each call to
-        it has failed, before a next process of it may recover."""
+        """The process of the node is gone. What it sent is served by now, or never; then its crash is logged; and then
+        each call to it has failed, before a next process of it may recover."""
         assert member.process is not None
         member.process.kill()
         member.process.wait()
@@ -272,7 +275,9 @@ class Cluster:
     def order(self, members: List[Member], what: str, about: Member) -> int:
         """Orders something of these nodes. The number of the order."""
         self.orders += 1
-        text = json.dumps({'do': what, 'order': self.orders, 'node': about.node, 'life': about.life, 'port': about.port})
+        text = json.dumps(
+            {'do': what, 'order': self.orders, 'node': about.node, 'life': about.life, 'port': about.port}
+        )
         for member in members:
             if member.lines is not None:
                 member.unheard.add(self.orders)
@@ -280,7 +285,8 @@ class Cluster:
         return self.orders
 
     def order_all(self, what: str, about: Member) -> None:
-        """Orders something of all others, and waits until each of them did it, or is gone and all that it told was taken."""
+        """Orders something of all others, and waits until each of them did it, or is gone and all that it told was
+        taken."""
         others = [member for member in self.members if member.is_told and member is not about]
         number, ordered = self.order(others, what, about), time.monotonic()
         while any(number in member.unheard for member in others):
@@ -348,7 +354,9 @@ class Cluster:
 def run_bully(words: List[str], trace: Path) -> str:
     """What the program `bully` makes of the trace."""
     with open(trace, 'rb') as rows:
-        ran = subprocess.run(['bully', *words], stdin=rows, stdout=subprocess.PIPE, stderr=subprocess.STDOUT, check=False)
+        ran = subprocess.run(
+            ['bully', *words], stdin=rows, stdout=subprocess.PIPE, stderr=subprocess.STDOUT, check=False
+        )
     return ran.stdout.decode(errors='replace')
 
 
@@ -377,10 +385,16 @@ def words() -> argparse.Namespace:
     parser.add_argument('--partitions', type=int, default=7, help='how many partitions the task has; without it 7')
     parser.add_argument('--kills', type=int, default=100, help='how many processes are killed; without it 100')
     parser.add_argument('--pauses', type=int, default=0, help='how many are stopped for a while; without it none')
-    parser.add_argument('--every', type=float, default=40, help='rows of the log between two kills in the mean; without it 40')
+    parser.add_argument(
+        '--every', type=float, default=40, help='rows of the log between two kills in the mean; without it 40'
+    )
     parser.add_argument('--seed', type=int, default=1, help='of the random choices; without it 1')
-    parser.add_argument('--folder', type=Path, help='where log.csv is written; without it a new folder, whose name is printed')
-    parser.add_argument('--all-details', action='store_true', help='a claim of the whole vector behind each row that may change it')
+    parser.add_argument(
+        '--folder', type=Path, help='where log.csv is written; without it a new folder, whose name is printed'
+    )
+    parser.add_argument(
+        '--all-details', action='store_true', help='a claim of the whole vector behind each row that may change it'
+    )
     parser.add_argument('--bug', choices=sorted(BUGS), help='the mistake that one node makes; without it none')
     options = parser.parse_args()
     if not 2 <= options.nodes <= 64 or options.every <= 0:

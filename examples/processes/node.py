@@ -1,11 +1,13 @@
 #!/usr/bin/env python3
-"""One node in a process of its own. `cluster.py`, its supervisor, starts it; `README.md` says how both keep the premises.
+"""One node in a process of its own. `cluster.py`, its supervisor, starts it; `README.md` says how both keep the
+premises.
 
-    node.py '{"supervisor": .., "port": .., "node": .., "life": .., "events": .., "nodes": .., "partitions": .., "says_all": .., "bug": ..}'
+    node.py '{"supervisor": .., "port": .., "node": .., "life": .., "events": .., "nodes": .., "partitions": ..,
+    "says_all": .., "bug": ..}'
 
-The process does one thing at a time: it obeys an order of the supervisor, or takes a step that its node wants, or serves a request,
-or takes a reply, or ticks. Each step is told to the supervisor, and what follows from it leaves only once that wrote it.
-"""
+The process does one thing at a time: it obeys an order of the supervisor, or takes a step that its node wants, or
+serves a request, or takes a reply, or ticks. Each step is told to the supervisor, and what follows from it leaves only
+once that wrote it. """
 import collections
 import ctypes
 import json
@@ -85,8 +87,8 @@ class Process:
         self.orders.extend(json.loads(line) for line in lines)
 
     def log(self, rows: Optional[List[str]] = None, wrong: Optional[int] = None) -> None:
-        """Has the supervisor write the rows of the last step, and waits until it did. `wrong` is the place of a row that a bug
-        made wrong, if any."""
+        """Has the supervisor write the rows of the last step, and waits until it did. `wrong` is the place of a row
+        that a bug made wrong, if any."""
         rows = self.agent.rows() if rows is None else rows
         if self.says_all and changes_vector(rows[-1]):
             rows.append(self.agent.claim())
@@ -122,7 +124,8 @@ class Process:
         self.readers.register(self.listener, selectors.EVENT_READ, self.meet)
 
     def other_rises(self, order: Order) -> None:
-        """Another node is about to recover. It is Down until this is answered, so a call to it from before has failed."""
+        """Another node is about to recover. It is Down until this is answered, so a call to it from before has
+        failed."""
         self.fail_call_to(order['node'])
         self.others[order['node']] = Life(order['life'], order['port'])
 
@@ -187,8 +190,8 @@ class Process:
                 self.log(wrong=0)
 
     def call_first(self, node: int) -> Optional[Lines]:
-        """A connection to the process of the other node, which begins with whom it is from and to. None where that process is gone:
-        the supervisor will tell."""
+        """A connection to the process of the other node, which begins with whom it is from and to. None where that
+        process is gone: the supervisor will tell."""
         life = self.others[node]
         lines = connected(life.port)
         if lines is not None:
@@ -265,7 +268,11 @@ class Process:
 
     def served(self, caller: int, request: str) -> str:
         _, _, number, _, call, *owners = request.split(',')
-        if call == 'halt' and (self.agent.status, self.agent.halter) != (Status.ELECTION, caller) and self.slips('deaf'):
+        if (
+            call == 'halt'
+            and (self.agent.status, self.agent.halter) != (Status.ELECTION, caller)
+            and self.slips('deaf')
+        ):
             self.log([f'run,{caller},halt,{self.node},yes'], wrong=-1)
             return f'tell,{caller},{number},yes'
         if call == 'ready' and self.follows(caller) and len(set(owners[0].split())) > 1 and self.slips('garbled'):

@@ -17,22 +17,38 @@ class Commands(unittest.TestCase):
     def words(self, name: str, source: str, *more: str) -> List[str]:
         """What the prover is told of each crate, and what more of this one."""
         kit = self.tree.room / 'kit'
-        logic = ['--antt-project', f'{kit}/rattle/logic/antt-project.json', '--logic-built', f'{kit}/logic_built', '--links', f'{name}=']
+        logic = [
+            '--antt-project',
+            f'{kit}/rattle/logic/antt-project.json',
+            '--logic-built',
+            f'{kit}/logic_built',
+            '--links',
+            f'{name}=',
+        ]
         return ['--crate-name', name, f'src/{source}', '-L', f'dependency={kit}/rlibs', *logic, *more]
 
     def told(self, since: int = 0) -> 'dict[str, list[str]]':
-        """What the prover was told of each crate, after so many runs of it. N stands for how many processes it might use."""
-        return {name: re.sub(r'--jobs \d+', '--jobs N', ' '.join(words)).split() for name, *words in self.tree.words()[since:]}
+        """What the prover was told of each crate, after so many runs of it. N stands for how many processes it might
+        use."""
+        return {
+            name: re.sub(r'--jobs \d+', '--jobs N', ' '.join(words)).split()
+            for name, *words in self.tree.words()[since:]
+        }
 
     def test_the_prover_is_told_what_a_crate_stands_on_and_what_is_kept(self) -> None:
         kit, crates = self.tree.room / 'kit', self.tree.top / 'crates'
         std, tools = ['--extern', f'std={kit}/rlibs/std.rlib'], ['--toolchain', f'{kit}/toolchain', '--jobs', 'N', '-o']
-        over = {name: ['--extern', f'{name}={crates}/{name}/out/built/{name}.rlib'] for name in ('base', 'left', 'right')}
+        over = {
+            name: ['--extern', f'{name}={crates}/{name}/out/built/{name}.rlib'] for name in ('base', 'left', 'right')
+        }
         below = {name: ['-L', f'dependency={crates}/{name}/out/built'] for name in over}
         more = [*std, *over['base'], *below['base'], *tools, f'{crates}/left/out/built/left.rlib']
         left = ['build', *self.words('left', 'lib.rt', *more)]
         more = [*std, *over['left'], *over['right'], *(word for name in over for word in below[name])]
-        bully = ['build', *self.words('bully', 'main.rt', *more, '--backend', 'llvm', *tools, f'{crates}/bully/out/bully.o')]
+        bully = [
+            'build',
+            *self.words('bully', 'main.rt', *more, '--backend', 'llvm', *tools, f'{crates}/bully/out/bully.o'),
+        ]
         self.tree.call('bully')
         first = self.told()
         self.assertEqual((first['left'], first['bully']), ([*left, '--statements'], bully))
@@ -47,7 +63,13 @@ class Commands(unittest.TestCase):
                 self.assertEqual(self.tree.call(command, 'it', given='a row\n').stdout, 'stand-in it\na row\n')
 
     def test_the_program_has_the_streams_of_the_call_whatever_they_are(self) -> None:
-        odd = {'': 'open open open', '<.': 'folder open open', '<&-': 'closed open open', '>&-': 'open closed open', '2>&-': 'open open closed'}
+        odd = {
+            '': 'open open open',
+            '<.': 'folder open open',
+            '<&-': 'closed open open',
+            '>&-': 'open closed open',
+            '2>&-': 'open open closed',
+        }
         odd.update({'<. 1<. 2<.': 'folder folder folder', '<&- >&- 2>&-': 'closed closed closed'})
         kinds = 'is=closed; [ ! -e /dev/fd/$each ] || is=open; [ ! -d /dev/fd/$each ] || is=folder'
         for command, place in (('bully', 'crates/bully/out/bully'), ('try', 'out/try/bully')):
@@ -56,14 +78,18 @@ class Commands(unittest.TestCase):
                 with self.subTest(command=command, streams=streams):
                     program.unlink(missing_ok=True)
                     self.assertNotEqual(self.tree.status_over(streams, command), 125)
-                    program.write_text(f'#!/bin/sh\nfor each in 0 1 2 7 8 9; do {kinds}; echo $is >&6; done 6>{self.tree.room}/seen\nexit 5\n')
+                    program.write_text(
+                        f'#!/bin/sh\nfor each in 0 1 2 7 8 9; do {kinds}; echo $is >&6; done 6>{self.tree.room}/seen\nexit 5\n'
+                    )
                     self.assertEqual(self.tree.status_over(streams, command), 5)
                     self.assertEqual((self.tree.room / 'seen').read_text().split(), [*wanted.split(), *['closed'] * 3])
 
     def test_check_has_one_run_over_sources_and_keeps_others_out(self) -> None:
         call = self.tree.begin_held('left', 'check', 'left', '--only', 'half')
         beside = self.tree.begin('bully', 'it')
-        waited(lambda: 'waits for another call, which builds or checks base' in self.tree.said(), 'the other call waits')
+        waited(
+            lambda: 'waits for another call, which builds or checks base' in self.tree.said(), 'the other call waits'
+        )
         self.assertEqual(self.tree.begun(), ['left'])
         self.tree.let_go('left')
         call.communicate(timeout=60)
@@ -83,7 +109,10 @@ class Commands(unittest.TestCase):
 
     def test_program_builds_the_one_that_is_named(self) -> None:
         self.assertEqual(self.tree.call('../bench/program', 'bully', 'one', 'two').stdout, 'stand-in one two\n')
-        for words, said in (((), 'program: crates.txt has no program without a name\n'), (('left',), 'left: crates.txt has no program left\n')):
+        for words, said in (
+            ((), 'program: crates.txt has no program without a name\n'),
+            (('left',), 'left: crates.txt has no program left\n'),
+        ):
             refused = self.tree.call('../bench/program', *words)
             self.assertEqual((refused.returncode, refused.stderr), (125, said))
 
@@ -111,7 +140,10 @@ class Commands(unittest.TestCase):
         self.assertIn('library: bully.h: number of bully_begin is no number of a known size', refused.stderr)
         self.assertEqual({name: (folder / name).stat().st_ino for name in files_of(folder)}, before)
         strange = ('', 'a b', '--other a', '--gated', '--gated a b', '--gate a', '--unproved', '--gated a --unproved b')
-        self.assertEqual({words: self.tree.call('library', *words.split(' ')).returncode for words in strange}, dict.fromkeys(strange, 2))
+        self.assertEqual(
+            {words: self.tree.call('library', *words.split(' ')).returncode for words in strange},
+            dict.fromkeys(strange, 2),
+        )
 
 
 class Ending(unittest.TestCase):
@@ -155,7 +187,9 @@ class Ending(unittest.TestCase):
 
     def test_a_program_without_proofs_has_the_signal(self) -> None:
         self.tree.call('try')
-        (self.tree.top / 'out' / 'try' / 'bully').write_text('#!/bin/sh\ntrap "exit 7" TERM\necho up\nwhile :; do sleep 0.01; done\n')
+        (self.tree.top / 'out' / 'try' / 'bully').write_text(
+            '#!/bin/sh\ntrap "exit 7" TERM\necho up\nwhile :; do sleep 0.01; done\n'
+        )
         call = self.tree.begin('try')
         self.assertEqual(call.stdout.readline() if call.stdout else '', 'up\n')
         stat = Path(f'/proc/{call.pid}/stat')

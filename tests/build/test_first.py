@@ -1,4 +1,5 @@
-"""What the first call of bin/bully says over the crates that stand here, and that it builds none before those below it."""
+"""What the first call of bin/bully says over the crates that stand here, and that it builds none before those below
+it."""
 import shutil
 import unittest
 
@@ -20,11 +21,19 @@ class First(unittest.TestCase):
 
     def test_what_judges_a_trace_is_said_to_be_proved_once_it_is_and_the_rest_comes_then(self) -> None:
         first, second = (self.tree.call('bully', 'check', '--aloud') for _ in range(2))
-        self.assertEqual((first.stdout, second.stdout, second.stderr), ('stand-in check --aloud\n', 'stand-in check --aloud\n', ''), first.stderr)
+        self.assertEqual(
+            (first.stdout, second.stdout, second.stderr),
+            ('stand-in check --aloud\n', 'stand-in check --aloud\n', ''),
+            first.stderr,
+        )
         lines = first.stderr.splitlines()
         self.assertIn(f'archive cinnabarloom-{version_of_all()}-x86_64-linux.tar.gz', lines[0])
-        [judged] = [number for number, line in enumerate(lines) if 'what judges a trace for the command check is proved' in line]
-        place = {line.rpartition(': ')[2]: number for number, line in enumerate(lines) if ' crates proved after ' in line}
+        [judged] = [
+            number for number, line in enumerate(lines) if 'what judges a trace for the command check is proved' in line
+        ]
+        place = {
+            line.rpartition(': ')[2]: number for number, line in enumerate(lines) if ' crates proved after ' in line
+        }
         self.assertEqual(place.keys(), {*self.crates['bully'].all})
         for name, crate in ((each, self.crates[each]) for each in place):
             with self.subTest(crate=name):

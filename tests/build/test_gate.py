@@ -74,14 +74,22 @@ class Counting(unittest.TestCase):
         self.assertEqual(self.add('test result: ok. 6 passed; 0 failed; 0 ignored; 0 filtered out\n', 0), (6, 0, ''))
 
     def test_the_last_line_says_what_was_skipped_and_that_nothing_was_tried(self) -> None:
-        for call, wanted in (('', ('0 passed, 1 failed', 1)), ("it.skip('it', 'why')", ('0 passed, 0 failed, 1 skipped', 0)), ("it.hold(True, 'it')", ('1 passed, 0 failed', 0))):
+        for call, wanted in (
+            ('', ('0 passed, 1 failed', 1)),
+            ("it.skip('it', 'why')", ('0 passed, 0 failed, 1 skipped', 0)),
+            ("it.hold(True, 'it')", ('1 passed, 0 failed', 0)),
+        ):
             words = [sys.executable, '-c', f'import counts, sys\nit = counts.Counts()\n{call}\nsys.exit(it.end())']
             ran = subprocess.run(words, cwd=ROOT / 'tests', stdout=subprocess.PIPE, text=True)
             self.assertEqual((ran.stdout.splitlines()[-1], ran.returncode), wanted)
 
     def test_a_last_line_that_counts_nothing_is_one(self) -> None:
-        self.assertEqual(self.add('0 passed, 0 failed\n', 0), (0, 1, 'FAILED: it ended with no last line that counts\n'))
-        self.assertEqual(self.add('20 passed, 0 failed\nbye\n', 0), (0, 1, 'FAILED: it ended with no last line that counts\n'))
+        self.assertEqual(
+            self.add('0 passed, 0 failed\n', 0), (0, 1, 'FAILED: it ended with no last line that counts\n')
+        )
+        self.assertEqual(
+            self.add('20 passed, 0 failed\nbye\n', 0), (0, 1, 'FAILED: it ended with no last line that counts\n')
+        )
         self.assertEqual(self.add('', 0)[1], 1)
 
 
@@ -90,8 +98,12 @@ class Folders(unittest.TestCase):
         with tempfile.TemporaryDirectory() as room, mock.patch.object(sys, 'path', [room, *sys.path]):
             Path(room, 'tried').mkdir()
             for name, count in (('one', 1), ('two', 2)):
-                tests = ''.join(f'    def test_{number}(self): self.assertEqual({number}, 0)\n' for number in range(count))
-                Path(room, 'tried', f'test_{name}.py').write_text(f'import unittest\nclass It(unittest.TestCase):\n{tests}')
+                tests = ''.join(
+                    f'    def test_{number}(self): self.assertEqual({number}, 0)\n' for number in range(count)
+                )
+                Path(room, 'tried', f'test_{name}.py').write_text(
+                    f'import unittest\nclass It(unittest.TestCase):\n{tests}'
+                )
             for names, wanted in (((), '2 passed, 1 failed'), (('test_two', 'test_six'), '1 passed, 2 failed')):
                 counts = Counts()
                 with contextlib.redirect_stdout(io.StringIO()):
@@ -106,7 +118,9 @@ class Cases(unittest.TestCase):
             return [tuple(case) for case in Reader('a.txt', counts).read(text)], counts  # type: ignore[misc]
 
     def test_each_line_is_what_it_begins_as(self) -> None:
-        found, counts = self.read('# First.\n$ bully check\n< one\n<\n> two\n! three\n= 4\n\n\n# Second.\n$ bully help\n')
+        found, counts = self.read(
+            '# First.\n$ bully check\n< one\n<\n> two\n! three\n= 4\n\n\n# Second.\n$ bully help\n'
+        )
         self.assertEqual(found[0], ('a.txt:1, First.', 'bully check', 'one\n\n', 'two\n', 'three\n', 4))
         self.assertEqual(found[1], ('a.txt:10, Second.', 'bully help', '', '', '', 0))
         self.assertEqual((len(found), counts.failed), (2, 0))
@@ -116,10 +130,14 @@ class Cases(unittest.TestCase):
         self.assertEqual((len(found), counts.failed), (1, 4))
 
     def test_a_second_command_is_a_failure(self) -> None:
-        self.assertEqual(self.read('# First.\n$ bully help\n# Second.\n$ bully help\n\n# Third.\n$ bully help\n')[1].failed, 1)
+        self.assertEqual(
+            self.read('# First.\n$ bully help\n# Second.\n$ bully help\n\n# Third.\n$ bully help\n')[1].failed, 1
+        )
 
     def test_a_case_whose_tool_is_missing_is_skipped(self) -> None:
-        found, counts = self.read('# First.\n? sh no-such-tool\n$ bully check\n> one\n\n# Second.\n? sh\n$ bully help\n\n$ bully help\n')
+        found, counts = self.read(
+            '# First.\n? sh no-such-tool\n$ bully check\n> one\n\n# Second.\n? sh\n$ bully help\n\n$ bully help\n'
+        )
         self.assertEqual([case[0] for case in found], ['a.txt:6, Second.', 'a.txt'])
         self.assertEqual(counts.last(), '0 passed, 0 failed, 1 skipped')
 
@@ -167,7 +185,11 @@ class Gated(unittest.TestCase):
         self.install('kit/bin/rt', GATE)
         self.install('tree/part', PART)
         (self.tree.top / '.gitignore').write_text('out/\n__pycache__/\n')
-        for words in (['init', '-q'], ['add', '-A'], ['-c', 'user.name=a', '-c', 'user.email=a@b.example', 'commit', '-q', '-m', 'all']):
+        for words in (
+            ['init', '-q'],
+            ['add', '-A'],
+            ['-c', 'user.name=a', '-c', 'user.email=a@b.example', 'commit', '-q', '-m', 'all'],
+        ):
             self.git(*words)
         self.verdict = '10 passed, 0 failed\n'
         self.path = f'{self.tree.room}/kit/bin:/usr/bin:/bin'
@@ -185,7 +207,9 @@ class Gated(unittest.TestCase):
         (self.tree.room / 'verdict').write_text(self.verdict)
         words = [sys.executable, '-c', RUN.format(parts=parts)]
         environment, pipe, joined = {'PATH': self.path}, subprocess.PIPE, subprocess.STDOUT
-        return subprocess.Popen(words, cwd=self.tree.top, env=environment, stdout=pipe, stderr=joined, text=True, preexec_fn=as_ever)
+        return subprocess.Popen(
+            words, cwd=self.tree.top, env=environment, stdout=pipe, stderr=joined, text=True, preexec_fn=as_ever
+        )
 
     def parts_begun(self) -> str:
         begun = self.tree.room / 'parts'
@@ -213,10 +237,14 @@ class Gated(unittest.TestCase):
         self.assertEqual(self.record(), '')
 
     def test_the_library_is_made_once_what_it_stands_on_is_done_and_counts_only_if_it_fails(self) -> None:
-        self.install('tree/bin/library', '#!/bin/sh\necho "begin $1" >>ROOM/parts\nmkdir -p "$2"\n[ ! -e ROOM/refuse/library ]\n')
+        self.install(
+            'tree/bin/library', '#!/bin/sh\necho "begin $1" >>ROOM/parts\nmkdir -p "$2"\n[ ! -e ROOM/refuse/library ]\n'
+        )
         self.tree.hold('gate')
         run = self.begin(('over-it', ('library',)))
-        waited(lambda: self.parts_begun() == 'begin --gated\nbegin over-it\n', 'the part is begun before bully is proved')
+        waited(
+            lambda: self.parts_begun() == 'begin --gated\nbegin over-it\n', 'the part is begun before bully is proved'
+        )
         self.tree.let_go('gate')
         self.assertEqual(run.communicate(timeout=60)[0].splitlines()[-1], '13 passed, 0 failed')
         (self.tree.room / 'refuse' / 'library').touch()
@@ -299,7 +327,10 @@ class Gated(unittest.TestCase):
                 (self.tree.room / name).unlink(missing_ok=True)
             run = self.begin(('held', ()), ('make_later', ('bully',)), ('later', ('make_later', 'base')))
             processes = [self.tree.room / name for name in ('gate', 'held')]
-            waited(lambda: all(path.exists() and path.read_text().endswith('\n') for path in processes), 'the gate and a part run')
+            waited(
+                lambda: all(path.exists() and path.read_text().endswith('\n') for path in processes),
+                'the gate and a part run',
+            )
             # (twice, as who sees nothing happen presses Ctrl-C again)
             run.send_signal(number)
             run.send_signal(number)
@@ -312,7 +343,11 @@ class Gated(unittest.TestCase):
         crates = read_crates()
         exports = write_exports(crates['bully_c'], self.tree.room / 'exports')
         words = words_to_build(Path('/kit'), crates, exports, 'rlib')
-        handed_on = {Path(word).parents[1].name for word in words if word.startswith('dependency=') and word.endswith('/out/rlib')}
+        handed_on = {
+            Path(word).parents[1].name
+            for word in words
+            if word.startswith('dependency=') and word.endswith('/out/rlib')
+        }
         self.assertEqual({*crates['bully_c'].all}, handed_on)
 
     def test_what_was_committed_while_the_gate_ran_is_not_recorded(self) -> None:

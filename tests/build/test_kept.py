@@ -1,4 +1,5 @@
-"""What is built, and when: behind a changed comment, contract or line of crates.txt, beside another call, and behind a call that was ended."""
+"""What is built, and when: behind a changed comment, contract or line of crates.txt, beside another call, and behind a
+call that was ended."""
 import signal
 import subprocess
 import unittest
@@ -37,8 +38,11 @@ class Graph(unittest.TestCase):
         with self.assertRaisesRegex(Stopped, 'left|right'):
             read_crates(self.tree.top)
 
-    def given(self, needs: Dict[str, List[str]], length: Dict[str, int], cores: int = 4, room: int = 8, work: Work = str) -> Dict[str, int]:
-        """How many processes each task may use, in the order in which they begin, in the room of so many processes. A task does this work."""
+    def given(
+        self, needs: Dict[str, List[str]], length: Dict[str, int], cores: int = 4, room: int = 8, work: Work = str
+    ) -> Dict[str, int]:
+        """How many processes each task may use, in the order in which they begin, in the room of so many processes. A
+        task does this work."""
         found: Dict[str, int] = {}
 
         def run(name: str, processes: int) -> bool:
@@ -58,7 +62,10 @@ class Graph(unittest.TestCase):
     def test_long_chains_have_two_processes(self) -> None:
         for length, wanted in (
             ({'longest': 40, 'long': 30, 'short': 10}, {'longest': 2, 'long': 2, 'short': 1}),
-            ({'longest': 100, 'long': 60, 'short': 59, 'another': 10}, {'longest': 2, 'long': 2, 'short': 1, 'another': 1}),
+            (
+                {'longest': 100, 'long': 60, 'short': 59, 'another': 10},
+                {'longest': 2, 'long': 2, 'short': 1, 'another': 1},
+            ),
         ):
             self.assertEqual(self.given({name: [] for name in length}, length), wanted)
 
@@ -73,7 +80,8 @@ class Graph(unittest.TestCase):
         self.assertEqual(list(found), ['first', 'middle', 'late', 'short'])
 
     def seen(self, length: Dict[str, int], cores: int = 4, room: int = 8) -> List[Tuple[int, int]]:
-        """How many tasks are under way, and how many processes they may use, each time that the end of one is waited for."""
+        """How many tasks are under way, and how many processes they may use, each time that the end of one is waited
+        for."""
         found: List[Tuple[int, int]] = []
 
         def watched(under_way: 'Dict[Future[bool], Tuple[str, int]]', return_when: str) -> Any:
@@ -99,18 +107,31 @@ class Graph(unittest.TestCase):
     def test_tasks_run_at_once(self) -> None:
         meeting = Barrier(4, timeout=60)
         length = {'long': 9, 'one': 1, 'other': 1, 'third': 1}
-        self.assertEqual(set(self.given({name: [] for name in length}, length, work=lambda name: meeting.wait())), set(length))
+        self.assertEqual(
+            set(self.given({name: [] for name in length}, length, work=lambda name: meeting.wait())), set(length)
+        )
 
     def test_a_task_begins_while_another_goes_on(self) -> None:
         meeting = Barrier(2, timeout=60)  # of the one that goes on, and the one that stands on what is done
         needs: Dict[str, List[str]] = {'low': [], 'beside': [], 'high': ['low']}
-        found = self.given(needs, {'low': 90, 'beside': 10, 'high': 60}, work=lambda name: name == 'low' or meeting.wait())
+        found = self.given(
+            needs, {'low': 90, 'beside': 10, 'high': 60}, work=lambda name: name == 'low' or meeting.wait()
+        )
         self.assertEqual(found, {'low': 3, 'beside': 1, 'high': 3})
 
     def test_a_process_for_each_core_or_two_more_as_far_as_memory_goes(self) -> None:
-        for free, wanted in ((99_000_000, (5, 7)), (15_000_000, (5, 5)), (14_999_999, (4, 4)), (11_999_999, (3, 3)), (1_000, (1, 1)), (None, (5, 7))):
+        for free, wanted in (
+            (99_000_000, (5, 7)),
+            (15_000_000, (5, 5)),
+            (14_999_999, (4, 4)),
+            (11_999_999, (3, 3)),
+            (1_000, (1, 1)),
+            (None, (5, 7)),
+        ):
             told = 'MemTotal:  99000000 kB\n' + (f'MemAvailable:  {free} kB\n' if free else '')
-            with mock.patch('os.sched_getaffinity', return_value=set(range(5))), mock.patch.object(Path, 'read_text', return_value=told):
+            with mock.patch('os.sched_getaffinity', return_value=set(range(5))), mock.patch.object(
+                Path, 'read_text', return_value=told
+            ):
                 self.assertEqual((all_jobs(), all_jobs(2)), wanted)
 
     def test_a_chain_has_the_lines_of_code_from_a_crate_on_up(self) -> None:
@@ -124,7 +145,9 @@ class Graph(unittest.TestCase):
         self.tree.write('left', 'specs/Lib.antt', 'a definition\n')
         files = 'find src specs proofs -type f -print0 | LC_ALL=C sort -z | xargs -0 sha256sum'
         command = f"{{ echo 'left: base'; {files}; }} | sha256sum | cut -d ' ' -f 1"
-        wanted = subprocess.run(['bash', '-c', command], cwd=self.tree.top / 'crates' / 'left', stdout=subprocess.PIPE, text=True)
+        wanted = subprocess.run(
+            ['bash', '-c', command], cwd=self.tree.top / 'crates' / 'left', stdout=subprocess.PIPE, text=True
+        )
         self.assertEqual(sum_of(read_crates(self.tree.top)['left']), wanted.stdout.strip())
 
 
@@ -200,10 +223,14 @@ class Kept(unittest.TestCase):
         crates, kit = read_crates(self.tree.top), self.tree.room / 'kit'
         prover = mock.create_autospec(Children, instance=True)
         prover.run.return_value = False
-        building = Building(kit, crates, crates['bully'], made_of(crates, crates, kit), print, prover, self.tree.room, 0.0)
+        building = Building(
+            kit, crates, crates['bully'], made_of(crates, crates, kit), print, prover, self.tree.room, 0.0
+        )
         with self.assertRaisesRegex(Stopped, 'left was not built'):
             building.build('left', 1)
-        self.assertEqual([name for name in crates if stamp_of(crates[name].product).exists()], ['base', 'right', 'bully'])
+        self.assertEqual(
+            [name for name in crates if stamp_of(crates[name].product).exists()], ['base', 'right', 'bully']
+        )
         with self.assertRaisesRegex(Stopped, 'base was not built'):
             building.build('base', 1)
         self.assertEqual([name for name in crates if stamp_of(crates[name].product).exists()], ['bully'])

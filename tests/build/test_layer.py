@@ -60,7 +60,9 @@ class Layer(unittest.TestCase):
     def test_a_wrapper_tests_what_the_header_means(self) -> None:
         header = read_header(HEADER.format(EVERY_KIND))
         self.assertEqual(wrappers(header), WRAPPERS)
-        self.assertEqual([function.name for function in header.functions], ['bully_status_name', 'bully_take', 'bully_rest'])
+        self.assertEqual(
+            [function.name for function in header.functions], ['bully_status_name', 'bully_take', 'bully_rest']
+        )
         self.assertEqual((list(header.structures), header.statuses), (['bully_thing'], {'OK': 0, 'NULL': 20}))
 
     def test_what_the_rule_says_nothing_of_is_refused_in_words(self) -> None:
@@ -70,5 +72,9 @@ class Layer(unittest.TestCase):
             self.assertIn(words, str(refused.exception))
 
     def test_the_wrappers_can_be_read(self) -> None:
-        printed = subprocess.run(['python3', '-m', 'building.layer'], cwd=ROOT / 'bin', stdout=subprocess.PIPE, text=True, check=True).stdout
-        self.assertIn('\nbully_status bully_check(const uint8_t *trace, size_t length, bully_verdict *verdict) {\n', printed)
+        printed = subprocess.run(
+            ['python3', '-m', 'building.layer'], cwd=ROOT / 'bin', stdout=subprocess.PIPE, text=True, check=True
+        ).stdout
+        self.assertIn(
+            '\nbully_status bully_check(const uint8_t *trace, size_t length, bully_verdict *verdict) {\n', printed
+        )

@@ -5,7 +5,8 @@ from pathlib import Path
 
 from stand_in import Tree
 
-# A program that ends as a check ends one: it writes AddressSanitizer's report with the places of its functions, and aborts.
+# A program that ends as a check ends one: it writes AddressSanitizer's report with the places of its functions, and
+# aborts.
 CHECKED = r'''
 #include <stdio.h>
 #include <stdlib.h>

@@ -69,7 +69,9 @@ class Unproved(unittest.TestCase):
     def begin(self, *words: str) -> 'subprocess.Popen[str]':
         environment, pipe = {'PATH': f'{self.tree.room}/kit/bin:/usr/bin:/bin'}, subprocess.PIPE
         command = [sys.executable, '-c', RUN, *words]
-        return subprocess.Popen(command, cwd=self.tree.top, env=environment, stdout=pipe, stderr=pipe, text=True, preexec_fn=as_ever)
+        return subprocess.Popen(
+            command, cwd=self.tree.top, env=environment, stdout=pipe, stderr=pipe, text=True, preexec_fn=as_ever
+        )
 
     def call(self, *words: str) -> 'subprocess.CompletedProcess[str]':
         child = self.begin(*words)
@@ -82,7 +84,9 @@ class Unproved(unittest.TestCase):
 
     def test_all_parts_run_over_what_is_built_and_one_without_its_tool_is_skipped(self) -> None:
         ran = self.call()
-        self.assertEqual((ran.stdout.splitlines()[-1], ran.returncode), ('2 passed, 0 failed, 1 skipped', 0), ran.stderr)
+        self.assertEqual(
+            (ran.stdout.splitlines()[-1], ran.returncode), ('2 passed, 0 failed, 1 skipped', 0), ran.stderr
+        )
         self.assertIn('skipped: lacking: there is no no-such-tool\n', ran.stdout)
         self.assertIn('stand-in it\n', ran.stdout)
         self.assertEqual(self.tried(), ['alone', 'over-it few'])
@@ -112,11 +116,17 @@ class Unproved(unittest.TestCase):
         waited(lambda: self.tree.process_of('try') is not None, 'it builds')
         run.send_signal(signal.SIGTERM)
         run.communicate(timeout=60)
-        self.assertEqual((run.returncode, is_there(self.tree.process_of('try') or 0), self.tried()), (128 + signal.SIGTERM, False, []))
+        self.assertEqual(
+            (run.returncode, is_there(self.tree.process_of('try') or 0), self.tried()),
+            (128 + signal.SIGTERM, False, []),
+        )
 
     def test_a_strange_name_is_refused(self) -> None:
         refused = self.tree.call('test', 'snippets', 'nobody')
-        self.assertEqual((refused.returncode, refused.stderr), (1, 'test: there is no part nobody: bin/test --list has their names\n'))
+        self.assertEqual(
+            (refused.returncode, refused.stderr),
+            (1, 'test: there is no part nobody: bin/test --list has their names\n'),
+        )
 
     def test_the_library_is_built_once_and_says_that_nothing_is_proved(self) -> None:
         self.tree.add_library()
@@ -150,16 +160,23 @@ class Unproved(unittest.TestCase):
         write_main(crate, self.tree.room / 'sources')
         main = (self.tree.room / 'sources' / 'src' / 'main.rt').read_text()
         self.assertTrue(main.startswith('//! For C.\nmod tables;\n'))
-        self.assertTrue(main.endswith('fn main() {\ntables::bully_c_one(any());\ntables::bully_c_two(any(), any());\n}\n'), main)
+        self.assertTrue(
+            main.endswith('fn main() {\ntables::bully_c_one(any());\ntables::bully_c_two(any(), any());\n}\n'), main
+        )
         self.tree.write('bully_c', 'src/tables.rt', EXPORTS + '#[unsafe(no_mangle)]\npub fn bully_c_three() -> u32\n')
         with self.assertRaisesRegex(Stopped, 'tables.rt has a function for C of another form'):
             write_main(crate, self.tree.room / 'again')
 
     def test_a_static_library_hands_each_function_for_c_on(self) -> None:
         self.tree.list_crates({'base': '', 'bully_c': 'base'})
-        self.tree.write('bully_c', 'src/tables.rt', EXPORTS.replace('owners: &mut [u16]', 'owners: &mut [u16], group: &CGroup'))
+        self.tree.write(
+            'bully_c', 'src/tables.rt', EXPORTS.replace('owners: &mut [u16]', 'owners: &mut [u16], group: &CGroup')
+        )
         exports = write_exports(read_crates(self.tree.top)['bully_c'], self.tree.room / 'exports')
-        self.assertEqual((exports.name, exports.kind, exports.named, exports.below), ('bully_c_exports', 'archive', ('base', 'bully_c'), ('base', 'bully_c')))
+        self.assertEqual(
+            (exports.name, exports.kind, exports.named, exports.below),
+            ('bully_c_exports', 'archive', ('base', 'bully_c'), ('base', 'bully_c')),
+        )
         self.assertEqual((exports.folder / 'src' / 'lib.rt').read_text(), HANDED_ON)
 
     def test_a_module_gives_its_functions_for_c_to_others_and_nothing_else(self) -> None:

@@ -61,7 +61,10 @@ class Reader:
             self.texts[STREAMS[sign]] += f'{text}\n'
         elif line.startswith('$ '):
             if self.command:
-                self.counts.hold(False, f'{self.file}:{number}: a case has a second command: a blank line must end the case before it')
+                self.counts.hold(
+                    False,
+                    f'{self.file}:{number}: a case has a second command: a blank line must end the case before it',
+                )
             self.command = text
         elif line.startswith('? '):
             self.tools = text.split()

@@ -132,7 +132,11 @@ class KeptLog(EtcdLog):
         there, here = self.client.cluster.keys, offset_text(Promise(epoch, offset)).encode()
         end, requested_settings = there.get(self._keys.offset).value, there.get(self._keys.requested).value
         maintenance = maintenance_of(self.address, there.get(self._keys.maintenance).value)
-        if end != here or (None if requested_settings is None else Opening.parse(requested_settings.decode()), maintenance) != wanted:
+        if (
+            end != here
+            or (None if requested_settings is None else Opening.parse(requested_settings.decode()), maintenance)
+            != wanted
+        ):
             return True
         told = {name.encode(): session_text(session).encode() for name, session in sessions.items()}
         promised = {name.encode(): promise_text(each.promise, each.kept).encode() for name, each in before.items()}

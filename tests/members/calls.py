@@ -110,7 +110,9 @@ class Calls:
         meant = self._meant()
         if self.choice.random() < 0.3 and not meant.is_odd:  # all are idle up to the end of the log
             idle = dict(self.memory.holders)
-            return 'promise of all', lambda log: [log.promise(each, idle[each].session, meant.here) for each in sorted(idle)]
+            return 'promise of all', lambda log: [
+                log.promise(each, idle[each].session, meant.here) for each in sorted(idle)
+            ]
         asked = calls_with(meant)
         _, told, ask = self.choice.choices(asked, [weight for weight, _, _ in asked])[0]
         return told, ask
@@ -127,7 +129,9 @@ class Calls:
         rows = [f'{name},{number}' for number in range(choice.randint(1, 4))]
         names, limit = choice.choice([('a', 'b', 'c'), ('c', 'd', 'e')]), choice.choice([66, 500])
         requested = Opening(epoch + 1, 'bully,1,3,6', names, limit)
-        opening = memory.opening().next(choice.choice([memory.requested, memory.requested, None, requested]), (1, 2, 3, 1, 2, 0))
+        opening = memory.opening().next(
+            choice.choice([memory.requested, memory.requested, None, requested]), (1, 2, 3, 1, 2, 0)
+        )
         maintenance, before = (
             Maintenance(frozenset(choice.sample('abc', 1)), choice.choice([None, {'a': session}])) for _ in range(2)
         )

@@ -134,7 +134,9 @@ class Keys:
         """How many of these keys are there now, and those of them that were put in this revision or later."""
         changes = self._changes[bisect_left(self._changes, (revision, b'')) :]
         names = sorted({key for _, key in changes if begin <= key < end and key in self._last})
-        return bisect_left(self._there, end) - bisect_left(self._there, begin), [(name, self._last[name]) for name in names]
+        return bisect_left(self._there, end) - bisect_left(self._there, begin), [
+            (name, self._last[name]) for name in names
+        ]
 
     def since(self, revision: int, begin: bytes, end: bytes) -> list[tuple[int, bytes, Version]]:
         """What has happened to these keys after a revision, in order."""
@@ -370,7 +372,11 @@ class Cluster:
         if asked.get('count_only'):
             return {'count': str(count)}
         newer = newer[: int(asked.get('limit', 0)) or count]
-        told = [pair_told(*pair, asked) for pair in newer] if asked.get('keys_only') else [self.keys.told(*pair) for pair in newer]
+        told = (
+            [pair_told(*pair, asked) for pair in newer]
+            if asked.get('keys_only')
+            else [self.keys.told(*pair) for pair in newer]
+        )
         return {'count': str(count), 'kvs': told}
 
     # Leases.

@@ -19,6 +19,7 @@ from pathlib import Path
 from typing import Any
 
 from bully.etcd import EtcdLog, same
+
 from bully.etcd_client import (
     KV_RANGE, KV_TXN, LEASE_GRANT, LEASE_KEEPALIVE, Json, coded, exists, is_before, number_is, put_at, range_at,
     range_below, ranges, value_is,

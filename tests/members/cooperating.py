@@ -1,23 +1,24 @@
-"""Simulates groups whose members follow the proved rules alone, eager and cooperative, over a store as docs/REBALANCING.md describes it.
+"""Simulates groups whose members follow the proved rules alone, eager and cooperative, over a store as
+docs/REBALANCING.md describes it.
 
     tests/members/run cooperating LIBRARY_FOLDER [--from SEED] [--to SEED | --seed SEED] [--eager | --cooperative]
         [--careless-store]
 
-LIBRARY_FOLDER is what `bin/library` wrote. Each seed is one group: processes are killed, paused, told to leave, and come back, also again and again;
-requests and answers are lost or come late; work ends by itself; other settings are requested; the log is full, and its epoch rolls over. There are no
-unknown processes. These must not be:
+LIBRARY_FOLDER is what `bin/library` wrote. Each seed is one group: processes are killed, paused, told to leave, and
+come back, also again and again; requests and answers are lost or come late; work ends by itself; other settings are
+requested; the log is full, and its epoch rolls over. There are no unknown processes. These must not be:
 
 - two processes whose leases are sure work on one partition, or a partition's token falls;
 - a member says that it works on less than its process does, so that a promise would keep too little;
 - a member asks for something while it awaits an answer, or goes on with work after its lease, though it isn't paused;
-- in a cooperative group a member that goes on stops something that the coming table, or in a stable group the last plan, doesn't take from it: *for
+- in a cooperative group a member that goes on stops something that the coming table, or in a stable group the last
+  plan, doesn't take from it: *for
   nothing*;
 - at the end, without trouble, a node doesn't work on exactly what the last plan gives it, by its token.
 
-With `--careless-store` an append is done wherever the log ends at its offset and somebody holds a lease. That must be enough, because each writer has
-read a snapshot (`snapshots_suffice`); it isn't if members append too soon. The last line is 'N passed, M failed'; the exit status is 0 if M is 0,
-otherwise 1.
-"""
+With `--careless-store` an append is done wherever the log ends at its offset and somebody holds a lease. That must be
+enough, because each writer has read a snapshot (`snapshots_suffice`); it isn't if members append too soon. The last
+line is 'N passed, M failed'; the exit status is 0 if M is 0, otherwise 1. """
 from __future__ import annotations
 
 import argparse
@@ -46,7 +47,11 @@ TROUBLES = (
     'other settings are requested', 'a request is lost', 'an answer is lost', 'a request comes late', 'work stops before an answer', 'a rebalance',
     'an epoch rolls over', 'backs off: STOP', 'backs off: PAUSE',
 )  # fmt: skip
-TROUBLES_OF_COOPERATIVE = ('work goes on by another token', 'a rebalance that affects nobody', 'partitions are stopped that move')
+TROUBLES_OF_COOPERATIVE = (
+    'work goes on by another token',
+    'a rebalance that affects nobody',
+    'partitions are stopped that move',
+)
 
 Action = Callable[[], None]
 
@@ -107,8 +112,8 @@ class Store:
         return lease is not None
 
     def may_change(self, end: Promise, affected: set[int] | None, seen: Sequence[Lease]) -> bool:
-        """Whether a change may be made at this end: `affected` are the nodes of which something is compared, or None for all; and in a cooperative
-        group `seen` is what the writer knows of leases."""
+        """Whether a change may be made at this end: `affected` are the nodes of which something is compared, or None
+        for all; and in a cooperative group `seen` is what the writer knows of leases."""
         compared = [lease for lease, _ in self.leases.values() if affected is None or lease.node in affected]
         ready = all(lease in seen or lease.promise == end and not lease.kept for lease in compared)
         return end == self.end and bool(self.leases) and ready
@@ -251,7 +256,12 @@ class Group:
 
     def begin(self, process: Process, token: int, before: tuple[int, ...]) -> None:
         owned, by = process.core.owned(), (process.core.epoch, token)
-        if owned is None or owned.token != token or process.core.works() != owned.partitions or not set(before) <= set(owned.partitions):
+        if (
+            owned is None
+            or owned.token != token
+            or process.core.works() != owned.partitions
+            or not set(before) <= set(owned.partitions)
+        ):
             raise Wrong(f'process {process.number} begins {process.core.works()} by {token}, and owns {owned}')
         self.happened['work goes on by another token'] += bool(before)
         for partition in owned.partitions:
@@ -262,7 +272,9 @@ class Group:
 
     def stop(self, process: Process) -> None:
         """Work ends some time after that was asked for, and each partition's alone."""
-        stopping = {partition for partition, activity in enumerate(process.core.activities()) if activity is Activity.STOPPING}
+        stopping = {
+            partition for partition, activity in enumerate(process.core.activities()) if activity is Activity.STOPPING
+        }
         fresh = stopping - process.ending
         self.judge(process, fresh)
         process.ending |= stopping
@@ -273,7 +285,9 @@ class Group:
     def end_on(self, process: Process, partition: int) -> None:
         process.works.pop(partition, None)
         process.ending.discard(partition)
-        process.core.stopped() if not process.works and self.choice.random() < 0.5 else process.core.stopped_on(partition)
+        process.core.stopped() if not process.works and self.choice.random() < 0.5 else process.core.stopped_on(
+            partition
+        )
         self.nudge(process)
 
     def judge(self, process: Process, fresh: set[int]) -> None:
@@ -355,8 +369,11 @@ class Group:
         return Seen(self.store.opening.epoch, self.store.found_by(process.node), has_request=self.store.has_request)
 
     def known(self, process: Process) -> tuple[Lease, ...]:
-        """The leases as it knows them: its own with its last promise that was done, others as its last snapshot found them."""
-        others = [replace(lease, is_leaving=False) for lease in process.expected.seen.leases if lease.node != process.node]
+        """The leases as it knows them: its own with its last promise that was done, others as its last snapshot found
+        them."""
+        others = [
+            replace(lease, is_leaving=False) for lease in process.expected.seen.leases if lease.node != process.node
+        ]
         return (*others, process.own) if process.own is not None else tuple(others)
 
     def change(self, process: Process, request: Request, end: Promise) -> Callable[[], bool]:
@@ -418,7 +435,9 @@ class Group:
         if found and seen.epoch == core.epoch:
             process.own = found[0]
             if core.is_stable() != process.expected.is_stable():
-                raise Wrong(f'process {process.number} takes the group for {"stable" if core.is_stable() else "unstable"}')
+                raise Wrong(
+                    f'process {process.number} takes the group for {"stable" if core.is_stable() else "unstable"}'
+                )
 
     # What is judged of its lease.
 
@@ -427,7 +446,9 @@ class Group:
         if not isinstance(process.core.session, Live):
             process.sure_until, process.own = 0, None
         elif process.core.sure_until != process.sure_until:
-            raise Wrong(f'the lease of process {process.number} is sure until {process.sure_until}, and not {process.core.sure_until}')
+            raise Wrong(
+                f'the lease of process {process.number} is sure until {process.sure_until}, and not {process.core.sure_until}'
+            )
         for partition in process.works if self.now < process.sure_until else ():
             self.see_alone(process, partition)
 
@@ -437,7 +458,8 @@ class Group:
                 raise Wrong(f'processes {process.number} and {other.number} work on partition {partition}')
 
     def see_stopped(self, process: Process, until: int) -> None:
-        """Its lease isn't sure any more, unless it was renewed meanwhile: all of its work was asked to end, unless it was paused then."""
+        """Its lease isn't sure any more, unless it was renewed meanwhile: all of its work was asked to end, unless it
+        was paused then."""
         goes_on = set(process.works) - process.ending
         if not process.is_dead and process.sure_until == until and process.paused_until < until and goes_on:
             raise Wrong(f'process {process.number} works on {sorted(goes_on)} after its lease')
@@ -460,7 +482,9 @@ class Group:
         held, holds = ([(lease.session, lease.is_leaving) for lease in leases] for leases in (seen, found))
         if self.store.end != end or held != holds or self.store.has_request != process.expected.seen.has_request:
             return True
-        idle, before = ({lease.node for lease in leases if lease.promise == end and not lease.kept} for leases in (found, seen))
+        idle, before = (
+            {lease.node for lease in leases if lease.promise == end and not lease.kept} for leases in (found, seen)
+        )
         over = {
             Until.NEWS: False, Until.ANY_IDLE: bool(idle - before), Until.ALL_IDLE: len(idle) == len(found), Until.PROMISES: seen != found,
         }  # fmt: skip
@@ -517,7 +541,8 @@ class Group:
             self.nudge(process)
 
     def come_and_go(self, process: Process) -> None:
-        """Its node comes and goes a few times, so that those who saw this admit it later than itself does, and who has just come."""
+        """Its node comes and goes a few times, so that those who saw this admit it later than itself does, and who has
+        just come."""
         for time in range(self.choice.randint(1, 5)):
             self.after(time * TTL // 4, lambda: self.come_again(process.node))
 

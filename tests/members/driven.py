@@ -1,4 +1,5 @@
-"""Members of a simulated group: each has the package's own driver over a log of the package, in simulated time, and its worker."""
+"""Members of a simulated group: each has the package's own driver over a log of the package, in simulated time, and its
+worker."""
 from __future__ import annotations
 
 from collections.abc import Callable

@@ -53,4 +53,7 @@ def build(edit: Path, folder: Path) -> bool:
     are now. Whether it is there then."""
     with tempfile.TemporaryDirectory() as room:
         copy_with(edit, Path(room, 'tree'))
-        return subprocess.run([sys.executable, '-c', BUILD, str(folder)], cwd=Path(room, 'tree'), check=False).returncode == 0
+        return (
+            subprocess.run([sys.executable, '-c', BUILD, str(folder)], cwd=Path(room, 'tree'), check=False).returncode
+            == 0
+        )

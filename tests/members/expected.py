@@ -1,5 +1,5 @@
-"""What a member must expect by its snapshots, judged apart from its rules by docs/REBALANCING.md: who is admitted, whether the group is stable for it,
-and the coming table. So what it stops for nothing in a cooperative group."""
+"""What a member must expect by its snapshots, judged apart from its rules by docs/REBALANCING.md: who is admitted,
+whether the group is stable for it, and the coming table. So what it stops for nothing in a cooperative group."""
 from __future__ import annotations
 
 from collections.abc import Iterable, Sequence
@@ -22,7 +22,8 @@ class Expected:
         self.opening, self.ttl = opening, ttl
         self.replica = Replica(opening.header)  # with what it has learned
         self.seen = Seen(0)  # its last snapshot
-        self.arrivals: dict[int, tuple[Session, int, int]] = {}  # of each node: when its session was first seen, and its stay
+        # (of each node: when its session was first seen, and its stay)
+        self.arrivals: dict[int, tuple[Session, int, int]] = {}
         self.group: list[int] = []  # the nodes that were admitted then
         self.end = 0  # where the log ended then
         self.promised = 0  # the last offset that its session has asked to promise
@@ -42,8 +43,8 @@ class Expected:
         return {node for node in self.group if is_new and self.replica.state(node).status is Status.DOWN}
 
     def _admitted(self, now: int) -> list[int]:
-        """Which live nodes are admitted now: those that are up in the log, or whose session has stayed long enough; all, while a change is under way,
-        since a node that is up has promised the end of the log."""
+        """Which live nodes are admitted now: those that are up in the log, or whose session has stayed long enough;
+        all, while a change is under way, since a node that is up has promised the end of the log."""
         passed = self._passed()
         for lease in self.seen.leases:
             session, first, stay = self.arrivals.get(lease.node, (None, 0, 0))
@@ -51,7 +52,11 @@ class Expected:
                 self.arrivals[lease.node] = lease.session, now, min(4 * stay, 10 * self.ttl)
             if session != lease.session:
                 again = session is not None and now - first < 60 * self.ttl
-                self.arrivals[lease.node] = lease.session, now, min(4 * stay, 10 * self.ttl) if again else self.ttl // 100
+                self.arrivals[lease.node] = (
+                    lease.session,
+                    now,
+                    min(4 * stay, 10 * self.ttl) if again else self.ttl // 100,
+                )
 
         end = Promise(self.opening.epoch, self.replica.rows)
         is_under_way = any(lease.promise == end and self._is_up(lease.node) for lease in self.seen.leases)
@@ -71,8 +76,8 @@ class Expected:
         return self.seen.has_request or self.replica.rows + REBALANCE * self.replica.nodes > self.opening.rows_max
 
     def is_stable(self) -> bool:
-        """Whether the group is stable for it, by its last snapshot. In a cooperative group only the highest live node goes by what others have
-        promised."""
+        """Whether the group is stable for it, by its last snapshot. In a cooperative group only the highest live node
+        goes by what others have promised."""
         own, leases = self.opening.node, self.seen.leases
         goes_by_all = not self.opening.is_cooperative or all(lease.node <= own for lease in leases)
         there = [lease for lease in leases if lease.node in self.group and (goes_by_all or lease.node == own)]
@@ -87,8 +92,8 @@ class Expected:
         return last_table(self.replica.rebalance(self.group, self.opening.old)) or ()
 
     def judged(self, core: Core, now: int, stopped: Iterable[int]) -> tuple[set[int], set[int]]:
-        """Of the partitions that the member of a cooperative group stops those that move, and those that it stops for nothing; none if it may not go on
-        with anything."""
+        """Of the partitions that the member of a cooperative group stops those that move, and those that it stops for
+        nothing; none if it may not go on with anything."""
         goes_on = now < core.sure_until and core.ending is None and self.seen.epoch == core.epoch and not self.is_full
         table, asked = self.coming() if goes_on else (), set(stopped) if goes_on else set()
         moving = {partition for partition in asked if not table or table[partition] != core.node}

@@ -101,7 +101,8 @@ class Faults:
         self.group.kill(self.choice.choice(NAMES))
 
     def kill_again(self) -> None:
-        """A node comes back again and again, and once more after the highest member was killed, which doesn't remember that."""
+        """A node comes back again and again, and once more after the highest member was killed, which doesn't remember
+        that."""
         *others, highest = list(NAMES)
         name = self.choice.choice(others)
         for each in (*[name] * RETURNS, highest, name):

@@ -45,7 +45,9 @@ KINDS = {'whole': (), 'each': ('--each',), 'talk': ('--talk',)}  # of workers: t
 def add_modes(words: argparse.ArgumentParser) -> None:
     """Options for the mode of a group, and for the kind of its workers."""
     words.add_argument('--cooperative', action='store_true', help='a change stops only the work that moves')
-    words.add_argument('--kind', choices=KINDS, default='whole', help='one worker, one for each partition, or one that stays')
+    words.add_argument(
+        '--kind', choices=KINDS, default='whole', help='one worker, one for each partition, or one that stays'
+    )
 
 
 def init_words(options: argparse.Namespace) -> list[str]:
@@ -128,8 +130,8 @@ class Group:
     ) -> None:  # fmt: skip
         """A new group. `stores` has the address of the log for each member, and for the view of the group ('').
         `within` has the words by which a process is begun where a member is; `words` are more ones for each member, and
-        `init` for the making of the log; `work` makes what has the work, in a folder; and in the folder `acts`, if there
-        is one, members write down what they do (`acting.py`)."""
+        `init` for the making of the log; `work` makes what has the work, in a folder; and in the folder `acts`, if
+        there is one, members write down what they do (`acting.py`)."""
         self.folder, self.ttl, self.words, self.acts = folder, ttl, list(words), acts
         self.stores, self.within = stores, within
         self.configs = 0

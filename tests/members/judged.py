@@ -17,7 +17,8 @@ from bully.settings import Settings
 
 @dataclass(frozen=True)
 class Lease:
-    """The session that holds a lease, what it has promised, which partitions that keeps, and until when it holds the lease."""
+    """The session that holds a lease, what it has promised, which partitions that keeps, and until when it holds the
+    lease."""
 
     session: Session
     promise: Promise

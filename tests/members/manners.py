@@ -75,7 +75,14 @@ class Manners(OverMemory):
         for name in names:
             self.begin(name)
         self.become_stable()
-        turns = self.one_comes, self.one_comes_late, self.one_leaves, self.one_is_drained, self.one_is_cut_off_and_leaves, self.works_for_long
+        turns = (
+            self.one_comes,
+            self.one_comes_late,
+            self.one_leaves,
+            self.one_is_drained,
+            self.one_is_cut_off_and_leaves,
+            self.works_for_long,
+        )
         for turn in turns:
             turn(self.choice.choice(names))
             self.become_stable()
@@ -127,7 +134,9 @@ class Manners(OverMemory):
 
     def one_is_drained(self, name: str) -> None:
         """The same of a node that is drained."""
-        self.leave_in_one_round(name, partial(self.set_maintenance, partial(operations.drain, self.store.log, name, takes_last=False)))
+        self.leave_in_one_round(
+            name, partial(self.set_maintenance, partial(operations.drain, self.store.log, name, takes_last=False))
+        )
         self.live(self.now + self.ttl)
         self.set_maintenance(partial(operations.undrain, self.store.log, name))
 

@@ -2,10 +2,9 @@
 
     noting.py FILE STOP_SECONDS
 
-Each line of FILE is `NS WORD NODE PARTITION..`: the moment by CLOCK_BOOTTIME, and `begin`, or `stop` when it was told to
-stop, which it takes so many seconds for. After each `begin` it works on exactly these partitions, and by `--each` a process on one
-of them. With BULLY_ANSWERS in its environment it stays over changes.
-"""
+Each line of FILE is `NS WORD NODE PARTITION..`: the moment by CLOCK_BOOTTIME, and `begin`, or `stop` when it was told
+to stop, which it takes so many seconds for. After each `begin` it works on exactly these partitions, and by `--each` a
+process on one of them. With BULLY_ANSWERS in its environment it stays over changes. """
 from __future__ import annotations
 
 import json

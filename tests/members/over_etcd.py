@@ -144,7 +144,10 @@ class Requests:
             member.soon(self.until(request.reached), lambda: self.hear(request, silent))
 
     def arrive(self, request: Request) -> None:
-        is_late, is_promise = self.awaited is not request, self.asked is not None and self.asked.request is Asked.PROMISE
+        is_late, is_promise = (
+            self.awaited is not request,
+            self.asked is not None and self.asked.request is Asked.PROMISE,
+        )
         self.simulation.happened['a request comes after its time'] += is_late
         self.simulation.happened['a promise comes late'] += is_late and is_promise
         self.simulation.cluster.receive(

@@ -83,7 +83,9 @@ class OverMemory(Simulation):
 
     member: type[Member] = MemoryMember
 
-    def __init__(self, seed: int, trouble: type[Trouble] = Trouble, mode: Mode = Mode(), store: StoreMaker = MemoryStore) -> None:
+    def __init__(
+        self, seed: int, trouble: type[Trouble] = Trouble, mode: Mode = Mode(), store: StoreMaker = MemoryStore
+    ) -> None:
         super().__init__(seed, store, trouble, mode)
         self.end = Promise(FIRST, 0)  # of the log, after its last change
         self.last_set = Maintenance()  # the maintenance that was set last
@@ -104,7 +106,8 @@ class OverMemory(Simulation):
         return super().changed(what, done)
 
     def stops(self, member: Member, stopped: frozenset[int]) -> None:
-        """In a pause no member stops work because of others, unless its log is full: in a cooperative group it may work on till then."""
+        """In a pause no member stops work because of others, unless its log is full: in a cooperative group it may work
+        on till then."""
         if member.is_frozen and self.now < member.rules.sure_until and not member.is_leaving:
             self.happened['work stops in a pause since the log is full'] += member.expected.is_full
             if not self.is_cooperative or not member.expected.is_full:

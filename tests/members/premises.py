@@ -4,12 +4,11 @@ acts are written down and judged (`monitor.py`).
     tests/members/run premises LIBRARY_FOLDER [--store sqlite|etcd] [--ttl SECONDS] [--patience SECONDS] [--cooperative]
         [--kind KIND] [--folder FOLDER]
 
-LIBRARY_FOLDER is what `bin/library` wrote. Each kind of act occurs: members start, and end in order; the store is silent
-for so long that requests aren't answered; a member is stopped for longer than its lease lasts, and one is killed; and
-the nodes get other numbers. An act that breaks a premise is printed, with the name of the premise. It is a failure,
-too, if no act was judged by one of them. The last line is 'N passed, M failed'; the exit status is 0 if M is 0,
-otherwise 1.
-"""
+LIBRARY_FOLDER is what `bin/library` wrote. Each kind of act occurs: members start, and end in order; the store is
+silent for so long that requests aren't answered; a member is stopped for longer than its lease lasts, and one is
+killed; and the nodes get other numbers. An act that breaks a premise is printed, with the name of the premise. It is a
+failure, too, if no act was judged by one of them. The last line is 'N passed, M failed'; the exit status is 0 if M is
+0, otherwise 1. """
 from __future__ import annotations
 
 import argparse

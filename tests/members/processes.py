@@ -54,7 +54,11 @@ def halt_by_group(test: unittest.TestCase, process: int, kind: str) -> Callable[
     freezers = {'cgroup': ('freezer.state', 'FROZEN', 'THAWED'), 'cgroup2': ('cgroup.freeze', '1', '0')}
     name, froze, thawed = freezers[kind]
     mounts = [line.split() for line in Path('/proc/self/mounts').read_text().splitlines()]
-    places = [place for _, place, system, options, *_ in mounts if system == kind and (kind == 'cgroup2' or 'freezer' in options.split(','))]
+    places = [
+        place
+        for _, place, system, options, *_ in mounts
+        if system == kind and (kind == 'cgroup2' or 'freezer' in options.split(','))
+    ]
     group = Path(places[0] if places else '/proc/none', f'bully{process}')
     try:
         group.mkdir(exist_ok=True)
@@ -193,7 +197,9 @@ def guards_of(member: int) -> list[int]:
 def workers_of(member: int) -> list[Process]:
     """The workers of a member."""
     found = [
-        (watchdog, Process(worker, os.pidfd_open(worker))) for watchdog in children(member) for worker in below(watchdog)
+        (watchdog, Process(worker, os.pidfd_open(worker)))
+        for watchdog in children(member)
+        for worker in below(watchdog)
     ]
     return [worker for watchdog, worker in found if worker.number in below(watchdog)]
 

@@ -5,11 +5,10 @@ laws (`monitor.py`).
     tests/members/run rates LIBRARY_FOLDER [--store sqlite|etcd] [--ttl SECONDS] [--patience SECONDS] [--cooperative]
         [--kind KIND]
 
-LIBRARY_FOLDER is what `bin/library` wrote. All members of a file must have one clock, at whatever rate; over a server of
-etcd they may have different ones, which are no more than a fifth slower than the server's. What the laws exclude must be
-refused by its premise. Without a compiler, or without the program `etcd` if that is needed, nothing is tried. The last
-line is 'N passed, M failed'; the exit status is 0 if M is 0, otherwise 1.
-"""
+LIBRARY_FOLDER is what `bin/library` wrote. All members of a file must have one clock, at whatever rate; over a server
+of etcd they may have different ones, which are no more than a fifth slower than the server's. What the laws exclude
+must be refused by its premise. Without a compiler, or without the program `etcd` if that is needed, nothing is tried.
+The last line is 'N passed, M failed'; the exit status is 0 if M is 0, otherwise 1. """
 from __future__ import annotations
 
 import argparse
@@ -32,7 +31,8 @@ SKIPPED = 'tests/members/rates: skipped, since %s\n0 passed, 0 failed, 1 skipped
 
 
 class Case(NamedTuple):
-    """The rates of the members' clocks, one for each or one for all; and the premise that they break, if they break one."""
+    """The rates of the members' clocks, one for each or one for all; and the premise that they break, if they break
+    one."""
 
     what: str
     rates: Sequence[float]
@@ -84,7 +84,9 @@ def try_case(folder: Path, library: Path, case: Case, options: argparse.Namespac
     if len(case.rates) == 1:
         path = os.pathsep.join([str(ROOT / 'tests'), os.environ['PYTHONPATH']])
         one = environment(**clock(library, since, case.rates[0]), PYTHONPATH=path)
-        status = subprocess.run([sys.executable, '-m', 'members.premises', *sys.argv[1:]], env=one, check=False).returncode
+        status = subprocess.run(
+            [sys.executable, '-m', 'members.premises', *sys.argv[1:]], env=one, check=False
+        ).returncode
         return Counted(not status, status)
 
     def within(name: str) -> tuple[str, ...]:

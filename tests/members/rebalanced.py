@@ -32,9 +32,7 @@ class Case:
         return f'{self.name}: {self.header} after {len(self.rows)} rows, with {self.live} and {self.old}'
 
 
-def rebalance(
-    header: str, rows: Sequence[str], live: Sequence[int], old: Sequence[int] | None = None
-) -> list[str]:
+def rebalance(header: str, rows: Sequence[str], live: Sequence[int], old: Sequence[int] | None = None) -> list[str]:
     """The rebalance of the library."""
     with Replica(header) as replica:
         replica.learn(rows)
@@ -51,7 +49,9 @@ def is_stable(replica: Replica, live: Sequence[int], promised: int) -> bool:
     up = {state.node for state in states if state.status is not Status.DOWN}
     if not up or up != set(live):
         return up == set(live)
-    are_normal = all(state.status is Status.NORMAL and state.coordinator == max(up) for state in states if state.node in up)
+    are_normal = all(
+        state.status is Status.NORMAL and state.coordinator == max(up) for state in states if state.node in up
+    )
     return are_normal and promised < (replica.token or 0) and set(replica.last_table or ()) <= up
 
 
@@ -136,9 +136,7 @@ def random_cases(count: int) -> Iterator[Case]:
             rows: list[str] = []
             for _ in range(choice.choice([0, 1, 1, 1]) * choice.randint(0, 40 * nodes)):
                 rows += random_row(choice, replica, choice.randint(1, nodes))
-        yield Case(
-            f'seed {seed}', setup.header(), tuple(rows), random_live(choice, nodes), random_old(choice, setup)
-        )
+        yield Case(f'seed {seed}', setup.header(), tuple(rows), random_live(choice, nodes), random_old(choice, setup))
 
 
 def random_row(choice: random.Random, replica: Replica, node: int) -> list[str]:
@@ -235,9 +233,7 @@ def with_an_owner_that_is_gone(rebalanced: list[str], case: Case) -> list[str]:
     ]
 
 
-def among_others(
-    header: str, rows: Sequence[str], live: Sequence[int], old: Sequence[int] | None = None
-) -> list[str]:
+def among_others(header: str, rows: Sequence[str], live: Sequence[int], old: Sequence[int] | None = None) -> list[str]:
     """It takes the nodes that are up for the live ones."""
     with Replica(header) as replica:
         replica.learn(rows)

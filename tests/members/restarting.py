@@ -104,8 +104,9 @@ class Returns(Restarts):
 
 
 class Forgetful(OverMemory):
-    """A node that comes back a few times, and a member that starts anew, so that it doesn't remember that. It admits the node at once, and stops what
-    moves to it. The others would admit the node much later. What moves must not stand still until then."""
+    """A node that comes back a few times, and a member that starts anew, so that it doesn't remember that. It admits
+    the node at once, and stops what moves to it. The others would admit the node much later. What moves must not stand
+    still until then."""
 
     def __init__(self, seed: int) -> None:
         super().__init__(seed, Returns, each_mode(seed))

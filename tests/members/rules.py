@@ -63,7 +63,11 @@ def try_groups(counts: Counts, group: type[Restarting] | type[Forgetful] | type[
         wrong = simulation.tried()
         happened.update(simulation.happened)
         counts.hold(wrong is None, f'{group.__name__}, seed {seed}: {wrong}')
-    print(f'{group.__name__}: {last} groups', *(f'  {what}: {times}' for what, times in sorted(happened.items())), sep='\n')
+    print(
+        f'{group.__name__}: {last} groups',
+        *(f'  {what}: {times}' for what, times in sorted(happened.items())),
+        sep='\n',
+    )
 
 
 def try_broken(counts: Counts, seeds: int) -> None:

@@ -1,6 +1,7 @@
 """Simulates groups of members by the proved rules, one for each seed, over the stores of the package.
 
-    tests/members/run simulate LIBRARY_FOLDER [--from SEED] [--to SEED | --seed SEED] [--over-etcd | --told | --careless-store]
+    tests/members/run simulate LIBRARY_FOLDER [--from SEED] [--to SEED | --seed SEED] [--over-etcd | --told |
+    --careless-store]
         [--epochs | --maintenance | --trouble NAME] [--eager | --cooperative] [--kind KIND]
     tests/members/run simulate LIBRARY_FOLDER --long [CHANGES]
 
@@ -9,14 +10,14 @@ be lawful, and no two members may work on one partition at one moment, but for t
 lease; and then by tokens that the resource can tell apart. The log is that of `bully.memory`; with `--over-etcd` that
 of `bully.etcd`, over an etcd whose leaders are lost; with `--told` members wait there by the package's own watch, and
 read snapshots from what it reported; with `--careless-store` that in memory compares of an append only where the log
-ends, which must be enough, because each writer has read a snapshot (`snapshots_suffice`). Half of the groups are cooperative, and each has one of three kinds of workers
-(`whole`, `each`, `talk`), unless `--eager`, `--cooperative` or `--kind` says so. With `--epochs` logs are soon full,
-groups are resized often, and old epochs are taken away; with `--maintenance` nodes are drained, and groups are paused;
-without these a tenth of the seeds has the one, and a tenth the other; and `--trouble` names a kind of `trouble.py`.
-`--long` is an eager and a cooperative group of five with 10,000 changes of which members run, or CHANGES, over many
-epochs: memory must not grow. A kind of trouble that never happened among 200 seeds or more is a failure, too. The last line is 'N passed, M
-failed'; the exit status is 0 if M is 0, otherwise 1.
-"""
+ends, which must be enough, because each writer has read a snapshot (`snapshots_suffice`). Half of the groups are
+cooperative, and each has one of three kinds of workers (`whole`, `each`, `talk`), unless `--eager`, `--cooperative` or
+`--kind` says so. With `--epochs` logs are soon full, groups are resized often, and old epochs are taken away; with
+`--maintenance` nodes are drained, and groups are paused; without these a tenth of the seeds has the one, and a tenth
+the other; and `--trouble` names a kind of `trouble.py`. `--long` is an eager and a cooperative group of five with
+10,000 changes of which members run, or CHANGES, over many epochs: memory must not grow. A kind of trouble that never
+happened among 200 seeds or more is a failure, too. The last line is 'N passed, M failed'; the exit status is 0 if M is
+0, otherwise 1. """
 from __future__ import annotations
 
 import argparse
@@ -65,7 +66,9 @@ def group_of(options: argparse.Namespace, seed: int) -> Simulation:
     """The group that the words ask for, by its seed."""
     if options.careless_store:
         return OverMemory(seed, trouble_of(options, seed), Mode(options.is_cooperative, options.kind), CarelessStore)
-    group: type[Watching | OverEtcd | OverMemory] = Watching if options.told else OverEtcd if options.over_etcd else OverMemory
+    group: type[Watching | OverEtcd | OverMemory] = (
+        Watching if options.told else OverEtcd if options.over_etcd else OverMemory
+    )
     return group(seed, trouble_of(options, seed), Mode(options.is_cooperative, options.kind))
 
 

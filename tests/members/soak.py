@@ -6,10 +6,11 @@ workers do.
         [--take-leases] [--errors SHARE] [--program PATH] [--folder FOLDER]
 
 LIBRARY_FOLDER is what `bin/library` wrote. Members, their watchdogs and their workers are killed and paused, by a seed,
-also a member with its worker and with its watchdog at one moment; so are keepers; so are the servers, one or all. Whatever has ended is
-started again. After a share of the faults the group gets time to become stable, and after the others the next one
-comes. Each worker asks the recorder, a process of its own, for each unit of work (`recorder.py`). All members write down
-what they do, and at the end these acts are judged by the premises that the promises have of drivers (`monitor.py`).
+also a member with its worker and with its watchdog at one moment; so are keepers; so are the servers, one or all.
+Whatever has ended is started again. After a share of the faults the group gets time to become stable, and after the
+others the next one comes. Each worker asks the recorder, a process of its own, for each unit of work (`recorder.py`).
+All members write down what they do, and at the end these acts are judged by the premises that the promises have of
+drivers (`monitor.py`).
 
 Each kind of fault must be seen to happen. At the end the group must become stable, and leave in order; no unit may
 have overlapped another one, or have been requested with an old token; and the logs must be lawful, also with
@@ -79,7 +80,9 @@ def stores_in(
         proxy.share = options.errors
     through = f'etcd://{",".join(proxy.endpoint for proxy in proxies)}/{PREFIX}'
     stores = dict.fromkeys(NAMES, through) if options.errors else {}
-    closing.callback(lambda: print(f'requests that a proxy answered by itself: {sum(proxy.answered for proxy in proxies)}'))
+    closing.callback(
+        lambda: print(f'requests that a proxy answered by itself: {sum(proxy.answered for proxy in proxies)}')
+    )
     return {**addresses(servers, PREFIX), **stores}, servers
 
 

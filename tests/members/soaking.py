@@ -94,7 +94,13 @@ class Soak:
     """A group, and what happens to it. Whatever ends is started again."""
 
     def __init__(
-        self, group: Group, servers: Servers | None, choice: random.Random, share: float, takes_leases: bool = False, words: str = ''
+        self,
+        group: Group,
+        servers: Servers | None,
+        choice: random.Random,
+        share: float,
+        takes_leases: bool = False,
+        words: str = '',
     ) -> None:
         """After this share of the faults, which are those whose kind has these words, the group gets time to become
         stable. An operator takes leases of etcd away, or none does."""
@@ -188,8 +194,8 @@ class Soak:
         return is_seen
 
     def strike_again(self) -> bool:
-        """A node comes back again and again, and once more after the highest member was killed, which doesn't remember that.
-        Whether each death was seen, of a member that was live."""
+        """A node comes back again and again, and once more after the highest member was killed, which doesn't remember
+        that. Whether each death was seen, of a member that was live."""
         *others, highest = [node.name for node in self.group.shown.nodes]
         name = self.choice.choice(others)
         return all(self.strike_live(each) for each in (*[name] * RETURNS, highest, name))

@@ -7,10 +7,13 @@ once; workers end by themselves; logs are soon full; other settings are requeste
 moment
 
 - no two processes work on one partition, but for one that was paused beyond its lease;
-- where rows are appended, or an epoch ends, nobody who holds a lease works, but in a cooperative group on what its node keeps by the last plan;
-- no worker that wasn't paused uses a token that is lower than another one before it, in a cooperative group on the same partition; and no token on a
+- where rows are appended, or an epoch ends, nobody who holds a lease works, but in a cooperative group on what its node
+  keeps by the last plan;
+- no worker that wasn't paused uses a token that is lower than another one before it, in a cooperative group on the same
+  partition; and no token on a
   partition serves two sessions;
-- in a cooperative group nobody who holds a lease works on what the log's last plan doesn't give its node, and nothing is stopped for nothing;
+- in a cooperative group nobody who holds a lease works on what the log's last plan doesn't give its node, and nothing
+  is stopped for nothing;
 - no log has more rows than it may have, and none changes more than 20 times within a ttl.
 
 Then there is no more trouble: the group must become stable, and stay so, with the settings that were requested last
@@ -74,7 +77,8 @@ class Simulation:
         self.choice = random.Random(seed)
         self.trouble = trouble(self.choice)
         self.is_cooperative, kind = mode.of_seed(seed)
-        self.steps_meanwhile = random.Random(f'{seed} steps').random() < 0.3  # whether members take steps while they wait for an answer
+        # (whether members take steps while they wait for an answer)
+        self.steps_meanwhile = random.Random(f'{seed} steps').random() < 0.3
         self.kind, self.mode = KINDS[kind], f'{"cooperative" if self.is_cooperative else "eager"}, {kind}'
         self.now, self.count, self.is_calm, self.ttl = 0, 0, False, TTL
         self.events: list[tuple[int, int, Action]] = []

@@ -163,7 +163,9 @@ def spans(clock: Clock, ender: Clock, ttl: int) -> Iterator[tuple[int, int]]:
         if moment < last + ttl / STEPS or ender.at(moment) is None:
             continue
         last, first = moment, start
-        while start < end and (ender.at(clock.moments[start]) is None or has_counted(ender, clock.moments[start], moment, ttl)):
+        while start < end and (
+            ender.at(clock.moments[start]) is None or has_counted(ender, clock.moments[start], moment, ttl)
+        ):
             start += 1
         if start > first and has_counted(ender, clock.moments[start - 1], moment, ttl):
             start -= 1

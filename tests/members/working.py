@@ -1,9 +1,8 @@
-"""The workers of simulated members, of three kinds: one process for all partitions (`whole`), one for each (`each`), and one that stays over changes
-and is told of them by lines (`talk`).
+"""The workers of simulated members, of three kinds: one process for all partitions (`whole`), one for each (`each`),
+and one that stays over changes and is told of them by lines (`talk`).
 
-A `Process` is what the watchdog runs. A `Worker` is what the member knows of it. Each hears of the other by messages, which come in order and maybe
-late. A message about a process that isn't the member's any more is dropped.
-"""
+A `Process` is what the watchdog runs. A `Worker` is what the member knows of it. Each hears of the other by messages,
+which come in order and maybe late. A message about a process that isn't the member's any more is dropped. """
 from __future__ import annotations
 
 from collections import deque
@@ -45,8 +44,8 @@ class Line:
 
 
 class Process:
-    """A process of a worker: it works in units, one after the other, each on all partitions that it has. Its watchdog ends it if it is at work when the
-    lease of its member isn't sure any more, or when its member is dead."""
+    """A process of a worker: it works in units, one after the other, each on all partitions that it has. Its watchdog
+    ends it if it is at work when the lease of its member isn't sure any more, or when its member is dead."""
 
     def __init__(self, worker: Worker, token: Token, partitions: frozenset[int]) -> None:
         self.worker = worker
@@ -86,7 +85,12 @@ class Process:
             return
         simulation, worker = self.simulation, self.worker
         is_late = simulation.now >= worker.until and bool(self.works)
-        if worker.member.is_dead or is_late or self.works and simulation.happens('a worker ends by itself', simulation.trouble.ends):
+        if (
+            worker.member.is_dead
+            or is_late
+            or self.works
+            and simulation.happens('a worker ends by itself', simulation.trouble.ends)
+        ):
             self.end()
         elif self.works:
             self.unit = Unit(self, self.token, self.works, worker.until + simulation.ttl // 5)
@@ -209,7 +213,8 @@ class Whole(Worker):
         self.change()
 
     def change(self) -> None:
-        """Its process gets what it is to have, if there is none any more; one that has something else must end first."""
+        """Its process gets what it is to have, if there is none any more; one that has something else must end
+        first."""
         process, (token, wanted) = self.process, self.wanted
         if process is None:
             owed, self.owed = self.owed, frozenset()
@@ -255,7 +260,8 @@ class Each(Worker):
 
 
 class Talk(Worker):
-    """A process that stays, and is told by lines what to stop, and all that it has. One that doesn't know that a part may be stopped stops all."""
+    """A process that stays, and is told by lines what to stop, and all that it has. One that doesn't know that a part
+    may be stopped stops all."""
 
     stays = True
 

@@ -1,30 +1,33 @@
 """Plants bugs, one at a time: in the package `bully`, in the proved rules of a member, or in both. Each must be found.
 
     tests/members/run wrong FOLDER [WORDS ..] [--edited FOLDER] [--jobs COUNT]
-                                                plants each bug, or each whose entry has one of these words, and runs what must find it
+                                                plants each bug, or each whose entry has one of these words, and runs
+                                                what must find it
     tests/members/run wrong FOLDER --turn       plants the quarter that was found the longest ago, as the gate does
     tests/members/run wrong --note              notes in `last-found.txt` what the last run with --turn found
     tests/members/run wrong --fit               checks that each bug fits its file, and has its test, as the gate does
     tests/members/run wrong --list [WORDS ..]   lists them, with the days when they were last found
 
-The first FOLDER is what `bin/library` wrote. A bug in the rules is an edit of a crate, which takes a library that has this edit and isn't proved.
-It is built in the other FOLDER, in some two minutes, unless it is there, made of what the sources are now. Without that FOLDER it is left out.
+The first FOLDER is what `bin/library` wrote. A bug in the rules is an edit of a crate, which takes a library that has
+this edit and isn't proved. It is built in the other FOLDER, in some two minutes, unless it is there, made of what the
+sources are now. Without that FOLDER it is left out.
 
 `wrong-bodies.txt` has the bugs. An entry has these lines:
 
 - `#` and a sentence that says what is wrong;
-- what must find it, once or more often: `test` and a test of the package; or `run` and the words of a program of `tests/members/run`, then a bar
+- what must find it, once or more often: `test` and a test of the package; or `run` and the words of a program of
+  `tests/members/run`, then a bar
   and a part of what that program says if it finds the bug;
-- `edit` and an edit of a crate; or `file` and a file of the package, with lines after `-` that are there once, and after `+` what replaces them; or
+- `edit` and an edit of a crate; or `file` and a file of the package, with lines after `-` that are there once, and
+  after `+` what replaces them; or
   both.
 
-`last-found.txt` has the day on which each was last found. If the list is noted and committed after each gate, all have been planted within four
-gates.
+`last-found.txt` has the day on which each was last found. If the list is noted and committed after each gate, all have
+been planted within four gates.
 
-Without the bug a test or a program must pass, and with it it must fail. What comes out otherwise is run up to twice more, with twice the patience,
-because a busy machine may starve it. A test that doesn't end in a minute fails. The last line is 'N passed, M
-failed'; the exit status is 0 if M is 0.
-"""
+Without the bug a test or a program must pass, and with it it must fail. What comes out otherwise is run up to twice
+more, with twice the patience, because a busy machine may starve it. A test that doesn't end in a minute fails. The last
+line is 'N passed, M failed'; the exit status is 0 if M is 0. """
 from __future__ import annotations
 
 import argparse
@@ -147,8 +150,8 @@ def days_of(file: Path) -> dict[str, str]:
 
 
 def in_turn(planted: list[Bug], days: dict[str, str]) -> list[Bug]:
-    """The share of these that was found the longest ago, or never. Bugs of one file are beside each other in the list, so those of one day are
-    mixed."""
+    """The share of these that was found the longest ago, or never. Bugs of one file are beside each other in the list,
+    so those of one day are mixed."""
     oldest = sorted(planted, key=lambda bug: (days.get(bug.sentence, ''), zlib.crc32(bug.sentence.encode())))
     return oldest[: -(-len(planted) // TURNS)]
 
@@ -244,7 +247,8 @@ class Trial:
         self.libraries.update(each for each, is_built in zip(folders.items(), are_built) if is_built)
 
     def try_bug(self, number: int, bug: Bug) -> Iterator[tuple[str, str]]:
-        """Of each of its finders whether it `found` it, and passes without it, `missed` it, or was `skipped`; and more."""
+        """Of each of its finders whether it `found` it, and passes without it, `missed` it, or was `skipped`; and
+        more."""
         if bug.edit not in self.libraries:
             yield 'missed', f'{bug.sentence}: no library was built with {bug.edit}'
             return
@@ -256,7 +260,9 @@ class Trial:
             told = f'{" ".join(finder)}: {bug.sentence}'
             print(f'{after} in {time.monotonic() - begun:.1f} s: {told}', flush=True)
             both = f'{before} without it, and {after} with it: {told}'
-            yield {('passed', 'failed'): 'found', ('skipped', 'skipped'): 'skipped'}.get((before, after), 'missed'), both
+            yield {('passed', 'failed'): 'found', ('skipped', 'skipped'): 'skipped'}.get(
+                (before, after), 'missed'
+            ), both
             if self.jobs == 1:
                 end_children(frozenset(), LONGEST, print)  # what a bug left
         shutil.rmtree(self.folder / str(number))
@@ -269,7 +275,9 @@ class Trial:
                 if all(what == 'found' for what, _ in found):
                     self.found[bug.sentence] = date.today().isoformat()
                 for what, told in found:
-                    self.counts.skip(told, 'what it takes is not there') if what == 'skipped' else self.counts.hold(what == 'found', told)
+                    self.counts.skip(told, 'what it takes is not there') if what == 'skipped' else self.counts.hold(
+                        what == 'found', told
+                    )
         end_children(frozenset(), LONGEST, print)
 
 
@@ -295,7 +303,13 @@ def main(words: list[str]) -> int:
         write_days(LAST_FOUND, {**days, **days_of(TURN)}, planted)
         counts.hold(TURN.exists(), f'there is no {TURN}: no run with --turn ended')
     if options.list:
-        print(*(f'{days.get(bug.sentence, "never")} {bug.sentence}: {"; ".join(map(" ".join, bug.finders))}' for bug in planted), sep='\n')
+        print(
+            *(
+                f'{days.get(bug.sentence, "never")} {bug.sentence}: {"; ".join(map(" ".join, bug.finders))}'
+                for bug in planted
+            ),
+            sep='\n',
+        )
     if options.turn:
         planted = in_turn(planted if options.edited else [bug for bug in planted if not bug.edit], days)
     if not planted:

@@ -22,8 +22,12 @@ ROOM = '$room'  # stands for how much room there is, in a call
 
 
 def told_statuses(header: str) -> Dict[str, Set[str]]:
-    """The statuses that the comment of each function names: one by one, as a range, by a prefix, or as those of another function."""
-    numbers = {name: int(number) for name, number in re.findall(r'^ {4}BULLY_(\w+) = (\d+)', header.partition('const char *')[0], re.MULTILINE)}
+    """The statuses that the comment of each function names: one by one, as a range, by a prefix, or as those of another
+    function."""
+    numbers = {
+        name: int(number)
+        for name, number in re.findall(r'^ {4}BULLY_(\w+) = (\d+)', header.partition('const char *')[0], re.MULTILINE)
+    }
     told: Dict[str, Set[str]] = {}
     for comment, function in re.findall(r'/\*((?:(?!\*/).)*)\*/\nbully_status (\w+)\(', header, re.DOTALL):
         words = ' '.join(comment.replace('\n *', ' ').split())
@@ -57,9 +61,16 @@ def shown(outs: List[Out]) -> List[Out]:
 
 
 def with_less_room(call: Call, spoken: str, place: int, length: int, wanted: List[str]) -> Iterator[str]:
-    """The call with less room than it takes, which writes the length, and what else is a number; and with just so much, unless it must come once."""
-    short, enough = (spoken.replace(f'at({place}), {ROOM}', f'some({place}, {room}), {room}') for room in ('room', length))
-    left = [f'EXPECT(is_left({place}))', f'IS_NUMBER({place + 1}, size_t, {length})', *(each for each in wanted if each.startswith('IS_NUMBER'))]
+    """The call with less room than it takes, which writes the length, and what else is a number; and with just so much,
+    unless it must come once."""
+    short, enough = (
+        spoken.replace(f'at({place}), {ROOM}', f'some({place}, {room}), {room}') for room in ('room', length)
+    )
+    left = [
+        f'EXPECT(is_left({place}))',
+        f'IS_NUMBER({place + 1}, size_t, {length})',
+        *(each for each in wanted if each.startswith('IS_NUMBER')),
+    ]
     if length:
         rooms = f'room = first_room({length}); room < {length}; room = next_room(room, {length})'
         yield f'for ({rooms}) {{ANSWERS(SHORT, {short}); {"; ".join(left)};}}'
@@ -74,7 +85,11 @@ class Writer:
         self.header = read_header(text)
         self.constants = set(re.findall(r'\bBULLY_(\w+)', text))
         self.functions = {each.name: each for each in self.header.functions}
-        self.handles = {f'{name} *' for name, fields in self.header.structures.items() if [each.kind for each in fields] == ['void *']}
+        self.handles = {
+            f'{name} *'
+            for name, fields in self.header.structures.items()
+            if [each.kind for each in fields] == ['void *']
+        }
         self.partitions = 0  # those of the last setup
 
     def number(self, name: str, value: Value) -> str:
@@ -124,7 +139,9 @@ class Writer:
             text = self.given(arguments_of(self.function(call), self.header.structures)[1], call.arguments[0])
             yield f'begin_rows({text})'
             spoken = spoken.replace(text, 'ROWS')
-        changes_nothing = call.status != 'OK' and not (call.name == 'learn' and (call.kind == 'member' or call.answers[:1] not in ([], [0])))
+        changes_nothing = call.status != 'OK' and not (
+            call.name == 'learn' and (call.kind == 'member' or call.answers[:1] not in ([], [0]))
+        )
         yield from ['see_before()'] if changes_nothing else []
         yield f'ANSWERS({call.status}, {spoken.replace(ROOM, str(room))})'
         yield from wanted or ['EXPECT(is_filled())']
@@ -142,7 +159,9 @@ class Writer:
             if argument.told.kind in self.handles:
                 words.append(f'&{call.kind}s[{call.handle[len(call.kind) :] or 0}]')
             elif argument.is_pointer and not argument.told.is_const:
-                is_counted = bool(argument.length) and [each.told.kind for each in arguments[place + 1 : place + 2]] == ['size_t *']
+                is_counted = bool(argument.length) and [
+                    each.told.kind for each in arguments[place + 1 : place + 2]
+                ] == ['size_t *']
                 outs.append(Out(place, argument, is_counted))
                 words.append(f'at({place})' + (f', {ROOM}' if argument.length else ''))
             else:
@@ -175,7 +194,9 @@ class Writer:
 
     def comparisons(self) -> Iterator[str]:
         """For each struct that is written a function that compares all its fields."""
-        written = {each.kind for function in self.functions.values() for each in function.takes if not each.is_const} - self.handles
+        written = {
+            each.kind for function in self.functions.values() for each in function.takes if not each.is_const
+        } - self.handles
         for kind in sorted(each for each in self.header.structures if f'{each} *' in written):
             yield f'static void is_{kind}(const {kind} *shown, {kind} wanted, const char *file, int line) {{'
             for field in self.header.structures[kind]:
@@ -187,7 +208,9 @@ class Writer:
         for call in story.calls:
             try:
                 last = 'begin_last(); ' if call is story.calls[-1] else ''
-                yield f'#line {call.line} "{call.file}"\n    {last}' + ' '.join(f'{each};' for each in self.statements(call))
+                yield f'#line {call.line} "{call.file}"\n    {last}' + ' '.join(
+                    f'{each};' for each in self.statements(call)
+                )
             except (KeyError, StopIteration, RuntimeError, AssertionError) as fault:
                 raise SystemExit(f'{call.place}: it is not understood: {fault!r}')
         yield '    end_story();\n}\n'
@@ -200,7 +223,12 @@ def main(file: str) -> None:
     print(*writer.comparisons(), sep='\n')
     for number, story in enumerate(stories):
         print(*writer.story(number, story), sep='\n')
-    print('static void try_each_story(void) {', *(f'    story_{number}();' for number in range(len(stories))), '}\n', sep='\n')
+    print(
+        'static void try_each_story(void) {',
+        *(f'    story_{number}();' for number in range(len(stories))),
+        '}\n',
+        sep='\n',
+    )
     taking = sorted(name for name, statuses in told_statuses(text).items() if 'OUT_OF_MEMORY' in statuses)
     print('#define TAKING', ', '.join(f'"{name}"' for name in taking))
 

@@ -1,12 +1,13 @@
 #!/usr/bin/env python3
-"""Writes calls of each function of a `bully.h` with arguments that are null, too long or of no items, for `nulls.c` beside this file.
+"""Writes calls of each function of a `bully.h` with arguments that are null, too long or of no items, for `nulls.c`
+beside this file.
 
     bindings/c/tests/nulls.py HEADER
 
-What is wanted comes from the header alone, which says: BULLY_NULL comes first, of a pointer that is null and must not be, and of a length above
-PTRDIFF_MAX bytes; a pointer with a `size_t` after it points to that many items, and may be null if these are none. Then a handle that isn't open
-is BULLY_CLOSED, and one that is opened a second time BULLY_OPEN. What `bin/building` makes of this rule is not read here.
-"""
+What is wanted comes from the header alone, which says: BULLY_NULL comes first, of a pointer that is null and must not
+be, and of a length above PTRDIFF_MAX bytes; a pointer with a `size_t` after it points to that many items, and may be
+null if these are none. Then a handle that isn't open is BULLY_CLOSED, and one that is opened a second time BULLY_OPEN.
+What `bin/building` makes of this rule is not read here. """
 import sys
 from itertools import product
 from pathlib import Path
@@ -20,8 +21,8 @@ if TYPE_CHECKING:
 
 
 class Ways(NamedTuple):
-    """The ways to give an argument, as C spells them: those that are right, with items first and without them last; those that are wrong; and
-    the one with the most items that a memory has."""
+    """The ways to give an argument, as C spells them: those that are right, with items first and without them last;
+    those that are wrong; and the one with the most items that a memory has."""
 
     right: List[str]
     wrong: List[str]
@@ -73,7 +74,9 @@ def tests_of(function: 'Function', handles: Dict[str, str]) -> Iterator[str]:
 def main(file: str) -> None:
     header = read_header(Path(file).read_text())
     handles = {
-        f'{name} *': '&' + name.partition('_')[2] for name, fields in header.structures.items() if [each.kind for each in fields] == ['void *']
+        f'{name} *': '&' + name.partition('_')[2]
+        for name, fields in header.structures.items()
+        if [each.kind for each in fields] == ['void *']
     }
     functions = [each for each in header.functions if each.gives == 'bully_status']
     for function in functions:

@@ -1,10 +1,10 @@
 """Builds the wheel of the package `bully` for pip, by the standard library alone.
 
 The wheel takes libbully.so with it from the folder BULLY_LIBRARY, or from `lib` in that; or else from `lib` of an
-archive; or else from out/library at the top of the repository, where `bin/library` puts it; or else from out/unproved/library, where the demo puts
-one that isn't proved. Without any it has none, and whoever uses it sets BULLY_LIBRARY. It always has bully.h, which the package reads: that of the archive or the repository. The same files
-make the same bytes; SOURCE_DATE_EPOCH, where it is set, is the time of each.
-"""
+archive; or else from out/library at the top of the repository, where `bin/library` puts it; or else from
+out/unproved/library, where the demo puts one that isn't proved. Without any it has none, and whoever uses it sets
+BULLY_LIBRARY. It always has bully.h, which the package reads: that of the archive or the repository. The same files
+make the same bytes; SOURCE_DATE_EPOCH, where it is set, is the time of each. """
 from __future__ import annotations
 
 import base64
@@ -93,7 +93,9 @@ def find_library() -> Path | None:
     """The library to take along, if there is one. What BULLY_LIBRARY names has to be there."""
     named = os.environ.get('BULLY_LIBRARY')
     top = HERE.parents[1]
-    places = [Path(named, 'lib'), Path(named)] if named else [top / 'lib', top / 'out' / 'library' / 'lib', top / UNPROVED]
+    places = (
+        [Path(named, 'lib'), Path(named)] if named else [top / 'lib', top / 'out' / 'library' / 'lib', top / UNPROVED]
+    )
     files = (place / 'libbully.so' if place.is_dir() else place for place in places)
     file = next(filter(Path.is_file, files), None)
     if named and not file:

@@ -14,8 +14,9 @@ The package binds `include/bully.h` by ctypes. It needs Python 3.9 or later, and
     BULLY_LIBRARY=FOLDER python3 .. # the same, if `load` wasn't called
 
 Otherwise it takes the library from the folder of this package, where `pip install` puts it, from `lib` of an archive,
-or from `out/library` or, without proofs, `out/unproved/library` of the repository. It also reads `bully.h`, from the folder of this package, from
-`include` of the archive or of the repository, or from beside the library that BULLY_LIBRARY names.
+or from `out/library` or, without proofs, `out/unproved/library` of the repository. It also reads `bully.h`, from the
+folder of this package, from `include` of the archive or of the repository, or from beside the library that
+BULLY_LIBRARY names.
 
 One call of a node, which a program sends from process to process, and the log that `check` judges:
 

@@ -5,6 +5,7 @@ import ctypes
 from collections.abc import Sequence
 
 from .group import Setup, setup_parts
+
 from .library import (
     STRUCTURES, UINT32_MAX, Opened, call_of, line_of, list_of, node_of, number_of, numbers_of, owners_of, state_of,
 )  # fmt: skip
@@ -182,8 +183,8 @@ class Agent(Opened):
         return int(self._show().generation)
 
     def rows(self) -> list[str]:
-        """The rows of the node's last step for the log, without line ends. They are of version 3: the header of the log is
-        `setup.detailed_header()`.
+        """The rows of the node's last step for the log, without line ends. They are of version 3: the header of the log
+        is `setup.detailed_header()`.
 
         Raises Closed, OutOfMemory."""
         return self._room.text(self._function('rows')).splitlines()

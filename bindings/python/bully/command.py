@@ -65,6 +65,7 @@ from .processes import ENDS, default_signals
 from .pruning import Pruning
 from .repair import damage_of, repair, takes_back
 from .settings import ConfigFault, Settings
+
 from .shared_log import (
     DamagedLog, ForeignLog, Log, LogError, LogExists, NoLog, OtherLog, Snapshot, Unanswered, found_in,
 )  # fmt: skip
@@ -81,7 +82,8 @@ if TYPE_CHECKING:
 
 OK, FAILED, BAD_WORDS, BAD_INPUT, NO_STORE, NO_NODE, NO_RETRY, EXISTS = range(8)
 UNWRITTEN = (errno.ENOSPC, errno.EDQUOT, errno.EFBIG, errno.EIO)  # errors of a write
-NOBODY_READS, INTERRUPTED = 128 + signal.SIGPIPE, 128 + signal.SIGINT  # as a shell reports a program that ended by such a signal
+# (as a shell reports a program that ended by such a signal)
+NOBODY_READS, INTERRUPTED = (128 + signal.SIGPIPE, 128 + signal.SIGINT)
 PORT_MAX = 65_535
 STAY_IGNORED = {signal.SIGHUP, signal.SIGPIPE, signal.SIGXFSZ}  # by nohup; and by Python
 NO_THREAD = "can't start new thread"  # a RuntimeError of Python
@@ -579,7 +581,8 @@ def let_signals_by() -> None:
 
 def run_command(options: argparse.Namespace) -> int:
     """Takes part with a worker, until a signal tells it to leave."""
-    default_signals({each for each in signal.valid_signals() if signal.getsignal(each) == signal.SIG_IGN} - STAY_IGNORED)
+    ignored = {each for each in signal.valid_signals() if signal.getsignal(each) == signal.SIG_IGN}
+    default_signals(ignored - STAY_IGNORED)
     at_signals(lambda: sys.exit(OK))  # until it takes part
     if options.log_format is not None:
         os.environ[LOG_FORMAT] = options.log_format  # for the watchdog, too
@@ -675,10 +678,10 @@ STATUSES: tuple[tuple[type[Exception], int], ...] = (
 def main(words: list[str] | None = None) -> int:
     """Runs the command with these words. Returns its exit status: 0; 1 if the worker or its watchdog ended by itself,
     the worker or the epoch didn't end, or the group isn't well; 2 for bad options; 3 for a bad configuration, or a log
-    that belongs to another group, or is damaged; 4 if the log, a file or a thread can't be used now; 5 if the group has no such
-    node; 6 if no further try helps: the log has another format, the address to listen on can't be used, the library
-    isn't there, or the kernel doesn't list children; 7 if there already is a log; 130 after ^C, but for `status --watch`;
-    141 if nobody reads its output."""
+    that belongs to another group, or is damaged; 4 if the log, a file or a thread can't be used now; 5 if the group has
+    no such node; 6 if no further try helps: the log has another format, the address to listen on can't be used, the
+    library isn't there, or the kernel doesn't list children; 7 if there already is a log; 130 after ^C, but for `status
+    --watch`; 141 if nobody reads its output."""
     drop_what_is_closed()
     escape_what_has_no_room()
     options = read_words(words)

@@ -1,4 +1,5 @@
-"""Drives a core: what each step of its rules asks of the log and of the work, and what the core is told of what came of it.
+"""Drives a core: what each step of its rules asks of the log and of the work, and what the core is told of what came of
+it.
 
 A driver has no thread, no clock and does no IO. Whoever has a driver takes its next step, does that, and reports what
 came of it: `bully.member` over a log and a clock, and the tests in simulated time.
@@ -11,6 +12,7 @@ from types import MappingProxyType
 from typing import NamedTuple, Union
 
 from .adapter import Leases, awaited, core_opening_of, known_of, needs_promises, note_leaving, seen_of
+
 from .core import (
     Activity, Ask, BackOff, Begin, Core, End, Ending, Live, Promise, Reason, Request, Seen, Stop, StoreAnswer, Until, Wait,
 )  # fmt: skip
@@ -23,8 +25,8 @@ Result = Union[bool, Snapshot, Opening]  # what a call of the log returns
 
 
 class Call(NamedTuple):
-    """Make this call of the log, and report by `answered` what it returned. What it sends is fixed now, however late it is
-    made. `known` is what a change of the log compares of leases."""
+    """Make this call of the log, and report by `answered` what it returned. What it sends is fixed now, however late it
+    is made. `known` is what a change of the log compares of leases."""
 
     ask: Ask
     call: Callable[[], Result]
@@ -38,8 +40,8 @@ class Note(NamedTuple):
 
 
 class Start(NamedTuple):
-    """The node owns this from now on, under this coordinator. Start the work on the partitions `added`; on the others it
-    goes on, by the new token."""
+    """The node owns this from now on, under this coordinator. Start the work on the partitions `added`; on the others
+    it goes on, by the new token."""
 
     owned: Owned
     coordinator: int
@@ -77,14 +79,14 @@ def numbers_of(names: tuple[str, ...]) -> Mapping[str, int]:
 
 
 class Driver:
-    """A core for a node of a group, and what its driver knows: the epoch, the last snapshot, its own lease, and what its
-    process works on."""
+    """A core for a node of a group, and what its driver knows: the epoch, the last snapshot, its own lease, and what
+    its process works on."""
 
     def __init__(
         self, log: Log, opening: Opening, node: int, process: int, ttl: int, lasts: Callable[[], int] | None = None
     ) -> None:
-        """For the node of this number in the epoch of this opening, and the process of this number. `lasts` says for how
-        long a lease is acquired or renewed: for the ttl, if nothing is given.
+        """For the node of this number in the epoch of this opening, and the process of this number. `lasts` says for
+        how long a lease is acquired or renewed: for the ttl, if nothing is given.
 
         Raises what `Core` does."""
         self.core = Core(core_opening_of(opening, node), process, ttl)

@@ -31,11 +31,13 @@ from typing import NamedTuple
 
 from .clocks import SECOND, seconds_of_boot, sleep_until_ready, wall_clock
 from .core import Promise, Session, Until
+
 from .encoding import (
     FORM, kept_of, kept_text, log_name, maintenance_of, no_epoch, opening_of, packed, requested_of, rows_of, rows_text,
     see_end, see_form, session_of, session_text,
 )  # fmt: skip
 from .epochs import FIRST, Opening
+
 from .etcd_client import (
     KV_RANGE, LEASE_GRANT, LEASE_KEEPALIVE, Answer, Client, Compacted, Json, Pair, Silent, Subscription, behind, coded,
     exists, is_before, number_is, pair_of, pairs_of, put_at, put_of, range_at, range_below, range_from, ranges,
@@ -43,6 +45,7 @@ from .etcd_client import (
 )  # fmt: skip
 from .maintenance import Maintenance
 from .repair import NOWHERE, Kept
+
 from .shared_log import (
     NOBODY, UNKNOWN, BadLease, DamagedLog, ForeignLog, Holder, Known, LogError, LogExists, NoLog, OtherLog, Sessions,
     Snapshot, Unanswered, is_awaited, may_change,
@@ -51,7 +54,8 @@ from .values import Rows
 
 BEGIN = f'{{"form": {FORM}, '  # the start of an opening; an older version doesn't take it for one
 NAME = re.compile(rb'([0-9]{1,9}) [0-9a-f]{16}')  # of a log: its form, and a name that no other log has
-RESERVED = {'failing', 'lease', 'log', 'opening', 'presence', 'rows', 'time'}  # parts of keys of logs, also of earlier forms
+# Parts of keys of logs, also of earlier forms.
+RESERVED = {'failing', 'lease', 'log', 'opening', 'presence', 'rows', 'time'}
 OLDEST, OF_OLDEST = 2, b'{"epoch": '  # a form without names, and the start of its openings
 FAILS, GAVE_UP = 'fails', 'gave up'  # notes of a node
 PAGE = 500  # appends that are read in one request
@@ -218,7 +222,9 @@ class EtcdLog:
         read = read_address(address)
         if not RESERVED.isdisjoint(read.prefix.split('/')):
             parts = ', '.join(sorted(RESERVED))
-            raise ValueError(f'{address}, and no part of the prefix of a new log may be one of {parts}: they are keys of logs')
+            raise ValueError(
+                f'{address}, and no part of the prefix of a new log may be one of {parts}: they are keys of logs'
+            )
         with closing(Client(read, patience, tls, user, password)) as client:
             client.begin()
             make(client, address, Keys(read.prefix), opening)

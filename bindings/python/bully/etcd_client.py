@@ -24,8 +24,8 @@ RECEIVED = 65_536  # bytes of a watch that are read at once
 KV_RANGE, KV_TXN, WATCH, LOGIN = '/v3/kv/range', '/v3/kv/txn', '/v3/watch', '/v3/auth/authenticate'
 LEASE_GRANT, LEASE_KEEPALIVE = '/v3/lease/grant', '/v3/lease/keepalive'
 
-# Codes of gRPC: why etcd refuses a request. By any other code it may be done when it is asked again: also if etcd is full
-# or corrupt, has no leader, or doesn't know a lease.
+# Codes of gRPC: why etcd refuses a request. By any other code it may be done when it is asked again: also if etcd is
+# full or corrupt, has no leader, or doesn't know a lease.
 INVALID_ARGUMENT, PERMISSION_DENIED, FAILED_PRECONDITION, OUT_OF_RANGE, UNAUTHENTICATED = 3, 7, 9, 11, 16
 OF_USERS = frozenset({INVALID_ARGUMENT, PERMISSION_DENIED, FAILED_PRECONDITION, UNAUTHENTICATED})  # and of other things
 OWN_WORDS = 'etcdserver: '  # each error of etcd has these, and none of a proxy before it
@@ -308,7 +308,6 @@ class Names:
         if isinstance(found, OSError):
             raise silent_of(endpoint, found, may_be_done=False) from found
         return found
-
 
     def _begun(self, endpoint: Endpoint) -> queue.SimpleQueue[list[Any] | OSError]:
         """What will have the result of a lookup that is begun now. Raises Silent."""

@@ -25,6 +25,7 @@ from .shared_log import DamagedLog, Log, LogError, Snapshot, Unanswered, found_i
 from .values import Status
 from .view import Behind
 from .work_failures import Failures, GivingUp
+
 from .working import (
     Assigned, Assignment as Assignment, Callback, Callbacks, PartitionCallbacks, Revoked, WholeCallbacks, Working,
 )  # fmt: skip
@@ -98,8 +99,8 @@ class Member:
         done by `start` and `stop`, by `on_assigned` and `on_revoked`, or by `work`. If `settings` are given, which may
         be those of an earlier epoch, the log must belong to that group. After each renewal, and if its lease was taken
         away, `sure` is called with the time until which ownership is sure, by `clocks.seconds_of_boot`; before a lease
-        is requested `acquires` is, with the session that may hold it. With `failures`, which the code that does the work
-        counts, the member notes in the log that its work fails, and its node may give up.
+        is requested `acquires` is, with the session that may hold it. With `failures`, which the code that does the
+        work counts, the member notes in the log that its work fails, and its node may give up.
 
         Raises TypeError if it isn't given exactly one of these kinds of work; OtherGroup, NotInGroup, BadHeader,
         BadNode, BadTtl, OutOfMemory, and what the log raises."""
@@ -120,7 +121,9 @@ class Member:
         self._sure, self._acquires = sure, acquires
         self._is_leaving = False
         self._is_stuck = False  # whether a stop failed, so that work may never stop
-        self._work: Assignment | None = None  # what its node owned when it last began; on some of it work may have ended
+        self._work: Assignment | None = (
+            None  # what its node owned when it last began; on some of it work may have ended
+        )
         self._to_call: queue.SimpleQueue[Callable[[], None] | None] = queue.SimpleQueue()
         self._reports: Deque[Collection[int]] = collections.deque()  # partitions on which work has ended
         self._woken: socket.socket  # while it runs: can be read once it is woken
@@ -220,9 +223,9 @@ class Member:
         self.fail(failure)
 
     def lose(self, assignment: Assignment) -> None:
-        """Reports that the work for this assignment, which `start` or `on_assigned` was given, has ended on its own. The
-        member stops what is left of it, and starts again what the node still owns. For `start` it must be the object
-        that was given last. Without callbacks `ended` reports that."""
+        """Reports that the work for this assignment, which `start` or `on_assigned` was given, has ended on its own.
+        The member stops what is left of it, and starts again what the node still owns. For `start` it must be the
+        object that was given last. Without callbacks `ended` reports that."""
         if isinstance(self._does, Callbacks):
             self._to_call.put(partial(self._does.lose, assignment))
 
@@ -424,7 +427,9 @@ class Member:
             self._see_other(result)
         self._driver.answered(nanoseconds_of_boot(), step.ask, result)
         if self.opening.epoch != epoch:
-            _logger.info('node %s: continues in epoch %d as number %d', shown_name(self.name), self.opening.epoch, self.node)
+            _logger.info(
+                'node %s: continues in epoch %d as number %d', shown_name(self.name), self.opening.epoch, self.node
+            )
         if result and request is Request.ACQUIRE:
             _logger.info('node %s: live as %d.%d', shown_name(self.name), session.process, session.number)
         if result and request in (Request.ACQUIRE, Request.RENEW) and self._sure is not None:

@@ -252,7 +252,9 @@ def tell_group(tell: Callable[..., None], group: GroupView) -> None:
     stops = [(labels(each), len(group.stops.get(each, ()))) for each in names]
     tell('bully_node_stops', 'On how many partitions the node must stop its work for a change.', stops)
     tell('bully_partitions_free', 'How many partitions nobody may work on now.', [('', group.owners.count(None))])
-    tell('bully_partitions_moving', 'How many partitions get another owner by the change under way.', [('', group.moves)])
+    tell(
+        'bully_partitions_moving', 'How many partitions get another owner by the change under way.', [('', group.moves)]
+    )
 
 
 def asked_number(asked: dict[str, list[str]], name: str) -> int | None:
@@ -348,7 +350,9 @@ class Server(ThreadingHTTPServer):
     def process_request(self, request: Any, client_address: Any) -> None:
         with self._lock:
             self._open[request] = Asked.NOTHING
-            useless = (each for kind in (Asked.ANSWERED, Asked.NOTHING) for each, asked in self._open.items() if asked is kind)
+            useless = (
+                each for kind in (Asked.ANSWERED, Asked.NOTHING) for each, asked in self._open.items() if asked is kind
+            )
             closed = next(useless) if len(self._open) > CONNECTIONS_MAX else None
             self._open.pop(closed, None)
         if closed is request:

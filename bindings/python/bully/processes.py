@@ -22,7 +22,8 @@ LONGEST_SLEEP = 0.02  # seconds between two checks of what was killed
 WRITE, READ = 'WRITE', 'READ'  # kinds of locks
 WRITER_BYTE = 120  # of the file: the writer has a lock on it
 STILL = frozenset('TtF')  # states of a thread that is stopped
-FROZEN = ('refrigerator', 'freezer_trap', 'get_signal')  # parts of what a frozen thread waits in, by the control group's kind
+# (parts of what a frozen thread waits in, by the control group's kind)
+FROZEN = ('refrigerator', 'freezer_trap', 'get_signal')
 TIMES = 5  # how often the locks are read: while others come and go, a line may be left out
 
 LIBC = ctypes.CDLL(None, use_errno=True)
@@ -66,7 +67,8 @@ def children() -> set[int]:
     their parents; that may leave out one that has just started. Raises OSError."""
     with contextlib.suppress(OSError):
         return listed_children()
-    return {process for process in map(int, filter(str.isdecimal, os.listdir('/proc'))) if parent_of(process) == os.getpid()}
+    processes = map(int, filter(str.isdecimal, os.listdir('/proc')))
+    return {process for process in processes if parent_of(process) == os.getpid()}
 
 
 def parent_of(process: int) -> int | None:

@@ -100,8 +100,8 @@ def close(file: sqlite3.Connection, path: str) -> None:
 
 
 def see_lost(file: sqlite3.Connection, wal: str, boot: str, now: int) -> None:
-    """If nobody has written to this -wal yet, but leases are noted in the file itself, which has each, the one before was
-    lost (`close`), with renewals and rows, and processes may still use it. So these leases last for another ttl, as
+    """If nobody has written to this -wal yet, but leases are noted in the file itself, which has each, the one before
+    was lost (`close`), with renewals and rows, and processes may still use it. So these leases last for another ttl, as
     those of another boot. In a transaction that writes."""
     lost = boot.removesuffix(LOST) + LOST
     if os.stat(wal).st_size == 0 and file.execute(LOSE, (now, now, lost, f'%{LOST}')).rowcount:

@@ -5,6 +5,7 @@ import ctypes
 from collections.abc import Iterable
 
 from .learned import Learned
+
 from .library import (
     UINT32_MAX, call_of, line_of, list_of, node_of, number_of, numbers_of, owned_of, owners_of, texts_of,
 )  # fmt: skip

@@ -22,7 +22,8 @@ if TYPE_CHECKING:
     from .worker import Workers
 
 ALONE_WAIT = 0.02  # seconds between two looks for other processes
-# Runs the command by Python's own modules and those of one folder: no file of the working directory, and no path of the environment, counts.
+# Runs the command by Python's own modules and those of one folder: no file of the working directory, and no path of the
+# environment, counts.
 COMMAND = 'import sys; sys.path.append(sys.argv.pop(1)); from bully_member import main; sys.exit(main())'
 CONTROL = '.control'  # the part of a unit's control group in which systemd may start a command of its own
 
@@ -54,7 +55,9 @@ class SessionNotes:
 def write_session(path: str, session: Session | None) -> None:
     """Writes the session, or nothing, into a file of its user alone: all of it, unless the process is killed."""
     room = f'{path}.{os.getpid()}.new'
-    with open(os.open(room, os.O_WRONLY | os.O_CREAT | os.O_TRUNC | os.O_CLOEXEC, 0o600), 'w', encoding='ascii') as file:
+    with open(
+        os.open(room, os.O_WRONLY | os.O_CREAT | os.O_TRUNC | os.O_CLOEXEC, 0o600), 'w', encoding='ascii'
+    ) as file:
         os.fchmod(file.fileno(), 0o600)
         file.write('' if session is None else f'{session_text(session)}\n')
     os.replace(room, path)
@@ -109,7 +112,9 @@ def is_alone(seconds: float) -> bool:
 def others_in_group() -> set[int]:
     """The processes in the control group of this process and below it, but for this one and those that wait for it.
     Raises OSError, ValueError."""
-    folder = group_folder(Path('/proc/self/cgroup').read_text(encoding='utf-8'), Path('/proc/self/mountinfo').read_text(encoding='utf-8'))
+    folder = group_folder(
+        Path('/proc/self/cgroup').read_text(encoding='utf-8'), Path('/proc/self/mountinfo').read_text(encoding='utf-8')
+    )
     found: set[int] = set()
     for path, _, files in os.walk(folder, onerror=raise_it):
         if 'cgroup.procs' not in files:

@@ -223,8 +223,8 @@ class Log(Protocol):
         heir. Returns whether it did."""
 
     def times(self, epoch: int, offset: int = 0) -> Mapping[int, int | None]:
-        """When the appends of an epoch from that offset on were done, by their offsets: in milliseconds since 1970, by the wall clock of
-        the process that appended; None for an append whose time isn't kept."""
+        """When the appends of an epoch from that offset on were done, by their offsets: in milliseconds since 1970, by
+        the wall clock of the process that appended; None for an append whose time isn't kept."""
 
     def read(self, epoch: int, offset: int) -> Sequence[str]:
         """The rows of an epoch after that offset, without line ends. Raises NoEpoch."""
@@ -289,9 +289,7 @@ def idle_of(promises: Mapping[Name, object], here: object) -> frozenset[Name]:
     return frozenset(name for name, promise in promises.items() if promise == here)
 
 
-def is_awaited(
-    until: Until, promises: Mapping[Name, object], idle: object, before: Mapping[Name, object]
-) -> bool:
+def is_awaited(until: Until, promises: Mapping[Name, object], idle: object, before: Mapping[Name, object]) -> bool:
     """Whether there is what a wait is for, by the promises now and those `before`, in the last snapshot; `idle` is the
     promise of a holder that is idle."""
     if until is Until.NEWS:

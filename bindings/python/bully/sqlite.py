@@ -16,6 +16,7 @@ from typing import NamedTuple
 from .boots import boot_name, machine_boot, moment_of
 from .clocks import SECOND, nanoseconds_of_boot, sleep_until_ready, wall_clock
 from .core import Promise, Session, Until
+
 from .encoding import (
     FORM, kept_of, kept_text, log_name, maintenance_of, no_epoch, opening_of, packed, requested_of, rows_of, rows_text,
     see_end, see_form, session_of, session_text,
@@ -24,6 +25,7 @@ from .epochs import Opening
 from .maintenance import Maintenance
 from .releasing import LOST, close, connected, release_in, see_lost
 from .repair import Kept
+
 from .shared_log import (
     NOBODY, BadLease, DamagedLog, DiskFull, ForeignLog, Holder, Known, LogBusy, LogExists, OtherLog, ReadOnlyLog,
     Sessions, Snapshot, Unanswered, is_awaited, kept_same, may_change, promises_of, shown_in,

@@ -36,10 +36,12 @@ class Rows(Sequence[str]):
         return self._count
 
     @overload
-    def __getitem__(self, index: int) -> str: ...
+    def __getitem__(self, index: int) -> str:
+        ...
 
     @overload
-    def __getitem__(self, index: slice) -> list[str]: ...
+    def __getitem__(self, index: slice) -> list[str]:
+        ...
 
     def __getitem__(self, index: int | slice) -> str | list[str]:
         if self._cut is None:

@@ -29,7 +29,8 @@ class Behind:
     """For which nodes a change waits, and since when. Threads may share it."""
 
     def __init__(self) -> None:
-        self._waits: tuple[Promise, dict[tuple[str, Session], float]] = Promise(), {}  # where the log ended, and since when
+        # (where the log ended, and since when)
+        self._waits: tuple[Promise, dict[tuple[str, Session], float]] = (Promise(), {})
 
     def see(self, end: Promise, late: Mapping[str, Holder]) -> dict[str, float]:
         """Takes in for whom a change waits after a snapshot (`observer.waits_for`), where the log ends there. Returns
@@ -159,7 +160,11 @@ class GroupView:
     def _told_late(self, name: str) -> str:
         """For how long a change has waited for that node, and in a cooperative group on which partitions it stops."""
         seconds, stops = f'for {self.behind[name]:.1f} s', ' '.join(map(str, self.stops.get(name, ())))
-        return f'{shown_name(name)} on {stops} {seconds}' if self.is_cooperative and stops else f'{shown_name(name)} {seconds}'
+        return (
+            f'{shown_name(name)} on {stops} {seconds}'
+            if self.is_cooperative and stops
+            else f'{shown_name(name)} {seconds}'
+        )
 
     def document(self) -> dict[str, Any]:
         """The same for JSON."""
@@ -200,8 +205,9 @@ class LogView:
         self._enter()
 
     def show(self) -> GroupView:
-        """Reads the new rows, and returns the group. It reads again if the member waits for a node, and this view hasn't
-        seen for long enough the session for which it does. Raises NotLearned, OutOfMemory, and what the log raises."""
+        """Reads the new rows, and returns the group. It reads again if the member waits for a node, and this view
+        hasn't seen for long enough the session for which it does. Raises NotLearned, OutOfMemory, and what the log
+        raises."""
         with self._lock:
             shown = self._shown(self._read())
             if shown.is_cooperative and not all(map(shown.stops.get, shown.behind)):

@@ -32,9 +32,9 @@ watchdog dies, the keeper stops its worker, and ends. Each of these ends makes a
 member that is suspended can't. If KIND is `each`, there may be many workers, each with a keeper, and the watchdog is
 between these and the member. Otherwise there is one keeper, which hears the member itself.
 
-The watchdog also kills a member that doesn't run in the middle of a write, within two fifths of the ttl: otherwise other
-members couldn't renew their leases in time. FILE is the file of SQLite with the end `-shm`, on which a writer has a lock.
-"""
+The watchdog also kills a member that doesn't run in the middle of a write, within two fifths of the ttl: otherwise
+other members couldn't renew their leases in time. FILE is the file of SQLite with the end `-shm`, on which a writer has
+a lock. """
 from __future__ import annotations
 
 import contextlib
@@ -58,6 +58,7 @@ if __name__ == '__main__':  # `bully` without its __init__, so that the process 
 
 from bully.clocks import SECOND, nanoseconds_of_boot
 from bully.display import message_line
+
 from bully.processes import (
     ENDS, LIBC, adopt, checked, default_signals, end_children, held_back, kill, lock_holder, runs_of,
     signal_at_end_of_parent, signal_of, states,
@@ -119,7 +120,8 @@ class MemberWatchdog:
             return
         self.next_look, before = now + self.span, self.found
         self.found = [states(self.member), *runs_of(self.member)]
-        if self.found == before and not GOES_ON & set(before[0]) and lock_holder(self.file) == self.member == os.getppid():
+        is_still = self.found == before and not GOES_ON & set(before[0])
+        if is_still and lock_holder(self.file) == self.member == os.getppid():
             os.kill(self.member, signal.SIGKILL)
             say(f'process {self.member} was stopped in the middle of a write, and is killed')
 
@@ -663,7 +665,8 @@ class Sentinel:
         signal.signal(signal.SIGCONT, self.wake_keeper)
 
     def wake_keeper(self, *_: object) -> None:
-        """This process was continued, as it is when its member dies: a keeper that is stopped must see to its worker."""
+        """This process was continued, as it is when its member dies: a keeper that is stopped must see to its
+        worker."""
         with contextlib.suppress(ProcessLookupError):
             signal.pidfd_send_signal(self.end, signal.SIGCONT)
 
@@ -701,7 +704,8 @@ def main() -> None:
     descriptor, patience, kind, file, ttl, *words = sys.argv[1:]
     channel = socket.socket(fileno=int(descriptor))
     channel.set_inheritable(False)
-    default_signals(signal.valid_signals() - {signal.SIGPIPE, signal.SIGXFSZ})  # Python ignores these: a write fails then
+    # (Python ignores these two: a write fails then)
+    default_signals(signal.valid_signals() - {signal.SIGPIPE, signal.SIGXFSZ})
     for number in ENDS:
         signal.signal(number, signal.SIG_IGN)
     signal.pthread_sigmask(signal.SIG_SETMASK, ())  # they were held back since before its first line

@@ -68,8 +68,8 @@ class Record:
 
 
 class Failures:
-    """How often the work of a node has failed in a row. If each partition has a worker, each of them is counted and backs
-    off alone, by a key; the node's work is as that of the worst of them. Threads may share it. Times are of
+    """How often the work of a node has failed in a row. If each partition has a worker, each of them is counted and
+    backs off alone, by a key; the node's work is as that of the worst of them. Threads may share it. Times are of
     `clocks.seconds_of_boot`."""
 
     def __init__(self, give_up: int = 0, ttl: float = 5.0) -> None:

@@ -87,7 +87,12 @@ class Workers:
     `Working`: what it is asked for, it does in a thread of its own."""
 
     def __init__(
-        self, words: Sequence[str], node: str, patience: float, kind: Kind = Kind.WHOLE, failures: Failures | None = None
+        self,
+        words: Sequence[str],
+        node: str,
+        patience: float,
+        kind: Kind = Kind.WHOLE,
+        failures: Failures | None = None,
     ) -> None:
         """The words of the worker's command; the name of its node; how many seconds it may take to stop; which workers
         there are; and a count of their failures."""
@@ -339,8 +344,8 @@ class Workers:
         return json.dumps({**document, 'settings': settings}).encode()
 
     def _share(self, assignment: Assignment) -> None:
-        """Tells the watchdog what all workers have in their environment: the coordinator, and the settings, by a file, and
-        by the text itself if the environment has room for it."""
+        """Tells the watchdog what all workers have in their environment: the coordinator, and the settings, by a file,
+        and by the text itself if the environment has room for it."""
         settings = assignment.settings.text(self._member.ttl, self._member.margin)
         text, file = settings.encode('utf-8', 'surrogateescape'), f'/proc/{os.getpid()}/fd/{self._settings.fileno()}'
         named = {'COORDINATOR': assignment.settings.name(assignment.coordinator), 'SETTINGS_FILE': file}

@@ -123,8 +123,8 @@ class WorkerState:
         """The process has answered a stop."""
 
     def gone(self, word: str, status: int, now: float) -> None:
-        """Nothing is left of the process: it was `stopped`, its time was over (`lost`), or it has `ended` by itself, with
-        this status."""
+        """Nothing is left of the process: it was `stopped`, its time was over (`lost`), or it has `ended` by itself,
+        with this status."""
         self._cease()
         if word == 'ended':
             self._report(self._stopping)

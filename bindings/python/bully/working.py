@@ -88,7 +88,8 @@ class Callbacks:
         """For the node of this name. `report` takes partitions on which work has ended."""
         self._member, self._report, self._name = member, report, name
         self._given: Assignment | None = None  # what a callback was given last
-        self._working: frozenset[int] = frozenset()  # the partitions that may be worked on, but for what can't be stopped
+        # (the partitions that may be worked on, but for what can't be stopped)
+        self._working: frozenset[int] = frozenset()
 
     def start(self, assignment: Assignment, added: frozenset[int]) -> None:
         raise NotImplementedError
@@ -130,8 +131,8 @@ class Callbacks:
 
 
 class WholeCallbacks(Callbacks):
-    """Callbacks that start and stop all work of the node at once. If only a part of it has to stop, or has ended, all is
-    stopped. What is left starts again by the same token."""
+    """Callbacks that start and stop all work of the node at once. If only a part of it has to stop, or has ended, all
+    is stopped. What is left starts again by the same token."""
 
     def __init__(self, member: Reports, report: Report, name: str, start: Callback, stop: Callback) -> None:
         super().__init__(member, report, name)
@@ -149,7 +150,9 @@ class WholeCallbacks(Callbacks):
         before, there = self._given, self._working
         if there and self._stops():
             self._report(partitions & there)
-            left = None if assignment is None or before is None else before.left(there.intersection(assignment.partitions))
+            left = (
+                None if assignment is None or before is None else before.left(there.intersection(assignment.partitions))
+            )
             if left is not None:
                 self._start(left)
 

@@ -1,4 +1,5 @@
-"""Interprets the stories of `bindings/stories`: makes their calls through this package, and tells its answers as they have them."""
+"""Interprets the stories of `bindings/stories`: makes their calls through this package, and tells its answers as they
+have them."""
 from __future__ import annotations
 
 from collections.abc import Callable, Sequence
@@ -8,6 +9,7 @@ from typing import Any
 
 import bully
 from bully import Agent, BullyError, NotLearned, Owned, Replica, Setup, State, check, plan_table
+
 from bully.core import (
     Ask, BackOff, Begin, Core, CoreOpening, End, Lease, Live, Promise, Seen, Session, Step, StoreAnswer, Unknown,
     Wait,
@@ -140,7 +142,9 @@ def configured(document: bytes) -> list[Value]:
     return [row(settings.setup.header()) + b''.join(b'%d:%s\n' % (len(each), each) for each in names)]
 
 
-def planned_table(given: Sequence[int], weights: Sequence[int], members: Sequence[int], old: Sequence[int]) -> list[Value]:
+def planned_table(
+    given: Sequence[int], weights: Sequence[int], members: Sequence[int], old: Sequence[int]
+) -> list[Value]:
     plan = plan_table(setup(given, weights), members, old or None)
     return [list(plan.owners), plan.moves]
 
@@ -232,7 +236,9 @@ def is_same(wanted: Value, told: Value) -> bool:
     """Whether this is what is wanted: of a struct what is named, and if it is whole nothing else."""
     if isinstance(wanted, Fields) and isinstance(told, Fields):
         others = set(told.named) - set(wanted.named) if wanted.is_whole else set()
-        return all(is_same(each, told.named[name]) for name, each in wanted.named.items()) and all(is_zero(told.named[name]) for name in others)
+        return all(is_same(each, told.named[name]) for name, each in wanted.named.items()) and all(
+            is_zero(told.named[name]) for name in others
+        )
     if isinstance(wanted, list) and isinstance(told, list):
         return len(wanted) == len(told) and all(map(is_same, wanted, told))
     return wanted == told or is_zero(wanted) and is_zero(told)
@@ -289,9 +295,15 @@ class Interpreter:
             return bully.status_name(fault.status), []
 
     def take(self, call: Call) -> None:
-        """Makes the call, which must answer as the story says. One that is refused changes nothing. Raises AssertionError."""
+        """Makes the call, which must answer as the story says. One that is refused changes nothing. Raises
+        AssertionError."""
         handle = self.handles.get(call.handle)
-        is_seen = call.status != 'OK' and handle is not None and not handle.is_closed and (call.kind, call.name) != ('member', 'learn')
+        is_seen = (
+            call.status != 'OK'
+            and handle is not None
+            and not handle.is_closed
+            and (call.kind, call.name) != ('member', 'learn')
+        )
         is_seen = is_seen and not (call.name == 'learn' and call.answers[0])
         before = shown(handle) if is_seen and handle else []
         status, told = self.answer(call)
@@ -312,8 +324,14 @@ class Interpreter:
                 status = 'OK'
             except NotLearned as fault:
                 status = bully.status_name(fault.status)
-            assert (status, replica.rows, replica.events) == (call.status, call.answers[0], events), f'{call.place}: {status} {shown(replica)}'
-        trace = Call(call.file, call.line, '', 'check', [header + told], *verdict_of(call.status, call.answers[0], events))
+            assert (status, replica.rows, replica.events) == (
+                call.status,
+                call.answers[0],
+                events,
+            ), f'{call.place}: {status} {shown(replica)}'
+        trace = Call(
+            call.file, call.line, '', 'check', [header + told], *verdict_of(call.status, call.answers[0], events)
+        )
         self.take(trace)
 
 

@@ -1,10 +1,10 @@
 """Agents that do again what the rows of a trace say, and have to say the same.
 
 A row says which call on which node's agent is made, and what comes of it: the agent's own row, the line of its request
-or of its reply, what it is told, its claim. In version 3 all of it has to be said; in versions 1 and 2 less is compared.
-Each call that would be refused if it came again comes again, and changes nothing. A node that crashed goes on by its
-agent or by a new one. A trace in which a premise of `docs/NODE.md` is broken is done again, too: a request may run
-twice, or late, and a reply may be made up."""
+or of its reply, what it is told, its claim. In version 3 all of it has to be said; in versions 1 and 2 less is
+compared. Each call that would be refused if it came again comes again, and changes nothing. A node that crashed goes on
+by its agent or by a new one. A trace in which a premise of `docs/NODE.md` is broken is done again, too: a request may
+run twice, or late, and a reply may be made up."""
 from __future__ import annotations
 
 from collections.abc import Callable
@@ -41,7 +41,8 @@ def hold(what: str, wanted: object, said: object) -> None:
 
 
 def refuse(agent: Agent, fault: type[bully.Refused] | None, do: Callable[[], object]) -> None:
-    """If there is a fault, the agent refuses so what is done, which changes nothing. Raises Differs, and other faults."""
+    """If there is a fault, the agent refuses so what is done, which changes nothing. Raises Differs, and other
+    faults."""
     if fault is None:
         return
     before = (agent.state, agent.rows(), agent.request(), agent.claim())
@@ -54,8 +55,9 @@ def refuse(agent: Agent, fault: type[bully.Refused] | None, do: Callable[[], obj
 
 @dataclass
 class Node:
-    """A node's agent, and what it did by the trace: how many events it told, the number of its last call and what that was
-    answered, the table that it planned last, its requests, and the row of its call's loss while the return is to come."""
+    """A node's agent, and what it did by the trace: how many events it told, the number of its last call and what that
+    was answered, the table that it planned last, its requests, and the row of its call's loss while the return is to
+    come."""
 
     agent: Agent
     events: int = 0
@@ -66,7 +68,8 @@ class Node:
     lost: str = ''
 
     def reply(self, outcome: str) -> str:
-        """The reply to the call under way, by its outcome: of an orphan any that was given; one that never was is made up."""
+        """The reply to the call under way, by its outcome: of an orphan any that was given; one that never was is made
+        up."""
         return f'tell,{self.agent.node},{self.number},{outcome if outcome in ("yes", "no") else self.answer}'
 
     def end(self, was: Call | None, is_orphan: bool) -> None:
@@ -197,8 +200,8 @@ class Replay:
         node.end(call, True)
 
     def crash(self, node: Node, row: str, said: list[str]) -> None:
-        """Of three crashes the first two are the agent's: it goes on, or another one takes its place. In the third it just
-        ends, so that somebody else tells the crash, and another one takes its place."""
+        """Of three crashes the first two are the agent's: it goes on, or another one takes its place. In the third it
+        just ends, so that somebody else tells the crash, and another one takes its place."""
         self.crashes += 1
         agent, kind, node.lost = node.agent, self.crashes % 3, ''
         if kind != 0:

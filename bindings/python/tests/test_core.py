@@ -14,6 +14,7 @@ from enum import Enum
 
 import bully
 from bully import NotLearned, Owned, Replica, Status, check
+
 from bully.core import (
     TTL_MAX, TTL_MIN, Activity, Ask, BackOff, Begin, Core, CoreOpening, Ending, Lease, Live, Promise, Reason, Request,
     Seen, Session, Step, Stop, StoreAnswer, Unknown, Until, Wait, Way, Work,
@@ -221,7 +222,8 @@ class Stories(unittest.TestCase):
             self.assertEqual([snapshot(now, works, again) for now in (20_000, 59_999, 60_000)], [True, True, False])
 
     def test_a_change_is_under_way(self) -> None:
-        """Then a node is admitted that came again, and would have to stay for 40,000. To see that, a member needs promises."""
+        """Then a node is admitted that came again, and would have to stay for 40,000. To see that, a member needs
+        promises."""
         with Replica('bully,1,3,3') as replica:
             rows = replica.rebalance([2, 3])
         end, before = Promise(7, len(rows)), Promise(7, 0)
@@ -293,8 +295,8 @@ class Stories(unittest.TestCase):
 
 
 class CooperativeStories(unittest.TestCase):
-    """Stories of the higher member of a cooperative group of two, with four partitions, of which each node gets two. All
-    times follow from a ttl of 1,000,000 ns: a session is admitted once it has stayed for 10,000."""
+    """Stories of the higher member of a cooperative group of two, with four partitions, of which each node gets two.
+    All times follow from a ttl of 1,000,000 ns: a session is admitted once it has stayed for 10,000."""
 
     OTHER = Session(6, 1)
 
@@ -348,7 +350,9 @@ class CooperativeStories(unittest.TestCase):
         self.assertEqual([core.is_affected(node) for node in (1, 2)], [False, True])
         self.assertEqual(core.next(20_080), Stop())
         stopping = [partition for partition, each in enumerate(core.activities()) if each is Activity.STOPPING]
-        self.assertEqual((len(stopping), core.works()), (2, (0, 1, 2, 3)), 'the fewest, and it works there up to the end')
+        self.assertEqual(
+            (len(stopping), core.works()), (2, (0, 1, 2, 3)), 'the fewest, and it works there up to the end'
+        )
         going = tuple(partition for partition in range(4) if partition not in stopping)
         core.stopped_on(stopping[0])
         self.assertEqual(core.next(20_090), Wait(229_920, Until.NEWS, Reason.STOP))
@@ -359,8 +363,12 @@ class CooperativeStories(unittest.TestCase):
         more = self.append(20_120, end)
         self.snapshot(20_130, self.own(end, *going), comes, rows=more)
         self.assertEqual((core.last_table or ()).count(1), 2)
-        self.assertEqual([(core.last_table or ())[partition] for partition in going], [2, 2], 'what it keeps stays its own')
-        self.assertEqual((core.next(20_140), core.works()), (Begin(core.token or 0), going), 'by the new token from now on')
+        self.assertEqual(
+            [(core.last_table or ())[partition] for partition in going], [2, 2], 'what it keeps stays its own'
+        )
+        self.assertEqual(
+            (core.next(20_140), core.works()), (Begin(core.token or 0), going), 'by the new token from now on'
+        )
         self.assertEqual(core.next(20_150).__class__, Wait)
 
     def test_a_death_stops_nothing(self) -> None:

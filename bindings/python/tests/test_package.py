@@ -35,7 +35,9 @@ class Head(unittest.TestCase):
 
     def test_page(self) -> None:
         """The program of `docs/NODE.md` prints what its comment says."""
-        [program] = re.findall(r'^```python\n(.*?)^```$', (ROOT / 'docs' / 'NODE.md').read_text(), re.MULTILINE | re.DOTALL)
+        [program] = re.findall(
+            r'^```python\n(.*?)^```$', (ROOT / 'docs' / 'NODE.md').read_text(), re.MULTILINE | re.DOTALL
+        )
         said = io.StringIO()
         with contextlib.redirect_stdout(said):
             exec(program, {})
@@ -146,7 +148,8 @@ class Loading(unittest.TestCase):
         name = 'import bully; print(bully.status_name(0))'
         for library, program in (
             (folder, name),
-            (os.path.join(folder, 'lib'), name), (os.path.join(folder, 'lib', 'libbully.so'), name),
+            (os.path.join(folder, 'lib'), name),
+            (os.path.join(folder, 'lib', 'libbully.so'), name),
             (None, f'import bully; bully.load({folder!r}); print(bully.status_name(0))'),
             ('/nowhere', f'import bully, pathlib; bully.load(pathlib.Path({folder!r})); print(bully.status_name(0))'),
         ):
@@ -169,7 +172,9 @@ class Loading(unittest.TestCase):
             shutil.copytree(ROOT / 'include', top / 'include')
             shutil.copytree(os.environ['BULLY_LIBRARY'], top / 'out' / 'unproved' / 'library')
             self.assertEqual(self.run_with(None, 'import bully; print(bully.status_name(0))', python).stdout, 'OK\n')
-            wheel = 'import sys; sys.path.append("building"); import wheel_of_bully; print(wheel_of_bully.find_library())'
+            wheel = (
+                'import sys; sys.path.append("building"); import wheel_of_bully; print(wheel_of_bully.find_library())'
+            )
             ran = self.run_with(None, wheel, python)
             self.assertEqual(ran.stdout, f'{top}/out/unproved/library/lib/libbully.so\n')
             self.assertIn('which is not proved', ran.stderr)
@@ -181,4 +186,6 @@ class Loading(unittest.TestCase):
         with tempfile.TemporaryDirectory() as room:
             shutil.copytree(PYTHON / 'bully', Path(room) / 'bully', ignore=shutil.ignore_patterns('__pycache__'))
             self.assertEqual(self.run_with(os.environ['BULLY_LIBRARY'], name, Path(room)).stdout, 'OK\n')
-            self.assertIn('ImportError: bully.h is in none of these places', self.run_with(None, name, Path(room)).stderr)
+            self.assertIn(
+                'ImportError: bully.h is in none of these places', self.run_with(None, name, Path(room)).stderr
+            )

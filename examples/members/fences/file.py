@@ -1,5 +1,6 @@
 #!/usr/bin/env python3
-"""A resource with a fence for each partition: a folder with a file for each, to which only the newest token may add lines.
+"""A resource with a fence for each partition: a folder with a file for each, to which only the newest token may add
+lines.
 
     file.py FOLDER PARTITION TOKEN TEXT      adds a line; the exit status is 1 if a newer token has been seen
 

@@ -1,5 +1,6 @@
 #!/usr/bin/env python3
-"""A resource with a fence for each partition: a service over HTTP. It keeps what it is sent, and the tokens, in a table of SQLite.
+"""A resource with a fence for each partition: a service over HTTP. It keeps what it is sent, and the tokens, in a table
+of SQLite.
 
     service.py FILE PORT
 
@@ -33,8 +34,18 @@ class Handler(BaseHTTPRequestHandler):
     """A request."""
 
     def do_PUT(self) -> None:
-        found, token, length = PATH.fullmatch(self.path), self.headers.get('Fencing-Token', ''), self.headers.get('Content-Length', '')
-        if found is None or not TOKEN.fullmatch(token) or int(token) >= TOKEN_END or not length.isdecimal() or int(length) > LONGEST:
+        found, token, length = (
+            PATH.fullmatch(self.path),
+            self.headers.get('Fencing-Token', ''),
+            self.headers.get('Content-Length', ''),
+        )
+        if (
+            found is None
+            or not TOKEN.fullmatch(token)
+            or int(token) >= TOKEN_END
+            or not length.isdecimal()
+            or int(length) > LONGEST
+        ):
             self.send_error(404 if found is None else 400)
             return
         body = self.rfile.read(int(length))

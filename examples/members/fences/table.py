@@ -1,10 +1,11 @@
 #!/usr/bin/env python3
-"""A resource with a fence for each partition: a table of SQLite, whose rows only the newest token of their partition may add.
+"""A resource with a fence for each partition: a table of SQLite, whose rows only the newest token of their partition
+may add.
 
     table.py FILE PARTITION TOKEN TEXT      adds a row; the exit status is 1 if a newer token has been seen
 
-The check and the write are one transaction. So nothing of a worker that was suspended for too long comes after the first row of the next one.
-"""
+The check and the write are one transaction. So nothing of a worker that was suspended for too long comes after the
+first row of the next one. """
 import sqlite3
 import sys
 from contextlib import closing

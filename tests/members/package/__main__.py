@@ -2,10 +2,9 @@
 
     tests/members/run package LIBRARY_FOLDER [MODULE ..]
 
-LIBRARY_FOLDER is what `bin/library` wrote. All modules `test_NAME.py` here are run, each in a process of its own, two at once, since most of
-them wait; or those named, one after the other. Those of logs in etcd are run only if the program `etcd` is on the
-path. The last line is 'N passed, M failed'; the exit status is 0 if M is 0, otherwise 1.
-"""
+LIBRARY_FOLDER is what `bin/library` wrote. All modules `test_NAME.py` here are run, each in a process of its own, two
+at once, since most of them wait; or those named, one after the other. Those of logs in etcd are run only if the program
+`etcd` is on the path. The last line is 'N passed, M failed'; the exit status is 0 if M is 0, otherwise 1. """
 from __future__ import annotations
 
 import os
@@ -27,7 +26,17 @@ def run_each(library: str, counts: Counts) -> None:
     names = [path.stem for path in sorted(HERE.glob('test_*.py'), key=lambda path: -path.stat().st_size)]
     with ThreadPoolExecutor(2) as pool:
         words = [sys.executable, '-m', 'members.package', library]
-        runs = {pool.submit(subprocess.run, [*words, name], stdout=subprocess.PIPE, stderr=subprocess.STDOUT, text=True, errors='replace'): name for name in names}
+        runs = {
+            pool.submit(
+                subprocess.run,
+                [*words, name],
+                stdout=subprocess.PIPE,
+                stderr=subprocess.STDOUT,
+                text=True,
+                errors='replace',
+            ): name
+            for name in names
+        }
         for ended in as_completed(runs):
             run = ended.result()
             print(f'{run.stdout.rstrip()}\n-- {runs[ended]}', flush=True)

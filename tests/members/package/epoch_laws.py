@@ -58,7 +58,9 @@ class EpochLaws(Tests):
         self.assertEqual(plain_snapshot(log, 1, 0), (2, [], {'a': Holder(A, end)}, None, Maintenance()))
         self.assertEqual((list(other.read(1, 1)), list(other.read(2, 0))), (['crash,1'], []))
         self.assertEqual(add(other, ['recover,2']), Promise(2, 1))
-        self.assertEqual(plain_snapshot(log, 2, 0), (2, ['recover,2'], {'a': Holder(A, Promise(2, 0))}, None, Maintenance()))
+        self.assertEqual(
+            plain_snapshot(log, 2, 0), (2, ['recover,2'], {'a': Holder(A, Promise(2, 0))}, None, Maintenance())
+        )
         self.assertEqual((list(log.read(1, 0)), list(log.read(2, 0))), (['recover,1', 'crash,1'], ['recover,2']))
 
     def test_over_epochs(self) -> None:
@@ -112,7 +114,8 @@ class EpochLaws(Tests):
         self.assertEqual(log.epochs(), range(1, 5))
 
     def test_an_end_of_which_leases_are_known(self) -> None:
-        """Each holder that the change affects is idle there, also one that is as it is known; others aren't compared."""
+        """Each holder that the change affects is idle there, also one that is as it is known; others aren't
+        compared."""
         log, other = self.two()
         self.assertTrue(other.acquire('b', B, EMPTY, self.LONG) and other.acquire('c', C, EMPTY, self.LONG))
         self.assertTrue(log.append(1, 0, ['recover,1']))
@@ -158,7 +161,8 @@ class EpochLaws(Tests):
         self.assertTrue(log.roll_over(1, 0, OPENING.next(two, (1, 2, 3, 1, 2, 3))))
         self.assertFalse(other.ask(one, 1), 'the epoch has ended')
         self.assertEqual(
-            (log.opening(), log.snapshot(2, 0).requested, other.snapshot(1, 0).requested), (OPENING.next(two, ()), None, None)
+            (log.opening(), log.snapshot(2, 0).requested, other.snapshot(1, 0).requested),
+            (OPENING.next(two, ()), None, None),
         )
 
     def test_cancelled_requests(self) -> None:

@@ -19,7 +19,9 @@ from ..steps import OPENING
 def changed(path: Path) -> Iterator[sqlite3.Connection]:
     """The file of a log, which somebody changes. Rows are written by `packed(ROWS)`, and read by `unpacked(ROWS)`."""
     with contextlib.closing(sqlite3.connect(path, isolation_level=None)) as file:
-        file.create_function('packed', 1, lambda rows: zlib.compress(rows if isinstance(rows, bytes) else rows.encode()))
+        file.create_function(
+            'packed', 1, lambda rows: zlib.compress(rows if isinstance(rows, bytes) else rows.encode())
+        )
         file.create_function('unpacked', 1, lambda rows: zlib.decompress(rows).decode())
         yield file
 
@@ -33,7 +35,8 @@ class WithFolder(unittest.TestCase):
         self.folder = Path(folder.name)
 
     def planted(self) -> Path:
-        """From now on the working directory has modules of somebody else. The file that each of them makes once it is loaded."""
+        """From now on the working directory has modules of somebody else. The file that each of them makes once it is
+        loaded."""
         there, loaded = self.folder / 'of others', self.folder / 'loaded'
         (there / 'bully').mkdir(parents=True)
         for name in ('queue', 'json', 'socket', 'runpy', 'sitecustomize', 'bully_member', 'bully/__init__'):

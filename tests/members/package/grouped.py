@@ -104,7 +104,10 @@ class Grouped(Viewed):
     def stopped_since(self, said: dict[str, list[tuple[str, tuple[int, ...]]]]) -> dict[str, list[int]]:
         """On which partitions the work of each was stopped since it was called with that."""
         news = {name: worker.said[len(said.get(name, ())) :] for name, (_, worker, _) in self.members.items()}
-        stops = {name: [each for words, partitions in told if words != 'assigned' for each in partitions] for name, told in news.items()}
+        stops = {
+            name: [each for words, partitions in told if words != 'assigned' for each in partitions]
+            for name, told in news.items()
+        }
         return {name: sorted(partitions) for name, partitions in stops.items() if partitions}
 
     def keep(self, name: str, session: Session, *kept: int) -> None:

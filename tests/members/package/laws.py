@@ -36,7 +36,9 @@ class Laws(Tests):
     TTL = 5 * SECOND
     LONG = 1000 * SECOND  # longer than a test
     PAGE = 10  # appends that the store reads together
-    COMPARES_ALL = False  # whether a change with what is known compares all leases, of those that it doesn't affect, too
+    COMPARES_ALL = (
+        False  # whether a change with what is known compares all leases, of those that it doesn't affect, too
+    )
 
     def created(self) -> Log:
         """A new log, which has begun with OPENING. It is closed at the end of the test."""
@@ -146,7 +148,10 @@ class Laws(Tests):
             for name, reads in (('a', log), ('nobody', log), ('nobody', other)):  # `other` reads of nobody each time
                 with self.subTest(change=number, promise_of=name):
                     found = reads.snapshot(1, 0, name)
-                    shown = {each: holder if each == name else Holder(holder.session, *none) for each, holder in holders.items()}
+                    shown = {
+                        each: holder if each == name else Holder(holder.session, *none)
+                        for each, holder in holders.items()
+                    }
                     self.assertEqual((found.holders, found.has_promises), (shown, False))
             if number % 3:
                 whole = log.snapshot(1, 0)
@@ -208,7 +213,8 @@ class Laws(Tests):
         self.assertEqual(live(log), {'a': Holder(A, Promise(10, 0))})
 
     def test_kept(self) -> None:
-        """At one offset a session may keep less later, and nothing else; a promise of a later offset counts as it is."""
+        """At one offset a session may keep less later, and nothing else; a promise of a later offset counts as it
+        is."""
         log, other = self.pair()
         self.assertTrue(log.acquire('a', A, EMPTY, self.LONG))
         few, some, other_ones, most = (17,), (0, 17), (0, 4), (0, 5, 17)
@@ -381,7 +387,12 @@ class Laws(Tests):
         """It is as it is known, whatever it has promised and keeps; or the change is refused."""
         log, other = self.three()
         self.assertTrue(self.appends(log, known_to(log, 'a', 'b', 'c')), 'nobody has promised that')
-        for promise, kept in ((Promise(1, 9), (1, 2, 3)), (Promise(1, 9), (1, 3)), (Promise(1, 9), ()), (Promise(2, 0), ())):
+        for promise, kept in (
+            (Promise(1, 9), (1, 2, 3)),
+            (Promise(1, 9), (1, 3)),
+            (Promise(1, 9), ()),
+            (Promise(2, 0), ()),
+        ):
             known = known_to(log, 'b')
             self.assertTrue(other.promise('b', B, promise, kept))
             self.assertFalse(self.appends(log, known))
@@ -524,10 +535,13 @@ class Laws(Tests):
         other.note('a', False)
         for name in names[1:]:
             log.note(name, None)
-        self.assertEqual((log.snapshot(2, 0).failing, self.handle(log).snapshot(2, 0).failing), ({'a': False}, {'a': False}))
+        self.assertEqual(
+            (log.snapshot(2, 0).failing, self.handle(log).snapshot(2, 0).failing), ({'a': False}, {'a': False})
+        )
 
     def test_give_up(self) -> None:
-        """For an heir that is there by this session just then, and doesn't fail: so two can't give up for each other."""
+        """For an heir that is there by this session just then, and doesn't fail: so two can't give up for each
+        other."""
         log, other = self.pair()
         self.assertFalse(log.give_up('a', 'b', B), 'it is not there')
         self.assertTrue(log.acquire('a', A, EMPTY, self.LONG) and log.acquire('b', B, EMPTY, self.LONG))
@@ -565,7 +579,10 @@ class Laws(Tests):
         here = be_idle(log, ('a', A))
         self.assertTrue(log.roll_over(1, here.offset, OPENING.next(None, ())))
         self.assertEqual(len(other.times(1)), len(moments))
-        self.assertEqual([sorted(log.times(1, offset)) for offset in (1, 2, 3)], [list(range(first, 2 * len(moments), 2)) for first in (2, 2, 4)])
+        self.assertEqual(
+            [sorted(log.times(1, offset)) for offset in (1, 2, 3)],
+            [list(range(first, 2 * len(moments), 2)) for first in (2, 2, 4)],
+        )
         log.prune(2)
         self.assertEqual((other.times(1), log.times(2)), ({}, {}))
 

@@ -306,8 +306,20 @@ class Commands(InFolder):
     def test_watch(self) -> None:
         """It shows the group again when that has changed, and only then, until ^C, which is no failure."""
         self.of_log('init', '--config', str(self.config))
-        words = [sys.executable, '-m', 'bully_member', 'status', '--json', '--watch', '0.01', '--log', f'sqlite:{self.path}']
-        with subprocess.Popen(words, env=environment(), stdout=subprocess.PIPE, stderr=subprocess.PIPE, text=True) as shows:
+        words = [
+            sys.executable,
+            '-m',
+            'bully_member',
+            'status',
+            '--json',
+            '--watch',
+            '0.01',
+            '--log',
+            f'sqlite:{self.path}',
+        ]
+        with subprocess.Popen(
+            words, env=environment(), stdout=subprocess.PIPE, stderr=subprocess.PIPE, text=True
+        ) as shows:
             self.addCleanup(shows.kill)
             assert shows.stdout is not None and shows.stderr is not None
             told = [shows.stdout.readline()]
@@ -323,7 +335,9 @@ class Commands(InFolder):
         """These nodes are live for long, and work."""
         epoch, sessions = log.epochs()[-1], {name: Session(7, number) for number, name in enumerate(names, 1)}
         offset = len(log.read(epoch, 0))
-        self.assertTrue(all(log.acquire(name, session, Promise(epoch, offset), LONG) for name, session in sessions.items()))
+        self.assertTrue(
+            all(log.acquire(name, session, Promise(epoch, offset), LONG) for name, session in sessions.items())
+        )
         return sessions
 
     def test_a_mistyped_resize(self) -> None:

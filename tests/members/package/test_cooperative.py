@@ -78,7 +78,12 @@ class Cooperative(Threads):
         owners, tokens = self.owners(), {self.last_token()}
         works = {name: tuple(sorted(worker.works)) for name, (_, worker, _) in self.members.items()}
         by = {token for _, worker, _ in self.members.values() for token in worker.works.values()}
-        return owners == works and sorted(sum(owners.values(), ())) == list(range(12)) and all(owners.values()) and by == tokens
+        return (
+            owners == works
+            and sorted(sum(owners.values(), ())) == list(range(12))
+            and all(owners.values())
+            and by == tokens
+        )
 
     def last_token(self) -> Token:
         plans = [offset for offset, row in enumerate(self.log.rows) if row.startswith('plan')]
@@ -90,7 +95,8 @@ class Cooperative(Threads):
         wait_until(lambda: len(self.owners()) == len(names) and self.is_shared())
 
     def test_a_return_stops_what_moves(self) -> None:
-        """Of three members with four partitions each, each loses one to the fourth, and works on the others meanwhile."""
+        """Of three members with four partitions each, each loses one to the fourth, and works on the others
+        meanwhile."""
         self.all_come('abc')
         before = self.owners()
         count = {name: len(worker.said) for name, (_, worker, _) in self.members.items()}
@@ -130,7 +136,9 @@ class Cooperative(Threads):
         wait_until(self.is_shared)
         self.assertEqual(worker.works, {})
         self.assertEqual({name: self.members[name][1].stopped() for name in 'abd'}, stopped)
-        self.assertEqual({name: self.log.holders[name].promise for name in 'abd'}, {name: promised[name] for name in 'abd'})
+        self.assertEqual(
+            {name: self.log.holders[name].promise for name in 'abd'}, {name: promised[name] for name in 'abd'}
+        )
 
     def test_lost(self) -> None:
         """A lease that isn't sure any more: all is lost, and begun again once the log answers."""
@@ -176,7 +184,6 @@ class Cooperative(Threads):
         wait_until(lambda: told[-1] == ('start', self.last_token(), everything))
         self.assertEqual(told[3:], [('stop', first, kept), ('start', self.last_token(), everything)])
 
-
     def begin_whole(self, name: str, start: Callback, stop: Callback) -> tuple[Member, threading.Thread]:
         """A member for that node with callbacks for all its work at once."""
         member, _, thread = self.begin(self.log, COOPERATIVE.names.index(name) + 1, start=start, stop=stop)
@@ -216,7 +223,9 @@ class Cooperative(Threads):
     def test_lost_work(self) -> None:
         """It is the last that a callback was given, though the same set goes on by a later token; and starts again."""
         calls: list[tuple[str, Assignment]] = []
-        member, _ = self.begin_whole('a', lambda work: calls.append(('start', work)), lambda work: calls.append(('stop', work)))
+        member, _ = self.begin_whole(
+            'a', lambda work: calls.append(('start', work)), lambda work: calls.append(('stop', work))
+        )
         wait_until(member.assignment)
         self.come('b')
         wait_until(lambda: self.members['b'][1].works)
@@ -271,7 +280,9 @@ class Calls(unittest.TestCase):
         self.first, self.both = assigned(2, 0, 1), frozenset((0, 1))
 
     def say(self, word: str) -> Callable[..., None]:
-        return lambda *of: self.said.append((word, *(each.partitions if isinstance(each, Assignment) else each for each in of)))
+        return lambda *of: self.said.append(
+            (word, *(each.partitions if isinstance(each, Assignment) else each for each in of))
+        )
 
     def test_whole(self) -> None:
         for is_lost in (True, False):

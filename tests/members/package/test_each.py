@@ -160,7 +160,15 @@ class Whole(InFiles):
         workers.stop()
         workers.start(assigned(3, 0))
         second = self.begun(0)
-        late = b'stopped all 1', b'lost all 1', b'ended all 1 0', b'ended all 1 9', b'answered all 1', b'held all 1 5', b'lost 7 1'
+        late = (
+            b'stopped all 1',
+            b'lost all 1',
+            b'ended all 1 0',
+            b'ended all 1 9',
+            b'answered all 1',
+            b'held all 1 5',
+            b'lost 7 1',
+        )
         for message in late:
             workers._ask(partial(workers._hear, message))
         workers._ask(lambda: workers._send(b'stop all 1'))
@@ -241,7 +249,9 @@ class Each(InFiles):
         with self.assertLogs('bully', 'WARNING') as said:
             self.end('5', 7)
             wait_until(lambda: self.member.ends)
-            self.assertIn('the worker of partition 5 failed, with status 7, and is started again in 0.2 s', said.output[0])
+            self.assertIn(
+                'the worker of partition 5 failed, with status 7, and is started again in 0.2 s', said.output[0]
+            )
             self.assertEqual((self.member.ends, first.is_there, other.is_gone), ([{5}], True, True))
             self.assertTrue(workers.is_failing)
             self.assertEqual(workers.about, '; its worker failed')
@@ -461,7 +471,8 @@ class Reports(unittest.TestCase):
     """What the watchdog passes on of a keeper, and what it hears of the member."""
 
     def test_an_earlier_moment(self) -> None:
-        """Until when work is sure: if a lease was taken away, a later moment that was to be sent before doesn't count."""
+        """Until when work is sure: if a lease was taken away, a later moment that was to be sent before doesn't
+        count."""
         workers = Workers(['true'], 'x', 1.0)
         workers._woken, workers._wakes = socket.socketpair()
         workers._channel, watchdog_end = socket.socketpair(socket.AF_UNIX, socket.SOCK_SEQPACKET)
@@ -473,7 +484,9 @@ class Reports(unittest.TestCase):
         workers._do_asked()
         workers._flush()
         told = [watchdog_end.recv(100, socket.MSG_DONTWAIT) for _ in range(4)]
-        self.assertEqual([message.split()[1] for message in told], [b'5000000000', b'2000000000', b'5000000000', b'2000000000'])
+        self.assertEqual(
+            [message.split()[1] for message in told], [b'5000000000', b'2000000000', b'5000000000', b'2000000000']
+        )
 
     def test_the_last_one(self) -> None:
         """It waits for the keeper's end: then another one may begin."""

@@ -69,7 +69,9 @@ class Keys(InEtcd):
         with mock.patch.object(time, 'time_ns', lambda: 1_700_000_000_007_000_000):
             self.assertTrue(log.append(1, 0, ['recover,1', 'größer']))
         self.assertTrue(log.promise('größer', Session(17, 3), Promise(1, 3), (0, 5, 17)))
-        self.assertTrue(log.set_maintenance(Maintenance(frozenset(['größer', 'a']), {'größer': Session(17, 3)}), Maintenance()))
+        self.assertTrue(
+            log.set_maintenance(Maintenance(frozenset(['größer', 'a']), {'größer': Session(17, 3)}), Maintenance())
+        )
         requested = Opening(2, 'bully,1,2,4', ('a', 'b'), 500)
         self.assertTrue(log.ask(requested, 1))
         wanted: dict[str, str | bytes] = {
@@ -332,12 +334,20 @@ class Contents(InEtcd):
     def test_no_rows(self) -> None:
         log = self.begun()
         add(log, ['recover,1', 'recover,2'])
-        for rows in ('recover,1\nrecover,2', 'recover,1\n', '', 'recover,1\nrecover,2\nrecover,3\n', '\nx\n', 'x\r\nx\n'):
+        for rows in (
+            'recover,1\nrecover,2',
+            'recover,1\n',
+            '',
+            'recover,1\nrecover,2\nrecover,3\n',
+            '\nx\n',
+            'x\r\nx\n',
+        ):
             self.server.put(self.key(0), packed(rows))
             self.refused(DamagedLog, lambda: log.read(1, 0))
 
     def test_bad_appends(self) -> None:
-        """What can't be decompressed, or would have too many bytes, is reported with its offset, and cut by a repair."""
+        """What can't be decompressed, or would have too many bytes, is reported with its offset, and cut by a
+        repair."""
         for number, value in enumerate(BAD_APPENDS):
             log = self.begun(f'{self.address}/{number}')
             for rows in (['recover,1', 'recover,2'], ['recover,3']):
@@ -415,7 +425,9 @@ class Contents(InEtcd):
         self.assertTrue(repair(log, damage))
         self.assertFalse(repair(log, damage))
         self.assertEqual((list(log.read(1, 0)), log.epochs()), (['recover,1', 'recover,2', 'recover,3'], range(1, 3)))
-        self.assertEqual((list(log.snapshot(2, 0).rows), log.snapshot(2, 0).requested, damage_of(log)), ([], None, None))
+        self.assertEqual(
+            (list(log.snapshot(2, 0).rows), log.snapshot(2, 0).requested, damage_of(log)), ([], None, None)
+        )
         self.assertEqual(
             list(log.times(1)), [0, 2], 'when the last one was done that stays in part, and none after that'
         )
@@ -433,7 +445,8 @@ class Contents(InEtcd):
                 damage = damage_of(log)
                 assert damage is not None
                 self.assertEqual(
-                    (damage.offset, damage.why), (count, 'rows are missing or can not be read, or there is something else between them')
+                    (damage.offset, damage.why),
+                    (count, 'rows are missing or can not be read, or there is something else between them'),
                 )
                 self.assertTrue(repair(log, damage))
                 self.assertEqual((log.epochs(), damage_of(log)), (range(1, 3), None))
@@ -471,7 +484,10 @@ class Contents(InEtcd):
             for _ in range(20):  # so that its revision is higher than it was
                 server.put('x', 'y')
             if way == 'restored':
-                beyond: list[Callable[[], object]] = [lambda: log.snapshot(1, 2), lambda: log.append(1, 2, ['recover,1'])]
+                beyond: list[Callable[[], object]] = [
+                    lambda: log.snapshot(1, 2),
+                    lambda: log.append(1, 2, ['recover,1']),
+                ]
                 ends = 'read up to offset 2 of epoch 1, and now ends at offset 0 of epoch 1'
                 self.refuse(beyond, DamagedLog, ends)
             else:
@@ -542,7 +558,9 @@ class OlderForm(InEtcd):
         self.store = EtcdStore(self.address, None, '', '')
 
     def test_refused(self) -> None:
-        with self.assertRaisesRegex(ForeignLog, 'a log of format 3, by an older version, not of format 4; history writes it'):
+        with self.assertRaisesRegex(
+            ForeignLog, 'a log of format 3, by an older version, not of format 4; history writes it'
+        ):
             self.store.open()
         with self.assertRaises(LogExists):
             self.store.create(OPENING)

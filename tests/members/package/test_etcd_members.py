@@ -17,6 +17,7 @@ from bully.epochs import Opening, Token
 from bully.etcd import EtcdLog
 from bully.shared_log import Log
 from places import ROOT
+
 from ..etcd_servers import (
     NUMBERS, OLDER, Server, WithCertificates, WithEtcd, add_users, alone, begin_alone, prune_in_part, put_older,
 )  # fmt: skip
@@ -134,10 +135,9 @@ class OverEtcd(WithEtcd, WithFolder):
         self.assertEqual(dict(log.snapshot(log.epochs()[-1], 0).holders), {})
 
 
-
 class LeasesTaken(WithEtcd, WithFolder):
-    """An operator of etcd takes the lease of a member away, which a premise forbids. Others may work from then on, so the
-    worker, which doesn't stop by itself, is killed long before its time is over."""
+    """An operator of etcd takes the lease of a member away, which a premise forbids. Others may work from then on, so
+    the worker, which doesn't stop by itself, is killed long before its time is over."""
 
     TTL = 40.0
 
@@ -165,7 +165,8 @@ class LeasesTaken(WithEtcd, WithFolder):
             self.server.delete(root, f'{self.prefix}/lease0')
 
     def see_killed(self, member: MemberProcess, is_revoked: bool, least: float) -> None:
-        """It is taken away, and the worker is killed when `least` of the ttl is left until its time is over, or sooner."""
+        """It is taken away, and the worker is killed when `least` of the ttl is left until its time is over, or
+        sooner."""
         worker, begun = member.worker(), time.monotonic()
         self.take(is_revoked)
         wait_until(lambda: not is_running(worker))
@@ -261,7 +262,9 @@ class Commands(OverEtcd):
         for part in parts.split(', '):
             address = f'{self.address}/{part}/session'
             why = f'{address}, and no part of the prefix of a new log may be one of {parts}: they are keys of logs'
-            self.assertEqual(call('init', '--config', self.config, '--log', address), (2, '', f'bully-member: --log is {why}\n'))
+            self.assertEqual(
+                call('init', '--config', self.config, '--log', address), (2, '', f'bully-member: --log is {why}\n')
+            )
             with self.assertRaisesRegex(ValueError, re.escape(why)):
                 EtcdLog.create(address, Opening.first('bully,1,1,1'))
         self.assertEqual(self.server.keys(self.prefix), {})

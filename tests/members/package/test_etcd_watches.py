@@ -131,7 +131,9 @@ class Watching(InEtcd):
         seen = self.seen()
         self.direct.note('a', True)
         self.assertTrue(self.direct.append(1, 0, ['recover,1']) and self.direct.promise('a', A, Promise(1, 1)))
-        self.assertTrue(self.direct.set_maintenance(Maintenance(frozenset('b')), None) and self.direct.ask(OPENING.after(None), 1))
+        self.assertTrue(
+            self.direct.set_maintenance(Maintenance(frozenset('b')), None) and self.direct.ask(OPENING.after(None), 1)
+        )
         wait_until(lambda: self.log._hear(lambda: f'{self.prefix}/requested' in seen, True, 0.1))
         wanted = ('offset', 'lease/promise/a', 'maintenance', 'requested')
         self.assertEqual(seen, [f'{self.prefix}/{key}' for key in wanted])

@@ -195,7 +195,9 @@ class Services(unittest.TestCase):
         state = workers._workers[ALL] = WorkerState(ALL, workers, workers._failures)
         state.working = frozenset(work.partitions)
         workers._failures.failed(seconds_of_boot())
-        self.assertRegex(told._stands(), '^owns 2 partitions by token 40000002; its worker failed, and backs off for [01]')
+        self.assertRegex(
+            told._stands(), '^owns 2 partitions by token 40000002; its worker failed, and backs off for [01]'
+        )
         member.assignment, member.gave_up = lambda: None, True
         self.assertEqual(told._stands(), 'gave up: its worker fails')
 

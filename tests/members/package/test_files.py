@@ -20,6 +20,7 @@ from bully.encoding import packed
 from bully.epochs import Opening
 from bully.releasing import release_from_file
 from bully.repair import damage_of, repair
+
 from bully.shared_log import (
     DamagedLog, DiskFull, ForeignLog, Holder, LogBusy, LogError, LogExists, NoEpoch, NoLog, OtherLog, ReadOnlyLog,
 )  # fmt: skip
@@ -209,7 +210,8 @@ class Files(WithLogs):
         self.assertEqual(list(log.read(1, 4)), [])
 
     def test_bad_appends(self) -> None:
-        """What can't be decompressed, or would have too many bytes, is reported with its offset, and cut by a repair."""
+        """What can't be decompressed, or would have too many bytes, is reported with its offset, and cut by a
+        repair."""
         for value in BAD_APPENDS:
             log = self.begun()
             for rows in (['recover,1', 'recover,2'], ['recover,3']):
@@ -373,8 +375,8 @@ except LogError as fault:
         Path(f'{self.folder}.moved').rename(self.folder)
 
     def lose(self, do: Callable[[SqliteLog], bool]) -> str:
-        """A process acquires the lease of 'a' in a new log, does that, and dies. Then the -wal and the -shm are removed.
-        The log's name."""
+        """A process acquires the lease of 'a' in a new log, does that, and dies. Then the -wal and the -shm are
+        removed. The log's name."""
         created = self.created()
         created.close()
         process = os.fork()
@@ -429,8 +431,8 @@ except LogError as fault:
             self.assertEqual(list(live(log)), ['c'])
 
     def test_a_lost_wal_and_releases(self) -> None:
-        """The watchdogs of the members that are gone release these leases. The first of them may be the first to use the
-        new -wal."""
+        """The watchdogs of the members that are gone release these leases. The first of them may be the first to use
+        the new -wal."""
         for is_first in (False, True):
             name = self.lose(lambda log: log.acquire('b', B, EMPTY, LONG))
             log = None if is_first else self.opened()

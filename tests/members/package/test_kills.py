@@ -23,8 +23,8 @@ from .folders import WithFolder, changed
 from .member_processes import call
 from .threads import put
 
-# What may change a file or a folder, for others that are there: what reaches the disk is no matter of a kill. (To open a
-# file does so only if that is made or emptied by it.)
+# What may change a file or a folder, for others that are there: what reaches the disk is no matter of a kill. (To open
+# a file does so only if that is made or emptied by it.)
 WRITES = (
     'write', 'pwrite64', 'writev', 'pwritev', 'pwritev2', 'ftruncate', 'truncate', 'fallocate', 'unlink', 'unlinkat',
     'link', 'linkat', 'rename', 'renameat', 'renameat2', 'symlink', 'symlinkat', 'mkdir', 'mkdirat', 'chmod', 'fchmod',

@@ -1,5 +1,5 @@
-"""Tests of members whose file is taken from them, or a file beside it, while another one begins. A recorder judges their
-work."""
+"""Tests of members whose file is taken from them, or a file beside it, while another one begins. A recorder judges
+their work."""
 from __future__ import annotations
 
 import os
@@ -64,7 +64,11 @@ class LostFiles(WithFolder):
         words = [sys.executable, '-c', READY, 'run', '--log', f'sqlite:{path}', *more]
         with open(self.group.said(NEW), 'wb') as said:
             member = subprocess.Popen(
-                words, env=environment(PYTHONPATH=str(PYTHON)), stderr=said, stdin=subprocess.PIPE, stdout=subprocess.PIPE
+                words,
+                env=environment(PYTHONPATH=str(PYTHON)),
+                stderr=said,
+                stdin=subprocess.PIPE,
+                stdout=subprocess.PIPE,
             )
         assert member.stdout is not None
         self.assertEqual(member.stdout.readline(), b'ready\n')

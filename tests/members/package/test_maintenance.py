@@ -33,7 +33,9 @@ class Values(unittest.TestCase):
     """Maintenance, and what members are told of it."""
 
     def test_text(self) -> None:
-        some = Maintenance(frozenset(['b', 'größer', '"'])), Maintenance(frozenset('a'), {"'": A, 'b': Session(2**64 - 1, 7)})
+        some = Maintenance(frozenset(['b', 'größer', '"'])), Maintenance(
+            frozenset('a'), {"'": A, 'b': Session(2**64 - 1, 7)}
+        )
         for maintenance in (Maintenance(), Maintenance(sessions={}), Maintenance(leaving={'b': A, 'ö': B}), *some):
             self.assertEqual(Maintenance.parse(maintenance.text()), maintenance)
         self.assertEqual(Maintenance().text(), '')
@@ -66,7 +68,13 @@ class Values(unittest.TestCase):
     def test_who_is_known_to_leave(self) -> None:
         """Drained nodes, and sessions that have noted it; nobody in a pause."""
         some = Maintenance(frozenset('b'), leaving={'a': A, 'c': C})
-        for name, session, is_known in (('a', A, True), ('a', D, False), ('b', B, True), ('c', C, True), ('d', D, False)):
+        for name, session, is_known in (
+            ('a', A, True),
+            ('a', D, False),
+            ('b', B, True),
+            ('c', C, True),
+            ('d', D, False),
+        ):
             with self.subTest(name=name, session=session):
                 self.assertIs(some.is_known_to_leave(name, session), is_known)
                 self.assertFalse(replace(some, sessions={}).is_known_to_leave(name, session))
@@ -90,7 +98,9 @@ class Values(unittest.TestCase):
     ) -> Seen:
         """What node a is told, in a group of a, b and c."""
         requested = OPENING.after(None) if has_request else None
-        return adapter.seen_of(Snapshot(1, (), holders, requested, maintenance), END, 'a', {'a': 1, 'b': 2, 'c': 3}, up.__contains__)
+        return adapter.seen_of(
+            Snapshot(1, (), holders, requested, maintenance), END, 'a', {'a': 1, 'b': 2, 'c': 3}, up.__contains__
+        )
 
     def test_no_pause(self) -> None:
         """Without a pause a member is told everything as it is."""
@@ -115,9 +125,7 @@ class Values(unittest.TestCase):
         ):
             with self.subTest(there=there):
                 self.assertEqual(self.seen({'a': Holder(A, WORKS), **there}, paused, has_request=True), works)
-        self.assertEqual(
-            self.seen({'b': Holder(B, WORKS)}, paused), Seen(1, others, True, False), 'its lease was lost'
-        )
+        self.assertEqual(self.seen({'b': Holder(B, WORKS)}, paused), Seen(1, others, True, False), 'its lease was lost')
         self.assertEqual(
             self.seen({'a': Holder(D, IDLE)}, paused),
             Seen(1, (Lease(1, D, IDLE, is_leaving=True), *others), True, False),
@@ -179,7 +187,13 @@ class Values(unittest.TestCase):
         """A lease is that of the session that holds it now, with what that has promised, whatever is the same as
         before."""
         leases = adapter.Leases()
-        for holder in (Holder(A, WORKS), Holder(B, WORKS), Holder(B, IDLE), Holder(B, IDLE, (3,)), Holder(A, IDLE, (3,))):
+        for holder in (
+            Holder(A, WORKS),
+            Holder(B, WORKS),
+            Holder(B, IDLE),
+            Holder(B, IDLE, (3,)),
+            Holder(A, IDLE, (3,)),
+        ):
             self.assertEqual(leases.of({'a': holder}, {'a': 1}), (Lease(1, *holder),))
 
     def test_leases_in_any_order(self) -> None:
@@ -585,9 +599,7 @@ class Maintained(Threads):
         self.become_stable(1, 2)
         is_over.clear()
         self.begin_members(3)
-        wait_until(
-            lambda: '3' in self.log.holders and self.log.holders['2'].promise == Promise(1, len(self.log.rows))
-        )
+        wait_until(lambda: '3' in self.log.holders and self.log.holders['2'].promise == Promise(1, len(self.log.rows)))
         operations.pause(self.log)
         rows = len(self.log.rows)
         is_over.set()

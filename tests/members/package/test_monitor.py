@@ -66,8 +66,8 @@ def started(at: int, member: str, process: int, name: str, node: int) -> Act:
     return act(at, 'starts', member, process=process, name=name, ttl=TTL, **opening, **state(live=None))
 
 
-# A member comes for a, appends a rebalance, works, keeps its work by a promise, and stops; then it ends the epoch, and is
-# gone. One for b reads a snapshot once the lease of a is over.
+# A member comes for a, appends a rebalance, works, keeps its work by a promise, and stops; then it ends the epoch, and
+# is gone. One for b reads a snapshot once the lease of a is over.
 SESSION = [7, 1]
 OWN = [*SESSION, 1, 0, []]
 KNOWN = {'affected': ['a'], 'holders': {'a': OWN}, 'revision': 40}
@@ -154,7 +154,10 @@ def at_another(at: int, to: int) -> Acts:
 TWICE, NEWER = [ROWS[1], ROWS[1]], [*SESSION, 1, 2, [0, 1]]
 RENEW: Told = {'call': 'renew', 'name': 'a', 'session': SESSION}
 RENEWED: dict[bool, Acts] = {  # a renewal that the store does, or refuses
-    is_done: [*asked(125, 'renew', {'name': 'a', 'session': SESSION}, is_done, LEARNED, session=SESSION), answered(128, LEARNED)]
+    is_done: [
+        *asked(125, 'renew', {'name': 'a', 'session': SESSION}, is_done, LEARNED, session=SESSION),
+        answered(128, LEARNED),
+    ]
     for is_done in (True, False)
 }
 BROKEN: dict[str, dict[str, Acts]] = {

@@ -130,4 +130,3 @@ class News(unittest.TestCase):
                         course.wait()
                     else:
                         self.see_snapshot(course)
-

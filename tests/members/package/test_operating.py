@@ -1,4 +1,5 @@
-"""Tests of what an operator does to a cooperative group: drains, pauses, resizes, switchovers; and who stops for that."""
+"""Tests of what an operator does to a cooperative group: drains, pauses, resizes, switchovers; and who stops for
+that."""
 from __future__ import annotations
 
 import collections
@@ -113,7 +114,9 @@ class Operated(Grouped):
             before = self.log.snapshots.copy()
             self.log.pass_renewals('abcd')
             read = self.log.snapshots - before
-            self.assertEqual((self.log.rows, self.stopped_since(said), self.members['d'][0].assignment()), (rows, {}, None))
+            self.assertEqual(
+                (self.log.rows, self.stopped_since(said), self.members['d'][0].assignment()), (rows, {}, None)
+            )
             self.assertLess(read[new], 3 * read[one] + 10)
             self.assertTrue(self.viewed(self.log).show().is_well)
             operations.resume(self.log)
@@ -161,7 +164,9 @@ class Operated(Grouped):
         self.assertTrue(group.told_more.startswith(told), group.told_more)
         slow.may_stop.set()
         wait_until(lambda: self.is_shared('abcd'))
-        self.assertEqual({name: len(stopped) for name, stopped in self.stopped_since(said).items()}, dict.fromkeys('abc', 1))
+        self.assertEqual(
+            {name: len(stopped) for name, stopped in self.stopped_since(said).items()}, dict.fromkeys('abc', 1)
+        )
         rows, said = self.log.rows[:], self.said()
         self.assertEqual((shown.show().is_frozen, shown.show().behind), (True, {}))
         self.die('d')
@@ -214,7 +219,9 @@ class Operated(Grouped):
         said = self.said()
         operations.undrain(self.log, 'c')
         wait_until(lambda: self.is_shared('abcd'))
-        self.assertEqual({name: len(stopped) for name, stopped in self.stopped_since(said).items()}, dict.fromkeys('abd', 1))
+        self.assertEqual(
+            {name: len(stopped) for name, stopped in self.stopped_since(said).items()}, dict.fromkeys('abd', 1)
+        )
 
     # The end of an epoch.
 
@@ -298,5 +305,7 @@ class Stored(Viewed):
             log.release(name, session)
         settings = Settings(COOPERATIVE.settings.setup, tuple('dcba'))
         opening = operations.resize(log, settings, PATIENCE)
-        self.assertEqual((opening.epoch, opening.is_cooperative, opening.names, log.holders), (2, True, tuple('dcba'), {}))
+        self.assertEqual(
+            (opening.epoch, opening.is_cooperative, opening.names, log.holders), (2, True, tuple('dcba'), {})
+        )
         self.assertEqual(set(opening.table), {3, 4})

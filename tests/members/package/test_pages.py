@@ -46,7 +46,9 @@ class Pages(Paged):
         told = json.loads(self.get('/group')[2])
         self.assertEqual((told['coordinator'], set(told['owners'])), (self.NAMES[1], {self.NAMES[1]}))
         self.assertEqual([node['live'] for node in told['nodes']], [False, True, False])
-        self.assertEqual((told['states'], told['tokens'], told['coming']), (['working'] * 6, [told['token']] * 6, [None] * 6))
+        self.assertEqual(
+            (told['states'], told['tokens'], told['coming']), (['working'] * 6, [told['token']] * 6, [None] * 6)
+        )
         self.assertEqual((told['moves'], told['stops'], told['stable'], told['frozen']), (0, {}, True, False))
         self.assertEqual([(row['row'], row['text']) for row in told['last']], list(enumerate(self.log.rows, 2))[-20:])
         assigned = json.loads(self.get('/assignment')[2])
@@ -109,7 +111,8 @@ class Pages(Paged):
         wait_until(lambda: len(offsets) > 1)  # so it waits
         session, here = Session(1, 1), Promise(1, 2)
         self.assertTrue(
-            self.log.acquire('unknown', session, here, LONG) and self.log.roll_over(1, 2, self.log.opening().next(None, ()))
+            self.log.acquire('unknown', session, here, LONG)
+            and self.log.roll_over(1, 2, self.log.opening().next(None, ()))
         )
         self.log.release('unknown', session)
         thread.join()
@@ -202,7 +205,9 @@ class Pages(Paged):
 
     def test_who_is_unknown(self) -> None:
         """A process that the group doesn't know is measured, too, while all wait for it."""
-        self.assertTrue(self.log.acquire('unknown', Session(1, 1), Promise(1, 0), LONG) and self.log.append(1, 0, ['recover,1']))
+        self.assertTrue(
+            self.log.acquire('unknown', Session(1, 1), Promise(1, 0), LONG) and self.log.append(1, 0, ['recover,1'])
+        )
         behind = {name for name in self.measured() if name.startswith('bully_idle_behind_seconds')}
         self.assertEqual(behind, {f'bully_idle_behind_seconds{page.labels(name)}' for name in (*self.NAMES, 'unknown')})
 
@@ -281,7 +286,8 @@ class Pages(Paged):
         """Where the log doesn't answer with what the next epoch began with, the page goes on once it does."""
         session, here = Session(1, 1), Promise(1, 0)
         self.assertTrue(
-            self.log.acquire('unknown', session, here, LONG) and self.log.roll_over(1, 0, self.log.opening().next(None, ()))
+            self.log.acquire('unknown', session, here, LONG)
+            and self.log.roll_over(1, 0, self.log.opening().next(None, ()))
         )
         with mock.patch.object(page, 'SNAPSHOT_SECONDS', 0.0), mock.patch.object(
             self.log, 'opening', side_effect=Unanswered('silent')
@@ -317,7 +323,9 @@ class Pages(Paged):
         self.begin()
         self.assertIn('<span class="dot normal"></span>normal<td>yes', self.get('/')[2])
         self.assertTrue(self.log.set_maintenance(Maintenance(frozenset(), {}), None))
-        with mock.patch.object(self.log, 'snapshot', lambda *asked: Troubled.snapshot(self.log, *asked)._replace(holders={})):
+        with mock.patch.object(
+            self.log, 'snapshot', lambda *asked: Troubled.snapshot(self.log, *asked)._replace(holders={})
+        ):
             wait_until(lambda: json.loads(self.get('/group')[2])['nodes'][1]['live'] is False)
             shown = self.get('/')[2]
         self.assertIn('<span class="dot down"></span>not live, normal before<td>no<td>', shown)
@@ -437,13 +445,20 @@ class Cooperating(Paged):
         by_state = {state: [each for each in range(12) if told['states'][each] == state] for state in told['states']}
         self.assertEqual(by_state['moving'], [moving])
         self.assertEqual((told['owners'][moving], told['coming'][moving]), ('b', 'd'))
-        self.assertEqual([(told['owners'][each], told['coming'][each]) for each in by_state['waiting']], [(None, 'd')] * 2)
+        self.assertEqual(
+            [(told['owners'][each], told['coming'][each]) for each in by_state['waiting']], [(None, 'd')] * 2
+        )
         self.assertEqual({each for each in by_state['working'] if told['owners'][each] == 'b'}, goes_on)
-        self.assertEqual([told['coming'][each] for each in by_state['working']], [told['owners'][each] for each in by_state['working']])
+        self.assertEqual(
+            [told['coming'][each] for each in by_state['working']],
+            [told['owners'][each] for each in by_state['working']],
+        )
         shown = self.get('/')[2]
         self.assertIn('cooperative, 4 of 4 nodes live; 3 of 12 partitions move; not stopped yet: b on', shown)
         self.assertRegex(shown, f'; not stopped yet: b on {moving} for [0-9.]+ s<')
-        self.assertIn(f'<span class="cell moving" title="token {told["tokens"][moving]}">{moving} <b>b</b> to d</span>', shown)
+        self.assertIn(
+            f'<span class="cell moving" title="token {told["tokens"][moving]}">{moving} <b>b</b> to d</span>', shown
+        )
         self.assertIn(f'<span class="cell waiting">{by_state["waiting"][0]} <b>-</b> to d</span>', shown)
         self.worker.may_stop.set()
         wait_until(lambda: self.counts() == [3] * 4 and json.loads(self.get('/group')[2])['stable'])
@@ -455,14 +470,19 @@ class Cooperating(Paged):
         _, _ = self.begin_change()
         wait_until(lambda: self.measured()['bully_idle_behind_seconds{node="b"}'] > 0.3)
         told = self.measured()
-        group = {name: told[f'bully_{name}'] for name in ('cooperative', 'stable', 'partitions_moving', 'partitions_free')}
+        group = {
+            name: told[f'bully_{name}'] for name in ('cooperative', 'stable', 'partitions_moving', 'partitions_free')
+        }
         self.assertEqual(group, {'cooperative': 1, 'stable': 0, 'partitions_moving': 3, 'partitions_free': 2})
         self.assertEqual([told[f'bully_node_stops{page.labels(name)}'] for name in 'abcd'], [0, 1, 0, 0])
         self.assertEqual([told[f'bully_idle_behind_seconds{page.labels(name)}'] for name in 'acd'], [0, 0, 0])
         self.worker.may_stop.set()
         wait_until(lambda: self.measured()['bully_stable'])
         told = self.measured()
-        self.assertEqual((told['bully_partitions_moving'], told['bully_node_stops{node="b"}'], told['bully_partitions_free']), (0, 0, 0))
+        self.assertEqual(
+            (told['bully_partitions_moving'], told['bully_node_stops{node="b"}'], told['bully_partitions_free']),
+            (0, 0, 0),
+        )
 
     def test_what_a_member_may_work_on(self) -> None:
         """That is what goes on, and not what has to stop, though the work there hasn't ended."""

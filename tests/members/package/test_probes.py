@@ -142,14 +142,19 @@ class Probes(Paged):
         """While all polls wait that may, and clients have asked whose bodies never come, each probe is answered."""
         self.make(20.0)
         statuses: list[int] = []
-        polls = [threading.Thread(target=lambda: statuses.append(self.status('/group?after=0'))) for _ in range(page.POLLS_MAX)]
+        polls = [
+            threading.Thread(target=lambda: statuses.append(self.status('/group?after=0')))
+            for _ in range(page.POLLS_MAX)
+        ]
         for poll in polls:
             poll.start()
         wait_until(lambda: vars(self.page._answers)['_polls']._value == 0)
         answered = 0
         with contextlib.ExitStack() as opened:
             for number in range(100):
-                opened.enter_context(self.client()).sendall(b'GET /livez HTTP/1.1\r\nHost: localhost\r\nContent-Length: 9\r\n\r\n')
+                opened.enter_context(self.client()).sendall(
+                    b'GET /livez HTTP/1.1\r\nHost: localhost\r\nContent-Length: 9\r\n\r\n'
+                )
                 with contextlib.suppress(OSError, http.client.HTTPException):
                     answered += self.status(PROBES[number % len(PROBES)]) in (200, 503)
         self.assertEqual((answered, statuses), (100, []))
@@ -162,7 +167,9 @@ class Probes(Paged):
         """Some connections are kept for probes: of others not so many are answered at once."""
         target, big = '/group', (200, 'text/plain', 'x' * 20_000_000)
         with contextlib.ExitStack() as opened:
-            with mock.patch.object(self.page, '_answered', lambda told: big if told.path == target else (200, 'text/plain', 'x')):
+            with mock.patch.object(
+                self.page, '_answered', lambda told: big if told.path == target else (200, 'text/plain', 'x')
+            ):
                 for number in range(2 * page.CONNECTIONS_MAX):
                     with contextlib.suppress(OSError):  # it was closed
                         opened.enter_context(self.client()).sendall(b'GET /group HTTP/1.1\r\nHost: localhost\r\n\r\n')

@@ -133,8 +133,8 @@ class Processes(WithMember):
         self.assertEqual(member.end(), 0)
 
     def test_a_truncated_file(self) -> None:
-        """A process that uses a `-shm` which is truncated ends by a bus error. Its watchdog says so, and ends the worker;
-        and another process can begin."""
+        """A process that uses a `-shm` which is truncated ends by a bus error. Its watchdog says so, and ends the
+        worker; and another process can begin."""
         for more in ((), ('--each',)):
             self.path.unlink(missing_ok=True)
             (self.folder / 'begun').unlink(missing_ok=True)
@@ -324,7 +324,9 @@ os.kill(os.getpid(), signal.SIGSTOP)
         wait_until(lambda: 'No such file' in member.said)
         self.assertEqual(member.end(), 0)
         told = [json.loads(line) for line in member.said.splitlines()]
-        self.assertIn(('error', '/no/such/worker: No such file or directory'), [(each['level'], each['message']) for each in told])
+        self.assertIn(
+            ('error', '/no/such/worker: No such file or directory'), [(each['level'], each['message']) for each in told]
+        )
 
     def test_a_late_renewal(self) -> None:
         """A worker that its watchdog has killed, because it heard of renewals too late, is begun again."""
@@ -653,7 +655,9 @@ os.kill(os.getpid(), signal.SIGSTOP)
         self.assertNotEqual(member.worker(), worker)
         said = [line for line in member.said.splitlines() if 'watchdog' in line]
         self.assertEqual(len(said), 1, member.said)
-        self.assertRegex(said[0], 'the watchdog killed the worker [0-9.]+ s ago, because the lease was not sure any more')
+        self.assertRegex(
+            said[0], 'the watchdog killed the worker [0-9.]+ s ago, because the lease was not sure any more'
+        )
         self.assertEqual(member.end(), 0)
 
     def test_processes(self) -> None:

@@ -91,8 +91,8 @@ class PromisesRead(Grouped):
         self.assertEqual(self.reads(log, leave), {'a': low, 'b': low, 'c': high})
 
     def test_which_sessions_are_known(self) -> None:
-        """A wait is begun by the sessions that the last snapshot showed, also if the same nodes held leases before: else
-        it would be over at once."""
+        """A wait is begun by the sessions that the last snapshot showed, also if the same nodes held leases before:
+        else it would be over at once."""
         log = self.begin_log(COOPERATIVE)
         self.come('a', TTL)
         wait_until(lambda: self.is_shared(['a']))
@@ -123,7 +123,8 @@ class PromisesRead(Grouped):
         wait_until(lambda: len(log.rows) > end)
 
     def test_for_whom_a_change_waited(self) -> None:
-        """A member that reads no promises any more forgets that a change waited for a node, once the group is stable."""
+        """A member that reads no promises any more forgets that a change waited for a node, once the group is
+        stable."""
         log = self.begin_log(COOPERATIVE)
         self.come('b', TTL)
         wait_until(lambda: self.is_shared('b'))

@@ -179,8 +179,8 @@ class ByTheWatchdog(WithMember):
         self.assertEqual(len(self.sessions()), 1)
 
     def test_session_file(self) -> None:
-        """It has the session before that holds the lease, for its user alone, until the member has left in order: then it
-        is empty."""
+        """It has the session before that holds the lease, for its user alone, until the member has left in order: then
+        it is empty."""
         notes = self.folder / 'session'
         member = self.begin(BEGINS, None, '--ttl', TTL, '--session-file', str(notes))
         member.worker()
@@ -258,7 +258,11 @@ class Alone(InFolder):
         self.assertTrue(self.log.acquire('a', A, EMPTY, LONG))
 
     def released(self, told: bytes, seconds: float = PATIENCE) -> subprocess.CompletedProcess[str]:
-        words = [sys.executable, '-c', 'import sys\nfrom bully.releasing import release\nrelease(sys.argv[1].encode(), float(sys.argv[2]))']
+        words = [
+            sys.executable,
+            '-c',
+            'import sys\nfrom bully.releasing import release\nrelease(sys.argv[1].encode(), float(sys.argv[2]))',
+        ]
         run = [*words, told.decode(), str(seconds)]
         return subprocess.run(run, env=environment(FIRST='1'), capture_output=True, text=True, timeout=PATIENCE)
 
@@ -383,7 +387,16 @@ class Command(InFolder):
         below.mkdir()
         self.addCleanup(below.rmdir)
         (below / 'cgroup.procs').write_text(str(first.pid))
-        words = ['release', '--log', f'sqlite:{self.path}', '--node', 'a', '--session', f'{A.process}.{A.number}', '--alone']
+        words = [
+            'release',
+            '--log',
+            f'sqlite:{self.path}',
+            '--node',
+            'a',
+            '--session',
+            f'{A.process}.{A.number}',
+            '--alone',
+        ]
         member = [sys.executable, '-m', 'bully_member', *words]
         run = ['sh', '-c', f'echo $$ > {group}/cgroup.procs; "$@"; exit $?', 'sh', *member]
         ending = subprocess.Popen(run, env=environment(), stdout=subprocess.PIPE, text=True)
@@ -455,7 +468,8 @@ class Commands(unittest.TestCase):
         self.assertEqual((what['more'], '--password-file=file' in what['command']), ({}, True))
 
     def test_what_it_runs(self) -> None:
-        """After its end it releases the lease of the session that its member noted, and only if nothing is left of it."""
+        """After its end it releases the lease of the session that its member noted, and only if nothing is left of
+        it."""
         lines = (ROOT / 'examples' / 'members' / 'bully-member@.service').read_text().splitlines()
         told = dict(line.split('=', 1) for line in lines if '=' in line and not line.startswith('#'))
         file = '%t/bully/%i/session'

@@ -237,7 +237,9 @@ class Resizes(InFolder):
         self.assertEqual((list(log.read(1, 2)), dict(log.snapshot(2, 0).holders)), ([], {}))
         self.assertEqual(self.resize(4, 'x', 'y').epoch, 2, 'it has these settings already')
         self.assertTrue(log.ask(log.opening().requested(settings.Settings(Setup(1, 1), ('z',))), 2))
-        self.assertEqual((self.resize(4, 'x', 'y').epoch, log.snapshot(2, 0).requested), (2, None), 'no other settings are requested')
+        self.assertEqual(
+            (self.resize(4, 'x', 'y').epoch, log.snapshot(2, 0).requested), (2, None), 'no other settings are requested'
+        )
 
     def test_not_in_time(self) -> None:
         """The request to resize stays, and the epoch ends later."""

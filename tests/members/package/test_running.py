@@ -262,7 +262,9 @@ class Running(Threads):
     def test_a_table_is_handed_on(self) -> None:
         """An epoch that ends before it has a plan hands on the table of the one before."""
         log, session, table = MemoryLog(OPENING), Session(9, 1), (3, 2, 1, 1, 2, 3)
-        self.assertTrue(log.acquire('unknown', session, Promise(1, 0), LONG) and log.roll_over(1, 0, OPENING.next(None, table)))
+        self.assertTrue(
+            log.acquire('unknown', session, Promise(1, 0), LONG) and log.roll_over(1, 0, OPENING.next(None, table))
+        )
         log.release('unknown', session)
         self.assertTrue(log.ask(log.opening().requested(OPENING.settings), 2))
         self.begin(log, 1)
@@ -389,7 +391,8 @@ class Running(Threads):
         self.assertTrue(log.acquire('unknown', session, Promise(1, 0), LONG))
         for epoch in range(1, 5):
             self.assertTrue(
-                log.promise('unknown', session, Promise(epoch, 0)) and log.roll_over(epoch, 0, log.opening().next(None, ()))
+                log.promise('unknown', session, Promise(epoch, 0))
+                and log.roll_over(epoch, 0, log.opening().next(None, ()))
             )
         with mock.patch.object(log, 'opening', wraps=log.opening) as asked:
             self.assertTrue(is_known(log, OPENING.settings))

@@ -80,7 +80,6 @@ class Said(unittest.TestCase):
         said = messages.Lines().format(logging.makeLogRecord(strange))
         self.assertRegex(said, r' bully-member: node a\?\[2J\?b: /c\?d: busy$')
 
-
     def test_work(self) -> None:
         """On what work starts and stops; and that it goes on if no partition is new."""
         with self.assertLogs('bully', 'INFO') as said:

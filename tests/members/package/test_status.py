@@ -130,7 +130,10 @@ class Statuses(InFolder):
         before = self.all_come(NODES)
         self.assertEqual(call('drain', 'c', *self.log), (0, 'c is drained\n', ''))
         self.wait_for('abd')
-        self.assertEqual({name: self.noted(name, 'stopped') for name in NODES}, {**dict.fromkeys('abd', {}), 'c': Counter(before['c'])})
+        self.assertEqual(
+            {name: self.noted(name, 'stopped') for name in NODES},
+            {**dict.fromkeys('abd', {}), 'c': Counter(before['c'])},
+        )
         news = {name: Counter(set(self.owned()[name]) - set(before[name])) for name in 'abd'}
         wait_until(lambda: {name: self.noted(name, 'started') for name in 'abd'} == news)
         self.assertEqual(call('undrain', 'c', *self.log)[0], 0)
@@ -143,5 +146,9 @@ class Statuses(InFolder):
         self.assertEqual(call('switchover', 'a', *self.log), (0, 'epoch 2: a leads\n', ''))
         wait_until(lambda: all(self.noted(name, 'started') == Counter(before[name]) for name in NODES))
         self.wait_for(NODES)
-        self.assertEqual({name: self.noted(name, 'stopped') for name in NODES}, {name: Counter(before[name]) for name in NODES})
-        self.assertEqual((self.owned(), self.shown()['coordinator'], self.shown()['mode']), (before, 'a', 'cooperative'))
+        self.assertEqual(
+            {name: self.noted(name, 'stopped') for name in NODES}, {name: Counter(before[name]) for name in NODES}
+        )
+        self.assertEqual(
+            (self.owned(), self.shown()['coordinator'], self.shown()['mode']), (before, 'a', 'cooperative')
+        )

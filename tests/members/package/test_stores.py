@@ -57,7 +57,6 @@ class InFile(WithLogs, InMemory):
         patch.start()
         self.addCleanup(patch.stop)
 
-
     def test_a_pause_in_a_snapshot(self) -> None:
         """A lease that is always renewed in time is seen, wherever a process is paused that reads a snapshot."""
         log, other = self.pair()
@@ -68,7 +67,6 @@ class InFile(WithLogs, InMemory):
                 self.assertEqual(set(live(log)), {'b'})
         self.assertGreater(pauses.count, 3, 'the clock was read')
         self.assertTrue(other.renew('b', B, self.TTL))
-
 
     def test_a_pause_before_a_write(self) -> None:
         """What waits until others have written does nothing for a lease that has ended meanwhile."""

@@ -20,8 +20,8 @@ from ..processes import below, descriptors_of, is_running
 from ..waiting import PATIENCE, wait_until
 from .below import Below, Timely, assigned
 
-# One that stays, and writes what it is told. It is `silent`, or answers too often, or by a `longer` line, or ends in place
-# of an answer, or at its second begin.
+# One that stays, and writes what it is told. It is `silent`, or answers too often, or by a `longer` line, or ends in
+# place of an answer, or at its second begin.
 TALKING = """
 import json, os, sys, time
 folder, way = sys.argv[1:]
@@ -83,8 +83,8 @@ class Talks(Below):
         return workers
 
     def test_it_reads_nothing(self) -> None:
-        """A worker that has closed its standard input goes on after a change, as its keeper does. It is killed once it must
-        stop, because it doesn't answer."""
+        """A worker that has closed its standard input goes on after a change, as its keeper does. It is killed once it
+        must stop, because it doesn't answer."""
         closed = self.folder / 'closed'
         workers = self.made(['sh', '-c', f'exec 0<&-; : > {closed}; exec sleep 1000'], 0.2)
         workers.start(assigned(2, 0, 5))
@@ -188,8 +188,8 @@ class Talks(Below):
         self.assertEqual(self.failures, [])
 
     def test_no_answer(self) -> None:
-        """It is killed, if it doesn't answer in time, or by a line that only begins so; or at the moment until which its
-        work is sure."""
+        """It is killed, if it doesn't answer in time, or by a line that only begins so; or at the moment until which
+        its work is sure."""
         for way, patience, seconds in (('silent', 0.2, 1000.0), ('silent', PATIENCE, 2.0), ('longer', 2.0, 1000.0)):
             with self.subTest(way=way, patience=patience):
                 (self.folder / 'told').unlink(missing_ok=True)  # by the worker before this one
@@ -300,7 +300,9 @@ class Talks(Below):
     def lines(self, count: int) -> list[dict[str, Any]]:
         """The lines that workers were told, without the settings, once there are so many."""
         told = [json.loads(line.partition(' ')[2]) for line in self.heard(count)]
-        return [{name: value for name, value in line.items() if name in ('begin', 'partitions', 'stop')} for line in told]
+        return [
+            {name: value for name, value in line.items() if name in ('begin', 'partitions', 'stop')} for line in told
+        ]
 
     def test_a_part_stops(self) -> None:
         """It is told what stops, and after each change all that its node owns. What isn't told to stop goes on."""
@@ -333,7 +335,9 @@ class Talks(Below):
     def test_stops_in_a_row(self) -> None:
         """Each is answered by one line, in order; what isn't answered hasn't ended."""
         worker = 'read -r line; for each in 1 2 3; do read -r line; echo "$line" >> $0; done; '
-        answers = 'for each in 1 2 3; do while [ ! -e $0.$each ]; do sleep 0.01; done; echo stopped >&3; done; read -r line'
+        answers = (
+            'for each in 1 2 3; do while [ ! -e $0.$each ]; do sleep 0.01; done; echo stopped >&3; done; read -r line'
+        )
         told = self.folder / 'told'
         workers = self.made(['sh', '-c', worker + answers, str(told)])
         workers.start(assigned(2, 0, 1, 5))

@@ -1,4 +1,5 @@
-"""Tests of what is shown of a cooperative group: who may work on each partition, what moves, and for whom others wait."""
+"""Tests of what is shown of a cooperative group: who may work on each partition, what moves, and for whom others
+wait."""
 from __future__ import annotations
 
 import random
@@ -51,7 +52,9 @@ class Slowly(Grouped):
         self.assertEqual(self.seen_doing(group, Doing.MOVING), {moving: ('a', 'd')})
         gone = {each for name in MOVED for each in set(before[name]) - set(self.works()[name])}
         self.assertEqual(self.seen_doing(group, Doing.WAITING), {each: (None, 'd') for each in gone})
-        working = {each: (name, name) for name, works in before.items() for each in works if each not in {moving, *gone}}
+        working = {
+            each: (name, name) for name, works in before.items() for each in works if each not in {moving, *gone}
+        }
         self.assertEqual(self.seen_doing(group, Doing.WORKING), working)
         self.assertEqual((group.moves, group.is_stable, group.is_well, group.mode), (3, False, False, 'cooperative'))
         wait_until(lambda: shown.show().behind['a'] > 0.3)
@@ -63,8 +66,8 @@ class Slowly(Grouped):
         self.assertEqual(set(self.seen_doing(group, Doing.WORKING)), set(range(12)))
 
     def test_the_first_look(self) -> None:
-        """A view knows for whom a change waits for which somebody has stopped, and on which partitions that stops, when it
-        reads the log for the first time, whether or not a member reports to it."""
+        """A view knows for whom a change waits for which somebody has stopped, and on which partitions that stops, when
+        it reads the log for the first time, whether or not a member reports to it."""
         self.slowed()
         other = self.members['b'][0]
         wait_until(lambda: [name for name, _ in other.behind._waits[1]] == ['a'])
@@ -162,8 +165,8 @@ class Stored(Viewed):
         self.assertEqual(list(self.viewed(self.log, late).show().behind), ['b'])
 
     def test_who_comes_again(self) -> None:
-        """A view that has seen a node come again and again doesn't expect it; but once somebody has stopped for it, the view
-        shows what it gets, and for whom that waits."""
+        """A view that has seen a node come again and again doesn't expect it; but once somebody has stopped for it, the
+        view shows what it gets, and for whom that waits."""
         log = MemoryLog(COOPERATIVE)
         sessions, end, shown = share_out(log, *'abc'), Promise(1, len(log.rows)), self.viewed(log)
         for number in range(1, 7):
@@ -205,7 +208,9 @@ class Stored(Viewed):
                 log.leases['unknown'] = log.leases['unknown']._replace(holder=Holder(Session(8, 1), Promise()))
             idle = {name for name in 'abcd' if name not in shown.show().owners}
             self.assertTrue(log.ask(few.requested(few.settings), 1))
-            wanted = [name for name in (*'abcd', 'unknown') if not (opening.is_cooperative and name in {*idle, 'unknown'})]
+            wanted = [
+                name for name in (*'abcd', 'unknown') if not (opening.is_cooperative and name in {*idle, 'unknown'})
+            ]
             self.assertEqual((len(idle), list(shown.show().behind)), (1, wanted))
             self.assertEqual(len(wanted), len(late))
 
@@ -265,6 +270,8 @@ class Stored(Viewed):
                         seeing.see(log.snapshot(1, seeing.rows))
                 coming, last = coming_table(seeing, COOPERATIVE), seeing.last_table or ()
                 losers = {old for old, new in zip(last, coming or [0] * 12) if old != new}
-                self.assertEqual([seeing.is_affected(node) for node in range(1, 5)], [node in losers for node in range(1, 5)])
+                self.assertEqual(
+                    [seeing.is_affected(node) for node in range(1, 5)], [node in losers for node in range(1, 5)]
+                )
                 seen.add((coming is None, len(losers)))
         self.assertLessEqual({(False, 0), (False, 1), (False, 2), (True, 1), (True, 4)}, seen)

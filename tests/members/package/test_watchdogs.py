@@ -21,6 +21,7 @@ from bully.member import Assignment, Member
 from bully.settings import Settings
 from bully.worker import ChildrenUnlisted, WatchdogLost, WorkerEnded, WorkerStuck, Workers
 from places import environment
+
 from ..processes import (
     below, children, descriptors_of, freeze, halt_by_debugger, halt_by_group, has_stopped, is_running, keepers, name_of, parent_of, thaw,
 )  # fmt: skip
@@ -297,7 +298,9 @@ class Watchdogs(Below):
         with self.assertLogs('bully', 'ERROR') as said:
             workers.ask_to_stop()
             wait_until(lambda: said.output)
-        self.assertTrue(said.output[0].endswith(f'nothing is started here before they end: [{self.worker}]'), said.output)
+        self.assertTrue(
+            said.output[0].endswith(f'nothing is started here before they end: [{self.worker}]'), said.output
+        )
         wait_until(lambda: workers.is_stuck)
         self.assertEqual((self.member.ends, self.member.stuck), ([], []))
         self.assertRegex(workers.about, '^; its worker has not stopped for [0-9.]+ s$')
@@ -327,7 +330,8 @@ class Watchdogs(Below):
         self.assertEqual([type(failure) for failure in self.failures], [WatchdogLost])
 
     def test_keeper_dies(self) -> None:
-        """The watchdog kills what the worker started, also while its member does nothing, which hears of it after that."""
+        """The watchdog kills what the worker started, also while its member does nothing, which hears of it after
+        that."""
         workers, goes_on = self.begin('stubborn'), threading.Event()
         self.addCleanup(goes_on.set)
         workers._ask(goes_on.wait)
@@ -435,7 +439,9 @@ class Watchdogs(Below):
                         wait_until(lambda: not is_running(self.worker))
                     workers.stop(assigned(0))
                 self.assertTrue(self.are_gone())
-                self.assertTrue(said.output[0].endswith('nothing is started here before they end: they are not listed'), said.output)
+                self.assertTrue(
+                    said.output[0].endswith('nothing is started here before they end: they are not listed'), said.output
+                )
                 self.assertEqual([type(failure) for failure in self.failures], [WatchdogLost])
                 self.assertEqual(self.lost, [])
                 self.failures.clear()
@@ -493,7 +499,8 @@ class Watchdogs(Below):
                 late.start()
                 self.addCleanup(late.cancel)
             print('go on', file=member.stdin, flush=True)
-            self.assertRegex(member.stdout.readline(), rf'^these processes may work on: \[{worker}[],]')  # others may yet end
+            # (others may yet end)
+            self.assertRegex(member.stdout.readline(), rf'^these processes may work on: \[{worker}[]]')
             self.assertEqual(member.stdout.readline(), 'stuck\n')
             self.assertTrue(is_running(worker))
             self.assertEqual(select.select([member.stdout], [], [], 0.3)[0], [], 'nothing has stopped')
@@ -556,7 +563,9 @@ class Watchdogs(Below):
 
     def test_signals(self) -> None:
         """A worker begins as any process: no signal is ignored or held back, also if the watchdog began so."""
-        before = signal.signal(signal.SIGCHLD, signal.SIG_IGN), signal.pthread_sigmask(signal.SIG_BLOCK, [signal.SIGALRM])
+        before = signal.signal(signal.SIGCHLD, signal.SIG_IGN), signal.pthread_sigmask(
+            signal.SIG_BLOCK, [signal.SIGALRM]
+        )
         try:
             workers = self.made(['sleep', '1000'])
         finally:
@@ -598,7 +607,8 @@ class Watchdogs(Below):
         self.assertEqual((self.failures, self.lost), ([], []))
 
     def test_orphans(self) -> None:
-        """What a worker left is waited for once it ends, while the worker goes on, and nothing is heard of the member."""
+        """What a worker left is waited for once it ends, while the worker goes on, and nothing is heard of the
+        member."""
         count = 3 * watchdog.REAPED  # more than in one turn
         workers = self.made(['sh', '-c', f'for each in $(seq {count}); do (sleep 1000 &); done; exec sleep 1000'])
         workers.start(self.assignment)

@@ -109,7 +109,8 @@ class Waits(Tests):
         log.wait(1, 1, sessions, Until.ANY_IDLE, 0.3)
         self.assertGreaterEqual(time.monotonic(), begun + 0.3)
         self.ends_by(
-            lambda: other.promise('1', A, Promise(1, 1)), lambda seconds: log.wait(1, 1, sessions, Until.ANY_IDLE, seconds)
+            lambda: other.promise('1', A, Promise(1, 1)),
+            lambda seconds: log.wait(1, 1, sessions, Until.ANY_IDLE, seconds),
         )
 
     def test_idle_ones_keep_nothing(self) -> None:
@@ -165,7 +166,8 @@ class Waits(Tests):
         log.wait(1, 1, sessions, Until.PROMISES, PATIENCE)
         self.assertLess(time.monotonic(), begun + PATIENCE)
         self.ends_by(
-            lambda: other.promise('2', B, Promise(1, 1)), lambda seconds: log.wait(1, 1, sessions, Until.ANY_IDLE, seconds)
+            lambda: other.promise('2', B, Promise(1, 1)),
+            lambda seconds: log.wait(1, 1, sessions, Until.ANY_IDLE, seconds),
         )
         sessions = log.snapshot(1, 1, '1').sessions
         begun = time.monotonic()
@@ -191,7 +193,8 @@ class Waits(Tests):
         sessions = log.snapshot(1, 1).sessions
         self.assertTrue(other.promise('1', A, Promise(1, 1)))
         self.ends_by(
-            lambda: other.promise('2', B, Promise(1, 1)), lambda seconds: log.wait(1, 1, sessions, Until.ALL_IDLE, seconds)
+            lambda: other.promise('2', B, Promise(1, 1)),
+            lambda seconds: log.wait(1, 1, sessions, Until.ALL_IDLE, seconds),
         )
 
     def test_promises_are_no_news(self) -> None:
