@@ -1,10 +1,14 @@
-"""Reads the stories of `bindings/stories`, which the bindings of C and Python are tried by. (That of Rust has a reader
-of its own.)
+#!/usr/bin/env python3
+"""Reads the stories of `bindings/stories`, whose README has the format: the bindings are tried by them.
 
-The README there has the format."""
+    tests/stories.py    prints those of all languages, for the tests of Rust
+
+Each line is a call: its story, place, handle, name, status, arguments and answers, with tabs between them. A value is a number, a word, a quote and a text in hexadecimal, `[ VALUE.. ]`, or
+`{ NAME VALUE .. }`, which begins with `{..` if other fields aren't compared. Between these are spaces."""
 from __future__ import annotations
 
 import re
+import sys
 from collections.abc import Iterator
 from pathlib import Path
 from typing import NamedTuple, Union
@@ -95,12 +99,19 @@ class Reader:
         return stories
 
     def expanded(self, call: Call) -> list[Call]:
-        """What a node appends, as two calls: the row, which is given, is learned."""
+        """What nodes append, each row as two calls: the row, which is given, is learned."""
         if call.name != 'appends':
             return [call]
-        *given, row = call.arguments
-        made = call._replace(name='next' if len(given) == 1 else 'event', arguments=given, answers=[row])
-        return [made, call._replace(name='learn', arguments=[row], answers=[1])]
+        calls: list[Call] = []
+        given: list[Value] = []
+        for value in call.arguments:
+            if not isinstance(value, bytes):
+                given.append(value)
+                continue
+            calls.append(call._replace(name='next' if len(given) == 1 else 'event', arguments=given, answers=[value]))
+            calls.append(call._replace(name='learn', arguments=[value], answers=[1]))
+            given = []
+        return calls
 
     def call(self, file: str, number: int, line: str) -> Call:
         told, arrow, answered = line.partition(' -> ')
@@ -204,3 +215,29 @@ def bytes_of(text: str) -> bytes:
     return b''.join(
         bytes.fromhex(code) if code else ESCAPES[escape] if escape else plain.encode() for code, escape, plain in parts
     )
+
+
+def printed(value: Value) -> str:
+    """A value as it is printed."""
+    if isinstance(value, bytes):
+        return f'"{value.hex()}'
+    if isinstance(value, list):
+        return ' '.join(['[', *map(printed, value), ']'])
+    if isinstance(value, Fields):
+        named = [f'{name} {printed(each)}' for name, each in value.named.items()]
+        return ' '.join(['{' if value.is_whole else '{..', *named, '}'])
+    return str(value)
+
+
+def main() -> None:
+    sys.path.append(str(ROOT / 'bin'))
+    from building.layer import HEADER, read_header
+
+    for story in Reader(set(read_header(HEADER.read_text()).statuses)).stories():
+        for call in [] if story.is_for_c else story.calls:
+            values = (' '.join(map(printed, each)) for each in (call.arguments, call.answers))
+            print(story.name, call.place, call.handle, call.name, call.status, *values, sep='\t')
+
+
+if __name__ == '__main__':
+    main()

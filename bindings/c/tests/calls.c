@@ -1,5 +1,5 @@
-/* Tries each function of bully.h: calls FOLDER VERSION HEADER_FOLDER. The folder has the examples, the version is the
- * one that the program prints as its own, and the last folder has bully.h. The last line is 'N passed, M failed'. */
+/* Tries each function of bully.h: calls VERSION HEADER_FOLDER. The version is the one that the program prints as its own,
+ * and the folder has bully.h. The last line is 'N passed, M failed'. */
 #include "stories.h"
 
 #include <stdio.h>
@@ -20,15 +20,13 @@ int tries_rooms(void) {
 }
 
 int main(int count, char **words) {
-    if (count != 4) {
-        fprintf(stderr, "usage: calls EXAMPLES_FOLDER VERSION HEADER_FOLDER\n");
+    if (count != 3) {
+        fprintf(stderr, "usage: calls VERSION HEADER_FOLDER\n");
         return 2;
     }
-    try_names(words[2], words[3]);
+    try_names(words[1], words[2]);
     try_nulls();
-    try_examples(words[1]);
-    try_elections();
-    try_logs(words[1]);
+    try_limits();
     try_stories();
     return tell_counts();
 }

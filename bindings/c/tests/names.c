@@ -40,6 +40,21 @@ static char *statuses_in(char *header) {
     return begin;
 }
 
+/* The text of the header, to be freed. */
+static char *read_header(const char *folder) {
+    char path[4096], *text = (char *)calloc(1, 65536);
+    FILE *file;
+    snprintf(path, sizeof path, "%s/bully.h", folder);
+    file = fopen(path, "rb");
+    EXPECT(file != NULL && text != NULL);
+    if (file == NULL || text == NULL) {
+        abort();
+    }
+    EXPECT(fread(text, 1, 65535, file) > 0);
+    fclose(file);
+    return text;
+}
+
 static void try_statuses(const char *statuses) {
     bully_status status;
     EXPECT(stands_in(statuses, " BULLY_OK = 0"));
@@ -49,8 +64,7 @@ static void try_statuses(const char *statuses) {
 }
 
 void try_names(const char *version, const char *header_folder) {
-    size_t length;
-    char *header = read_file(header_folder, "bully", "h", &length);
+    char *header = read_header(header_folder);
     try_statuses(statuses_in(header));
     free(header);
     EXPECT(strcmp(bully_status_name(UINT32_MAX), "?") == 0);

@@ -44,7 +44,7 @@ def all_ways(function: 'Function', handles: Dict[str, str]) -> List[Ways]:
     """The ways to give each argument, a pointer with the length after it."""
     kinds = [each.kind for each in function.takes]
     has_length = [kind == 'size_t' for kind in kinds[1:]] + [False]
-    given = [handles.get(kind, f'at({place})') for place, kind in enumerate(kinds)]
+    given = [handles.get(kind, f'({kind})at({place})') for place, kind in enumerate(kinds)]
     places = [place for place, kind in enumerate(kinds) if kind != 'size_t']
     return [ways_of(function.takes[place], place, has_length[place], given[place]) for place in places]
 

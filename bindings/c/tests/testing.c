@@ -2,15 +2,11 @@
 #include "testing.h"
 
 #include <stdio.h>
-#include <stdlib.h>
 #include <string.h>
 
 static int passed, failed;
 
 const uint16_t two_owners[2] = {1, 2};
-
-const char *const example_names[EXAMPLES] = {"all_up", "alone", "announced_too_late", "dropped", "kept", "late_failure",
-                                             "orphan_halt", "orphan_ready", "others_down", "reply_lost", "told", "weighted"};
 
 void count_test(int held, const char *file, int line, const char *text) {
     if (held) {
@@ -44,20 +40,6 @@ int is_shown(const char *what, const char *text, size_t length, const char *want
     return is_text(text, length, wanted);
 }
 
-char *read_file(const char *folder, const char *name, const char *kind, size_t *length) {
-    char path[4096], *text = (char *)calloc(1, 65536);
-    FILE *file;
-    snprintf(path, sizeof path, "%s/%s.%s", folder, name, kind);
-    file = fopen(path, "rb");
-    EXPECT(file != NULL && text != NULL);
-    if (file == NULL || text == NULL) {
-        abort();
-    }
-    *length = fread(text, 1, 65535, file);
-    fclose(file);
-    return text;
-}
-
 bully_setup setup_of(uint16_t nodes, uint16_t partitions, uint32_t events_max) {
     bully_setup setup = {0, 0, 0, 0};
     setup.nodes = nodes;
@@ -67,13 +49,6 @@ bully_setup setup_of(uint16_t nodes, uint16_t partitions, uint32_t events_max) {
 }
 
 /* ---- What an agent shows ---- */
-
-int is_same_state(const bully_state *one, const bully_state *other) {
-    return one->status == other->status && one->wants == other->wants && one->events == other->events &&
-           one->generation == other->generation && one->call == other->call && one->orphan == other->orphan &&
-           one->number == other->number && one->node == other->node && one->coordinator == other->coordinator &&
-           one->halter == other->halter && one->callee == other->callee;
-}
 
 int claims(bully_agent *agent, const char *claim) {
     char text[ROOM];

@@ -24,15 +24,9 @@ int tell_counts(void);
 int is_text(const char *text, size_t length, const char *wanted);
 int is_shown(const char *what, const char *text, size_t length, const char *wanted);
 
-/* The examples; and the text of a file of one, with a zero byte after it, to be freed. */
-#define EXAMPLES 12
-extern const char *const example_names[EXAMPLES];
-char *read_file(const char *folder, const char *name, const char *kind, size_t *length);
-
 /* A setup that keeps no tasks. */
 bully_setup setup_of(uint16_t nodes, uint16_t partitions, uint32_t events_max);
 
-int is_same_state(const bully_state *one, const bully_state *other);
 /* Whether the agent's claim and the rows of its last step are these. */
 int claims(bully_agent *agent, const char *claim);
 int logged(bully_agent *agent, const char *rows);
@@ -52,11 +46,9 @@ void call_once(bully_agent *caller, bully_agent *callee, uint32_t answer);
 /* The owners that node 2 plans, and that the examples have. */
 extern const uint16_t two_owners[2];
 
-/* The tests of each file. `folder` has the examples, and `version` is the library's. */
+/* The tests of each file. `version` is the library's. */
 void try_names(const char *version, const char *header_folder);
 void try_nulls(void);
-void try_examples(const char *folder);
-void try_elections(void);
-void try_logs(const char *folder);
+void try_limits(void);
 
 #endif

@@ -7,7 +7,7 @@ use bully::{LearnError, LearnFault, Replica};
 use counted::{held, refused_after, Aside};
 use std::cell::RefCell;
 use std::collections::{BTreeMap, BTreeSet};
-use story::{stories, Answer, Call, Interpreter, Line, Value};
+use story::{stories, Answer, Interpreter, Line, Value};
 
 #[global_allocator]
 static ALLOCATOR: Aside = Aside;
@@ -29,10 +29,10 @@ fn all_calls() {
 
 // Makes the call with all its allocations refused but the first none, one, two, .., until none is refused. Until then each call must say so, and
 // leave its handle as it was, but for rows that were learned before. Returns what it answers then, and how often one was refused.
-fn refused(interpreter: &mut Interpreter, line: &Line, call: &Call) -> (Answer, u64) {
+fn refused(interpreter: &mut Interpreter, line: &Line) -> (Answer, u64) {
     let before = (held(), interpreter.shown(line));
     for granted in 0..1000 {
-        let (answer, was_refused) = refused_after(granted, || interpreter.make(line, call));
+        let (answer, was_refused) = refused_after(granted, || interpreter.make(line));
         if !was_refused {
             return (answer, granted);
         }
@@ -75,11 +75,11 @@ fn refused_calls() {
                 .last()
                 .is_some_and(|last| last.place == line.place)
         };
-        Interpreter::tell(story, &|interpreter, line, call| {
+        Interpreter::tell(story, &|interpreter, line| {
             if line.name == "log" || line.name == "snapshot_read" && !is_last(line) {
-                return interpreter.make(line, call);
+                return interpreter.make(line);
             }
-            let (answer, count) = refused(interpreter, line, call);
+            let (answer, count) = refused(interpreter, line);
             let name = [line.kind(), line.name.as_str()]
                 .join("_")
                 .trim_start_matches('_')

@@ -5,7 +5,7 @@ mod reading;
 mod told;
 
 use bully::{Agent, Member, Replica};
-use calls::{AgentCall, FreeCall, MemberCall, OpenCall, ReplicaCall};
+use calls::Given;
 pub use reading::{stories, Line, Story, Value};
 use std::collections::HashMap;
 
@@ -16,6 +16,17 @@ pub type Answer = Result<Vec<Value>, Fault>;
 pub struct Fault {
     pub status: String,
     pub written: Vec<Value>,
+}
+
+impl Fault {
+    pub fn new(status: String, written: Vec<Value>) -> Fault {
+        Fault { status, written }
+    }
+
+    // Of a call that the types of this crate rule out: with a text that isn't UTF-8, or a number that is too large.
+    fn ruled_out() -> Fault {
+        Fault::new("RULED_OUT".to_string(), Vec::new())
+    }
 }
 
 pub enum Handle {
@@ -57,35 +68,8 @@ impl Handle {
     }
 }
 
-/// A call that a line makes.
-#[derive(Clone, Debug)]
-pub enum Call {
-    Open(OpenCall),
-    Close,
-    Agent(AgentCall),
-    Replica(ReplicaCall),
-    Member(MemberCall),
-    Free(FreeCall),
-}
-
-impl Call {
-    // None, if the types of this crate rule it out: a text that isn't UTF-8, or a closed handle.
-    fn of(line: &Line) -> Option<Call> {
-        let (kind, name, given) = (line.kind(), line.name.as_str(), &mut line.given());
-        Some(match (kind, name) {
-            _ if line.status == "CLOSED" => return None,
-            (_, "open") => Call::Open(OpenCall::parse(kind, given)?),
-            (_, "close") => Call::Close,
-            ("agent", _) => Call::Agent(AgentCall::parse(name, given)?),
-            ("replica", _) => Call::Replica(ReplicaCall::parse(name, given)?),
-            ("member", _) => Call::Member(MemberCall::parse(name, given)?),
-            _ => Call::Free(FreeCall::parse(name, given)?),
-        })
-    }
-}
-
 /// How a call is made: at once, or refused memory first.
-pub type Way<'a> = &'a dyn Fn(&mut Interpreter, &Line, &Call) -> Answer;
+pub type Way<'a> = &'a dyn Fn(&mut Interpreter, &Line) -> Answer;
 
 /// Makes the calls of stories.
 #[derive(Default)]
@@ -105,11 +89,14 @@ impl Interpreter {
 
     // The call must answer as the line says. One that is refused changes nothing.
     fn take(&mut self, line: &Line, way: Way) {
-        let Some(call) = Call::of(line) else { return };
+        if line.status == "CLOSED" {
+            return; // (a handle that is closed is none)
+        }
         let before = self.shown(line);
-        let answer = way(self, line, &call);
+        let answer = way(self, line);
         let (status, told) = match &answer {
             Ok(told) => ("OK", told),
+            Err(fault) if *fault == Fault::ruled_out() => return,
             Err(fault) => (fault.status.as_str(), &fault.written),
         };
         assert_eq!(status, line.status, "{}: {told:?}", line.place);
@@ -132,31 +119,23 @@ impl Interpreter {
     }
 
     /// Makes the call of this line.
-    pub fn make(&mut self, line: &Line, call: &Call) -> Answer {
-        if let Call::Open(call) = call {
-            let opened = call.make()?;
+    pub fn make(&mut self, line: &Line) -> Answer {
+        let (name, given) = (line.name.as_str(), &mut Given::of(&line.arguments));
+        if name == "open" {
+            let opened = calls::open(line.kind(), given)?;
             self.handles.insert(line.handle.clone(), opened);
             return Ok(Vec::new());
         }
-        if let Call::Free(call) = call {
-            return call.make(&mut ());
-        }
-        if let Call::Close = call {
+        if name == "close" {
             self.handles.remove(&line.handle);
             return Ok(Vec::new());
         }
         let learned = &mut self.learned;
-        match (call, self.handles.get_mut(&line.handle)) {
-            (Call::Replica(ReplicaCall::Learn { rows }), Some(Handle::Replica(replica))) => {
-                told::learned(learned, |from| replica.learn(rows.iter().skip(from)))
-            }
-            (Call::Member(MemberCall::Learn { rows }), Some(Handle::Member(member))) => {
-                told::learned(learned, |from| member.learn(rows.iter().skip(from)))
-            }
-            (Call::Agent(call), Some(Handle::Agent(agent))) => call.make(agent),
-            (Call::Replica(call), Some(Handle::Replica(replica))) => call.make(replica),
-            (Call::Member(call), Some(Handle::Member(member))) => call.make(member),
-            _ => panic!("{}: no such handle is open", line.place),
+        match self.handles.get_mut(&line.handle) {
+            Some(Handle::Agent(agent)) => calls::agent(agent, name, given),
+            Some(Handle::Replica(replica)) => calls::replica(replica, name, given, learned),
+            Some(Handle::Member(member)) => calls::member(member, name, given, learned),
+            None => calls::free(name, given),
         }
     }
 }

@@ -1,14 +1,9 @@
-//! What this crate returns, as stories tell it.
+//! What this crate returns, as stories have it.
 
 use super::{Answer, Fault, Value};
-use bully::FormFault;
-use bully::{
-    Group, HeaderError, KeptFault, LearnError, LearnFault, LineFault, LogError, MemberState,
-    MembersError, NodeFault, OpenError, OpeningError, OutOfMemory, Owned, OwnedError, PlanError,
-    PrepareError, RebalanceError, Refused, ReplyError, Request, RowError, SeenError, ServeError,
-    Session, SessionState, SetupFault, State, Step, TableFault, TermsFault, TraceFault, Verdict,
-    Work,
-};
+use bully::{Group, LearnError, LearnFault, MemberState, Owned, Request, Session, SessionState};
+use bully::{State, Step, Verdict, Work};
+use std::fmt::Debug;
 
 /// A name as the header has it: `ANY_IDLE` for `AnyIdle`.
 pub fn word(name: &str) -> Value {
@@ -22,84 +17,94 @@ pub fn word(name: &str) -> Value {
     Value::Word(word)
 }
 
-fn whole<const N: usize>(fields: [(&str, Value); N]) -> Value {
-    Value::Struct(
-        fields.map(|(name, value)| (name.to_string(), value)).into(),
-        true,
-    )
+macro_rules! numbers {
+    ($($kind:ident)*) => {
+        $(impl From<$kind> for Value {
+            fn from(number: $kind) -> Value {
+                Value::Number(number.into())
+            }
+        })*
+    };
 }
 
-fn number(number: impl Into<u64>) -> Value {
-    Value::Number(number.into())
+numbers! { u16 u32 u64 bool }
+
+impl From<&str> for Value {
+    fn from(name: &str) -> Value {
+        word(name)
+    }
 }
 
-fn node(node: Option<u16>) -> Value {
-    number(node.unwrap_or_default())
+impl From<String> for Value {
+    fn from(text: String) -> Value {
+        Value::Text(text.into())
+    }
 }
 
-fn named(name: Option<&str>) -> Value {
-    name.map_or(number(0u16), word)
+impl From<Vec<u16>> for Value {
+    fn from(numbers: Vec<u16>) -> Value {
+        Value::List(numbers.into_iter().map(Value::from).collect())
+    }
 }
 
-pub fn numbers(numbers: &[u16]) -> Value {
-    Value::List(numbers.iter().map(|&each| number(each)).collect())
+impl<T: Into<Value>> From<Option<T>> for Value {
+    fn from(value: Option<T>) -> Value {
+        value.map_or(Value::Number(0), T::into)
+    }
 }
 
-pub fn rows(rows: &[String]) -> Value {
-    Value::Text(
-        rows.iter()
-            .map(|row| format!("{row}\n"))
-            .collect::<String>()
-            .into(),
-    )
+macro_rules! whole {
+    { $($field:ident: $value:expr,)* } => {
+        Value::Struct(vec![$((stringify!($field).to_string(), Value::from($value))),*], true)
+    };
 }
 
-pub fn row(row: Option<String>) -> Value {
-    rows(row.as_slice())
+pub fn rows(rows: impl IntoIterator<Item = String>) -> Vec<Value> {
+    let rows: String = rows.into_iter().map(|row| row + "\n").collect();
+    vec![rows.into()]
 }
 
-pub fn planned(owners: Option<Vec<u16>>) -> Vec<Value> {
-    vec![numbers(&owners.unwrap_or_default())]
+pub fn owners(owners: Option<Vec<u16>>) -> Vec<Value> {
+    vec![owners.unwrap_or_default().into()]
 }
 
 pub fn owned(owned: Option<Owned>) -> Vec<Value> {
-    let (token, partitions) = owned
-        .map(|owned| (owned.token, owned.partitions))
-        .unwrap_or_default();
-    vec![number(token), numbers(&partitions)]
+    let token = owned.as_ref().map(|owned| owned.token);
+    let partitions = owned.map(|owned| owned.partitions).unwrap_or_default();
+    vec![token.into(), partitions.into()]
 }
 
-pub fn state_of(state: &State) -> Value {
+pub fn state(state: State) -> Vec<Value> {
     let call = state.call;
-    whole([
-        ("status", word(state.status.name())),
-        ("wants", word(state.wants.name())),
-        ("events", number(state.events)),
-        ("generation", number(state.generation)),
-        ("call", named(call.map(|call| call.kind.name()))),
-        ("orphan", number(call.is_some_and(|call| call.orphan))),
-        ("number", number(state.number)),
-        ("node", number(state.node)),
-        ("coordinator", node(state.coordinator)),
-        ("halter", node(state.halter)),
-        ("callee", node(call.map(|call| call.callee))),
-    ])
+    vec![whole! {
+        status: state.status.name(),
+        wants: state.wants.name(),
+        events: state.events,
+        generation: state.generation,
+        call: call.map(|call| call.kind.name()),
+        orphan: call.map(|call| call.orphan),
+        number: state.number,
+        node: state.node,
+        coordinator: state.coordinator,
+        halter: state.halter,
+        callee: call.map(|call| call.callee),
+    }]
 }
 
-pub fn group_of(group: &Group) -> Value {
-    whole([
-        ("rows", number(group.rows)),
-        ("events", number(group.events)),
-        ("token", number(group.token.unwrap_or_default())),
-        ("planner", node(group.planner)),
-        ("nodes", number(group.nodes)),
-        ("partitions", number(group.partitions)),
-        ("keeps", number(group.keeps)),
-    ])
+pub fn group(group: Group) -> Vec<Value> {
+    vec![whole! {
+        rows: group.rows,
+        events: group.events,
+        token: group.token,
+        planner: group.planner,
+        nodes: group.nodes,
+        partitions: group.partitions,
+        keeps: group.keeps,
+    }]
 }
 
-fn asked(request: Request) -> (&'static str, Option<Session>, u32) {
-    match request {
+fn ask(request: Request) -> Value {
+    let (name, session, offset) = match request {
         Request::Acquire(session, offset) => ("Acquire", Some(session), offset),
         Request::Renew(session) => ("Renew", Some(session), 0),
         Request::Release(session) => ("Release", Some(session), 0),
@@ -108,48 +113,33 @@ fn asked(request: Request) -> (&'static str, Option<Session>, u32) {
         Request::Append(offset) => ("Append", None, offset),
         Request::RollOver(offset) => ("RollOver", None, offset),
         Request::Follow => ("Follow", None, 0),
+    };
+    whole! {
+        kind: "Ask",
+        request: name,
+        process: session.map(|session| session.process),
+        number: session.map(|session| session.number),
+        offset: offset,
     }
 }
 
-pub fn step_of(step: Step) -> Value {
-    match step {
-        Step::Ask(request) => {
-            let (name, session, offset) = asked(request);
-            let [process, count] =
-                session.map_or([0, 0], |session| [session.process, session.number]);
-            let asked = [
-                ("process", number(process)),
-                ("number", number(count)),
-                ("offset", number(offset)),
-            ];
-            let [process, count, offset] = asked;
-            whole([
-                ("kind", word("Ask")),
-                ("request", word(name)),
-                process,
-                count,
-                offset,
-            ])
+pub fn step(step: Step) -> Vec<Value> {
+    vec![match step {
+        Step::Ask(request) => ask(request),
+        Step::Begin(token) => whole! { kind: "Begin", token: token, },
+        Step::Stop => whole! { kind: "Stop", },
+        Step::Wait(at_most, until, reason) => {
+            whole! { kind: "Wait", at_most: at_most, until: until.name(), reason: reason.name(), }
         }
-        Step::Begin(token) => whole([("kind", word("Begin")), ("token", number(token))]),
-        Step::Stop => whole([("kind", word("Stop"))]),
-        Step::Wait(at_most, until, reason) => whole([
-            ("kind", word("Wait")),
-            ("at_most", number(at_most)),
-            ("until", word(until.name())),
-            ("reason", word(reason.name())),
-        ]),
-        Step::BackOff(at_most, reason) => whole([
-            ("kind", word("BackOff")),
-            ("at_most", number(at_most)),
-            ("reason", word(reason.name())),
-        ]),
-        Step::End(ending) => whole([("kind", word("End")), ("ending", word(ending.name()))]),
-    }
+        Step::BackOff(at_most, reason) => {
+            whole! { kind: "BackOff", at_most: at_most, reason: reason.name(), }
+        }
+        Step::End(ending) => whole! { kind: "End", ending: ending.name(), },
+    }]
 }
 
-pub fn fields_of(state: &MemberState) -> Value {
-    let (name, session, since) = match state.session {
+pub fn member_state(state: MemberState) -> Vec<Value> {
+    let (name, session, since): (_, Option<Session>, _) = match state.session {
         SessionState::Absent => ("Absent", None, 0),
         SessionState::Unknown(session) => ("Unknown", Some(session), 0),
         SessionState::Live(session, since) => ("Live", Some(session), since),
@@ -160,61 +150,59 @@ pub fn fields_of(state: &MemberState) -> Value {
         Work::Lost(token) => ("Lost", token),
         Work::Stopping(token) => ("Stopping", token),
     };
-    whole([
-        (
-            "process",
-            number(session.map_or(0, |session| session.process)),
-        ),
-        (
-            "number",
-            number(session.map_or(0, |session| session.number)),
-        ),
-        ("since", number(since)),
-        ("sure_left", number(state.sure_left)),
-        ("session", word(name)),
-        ("promised", number(state.promised)),
-        ("work", word(work)),
-        ("token", number(token)),
-        ("ending", named(state.ending.map(|ending| ending.name()))),
-        ("epoch", number(state.epoch)),
-        ("offset", number(state.offset)),
-        ("node", number(state.node)),
-        ("has_request", number(state.has_request)),
-    ])
+    vec![whole! {
+        process: session.map(|session| session.process),
+        number: session.map(|session| session.number),
+        since: since,
+        sure_left: state.sure_left,
+        session: name,
+        promised: state.promised,
+        work: work,
+        token: token,
+        ending: state.ending.map(|ending| ending.name()),
+        epoch: state.epoch,
+        offset: state.offset,
+        node: state.node,
+        has_request: state.has_request,
+    }]
 }
 
-pub fn verdict_of(verdict: Verdict) -> Value {
-    let (kind, count, cause) = match verdict {
+pub fn verdict(verdict: Verdict) -> Vec<Value> {
+    let (kind, number, cause) = match verdict {
         Verdict::Lawful { events } => ("Lawful", events, "Ok"),
         Verdict::Refused { row, cause } => ("Refused", row, cause.name()),
         Verdict::Differs { row } => ("Differs", row, "Ok"),
     };
-    whole([
-        ("kind", word(kind)),
-        ("number", number(count)),
-        ("cause", word(cause)),
-    ])
+    vec![whole! { kind: kind, number: number, cause: cause, }]
 }
 
-// ---- Faults ----
-
-/// What an error says, as a status and what is written beside it.
-pub trait Told {
-    fn name(&self) -> String;
-
-    fn written(&self) -> Vec<Value> {
-        Vec::new()
-    }
+/// The fault of a trace: its row is written.
+pub fn row(row: u32) -> Vec<Value> {
+    vec![whole! { number: row, }]
 }
 
-pub fn failed<T>(result: Result<T, impl Told>) -> Result<T, Fault> {
-    result.map_err(|fault| match word(&fault.name()) {
-        Value::Word(status) => Fault {
-            status,
-            written: fault.written(),
-        },
+/// What a call answers: what is written, or the status of its error.
+pub fn answer<T, E: Debug>(result: Result<T, E>, written: impl FnOnce(T) -> Vec<Value>) -> Answer {
+    result.map(written).map_err(|error| fault(&error))
+}
+
+// The status of an error: its innermost name, as `TABLE_LENGTH` for `Old(Length)`.
+fn fault(error: &impl Debug) -> Fault {
+    let shown = format!("{error:?}");
+    let is_name = |name: &&str| name.starts_with(|first: char| first.is_uppercase());
+    let names = shown.split(|each: char| !each.is_alphanumeric());
+    let names: Vec<&str> = names.filter(is_name).collect();
+    let name = match names[..] {
+        [.., "Line", name] => format!("Line{name}"),
+        [.., "Old" | "Table" | "Task", name] if name != "OutOfMemory" => format!("Table{name}"),
+        [.., "Differs"] => "RowDiffers".to_string(),
+        [.., name] => name.to_string(),
+        [] => panic!("{shown} is no error"),
+    };
+    match word(&name) {
+        Value::Word(status) => Fault::new(status, Vec::new()),
         other => panic!("{other:?} is no status"),
-    })
+    }
 }
 
 /// How many rows were learned, with those of calls before that were refused memory.
@@ -226,91 +214,9 @@ pub fn learned(
     let taken = *before + learned.map_or_else(|error| error.taken, |taken| taken);
     let is_refused = learned.is_err_and(|error| error.fault == LearnFault::OutOfMemory);
     *before = if is_refused { taken } else { 0 };
-    let written = vec![number(taken as u64)];
-    failed(learned)
-        .map(|_| written.clone())
-        .map_err(|fault| Fault { written, ..fault })
-}
-
-macro_rules! told {
-    ($($fault:ident: $prefix:literal;)*) => {
-        $(impl Told for $fault {
-            fn name(&self) -> String {
-                format!("{}{}", $prefix, $fault::name(*self))
-            }
-        })*
-    };
-}
-
-told! {
-    Refused: "";
-    SetupFault: "";
-    NodeFault: "";
-    TermsFault: "";
-    FormFault: "";
-    KeptFault: "";
-    TableFault: "Table";
-    LineFault: "Line";
-}
-
-impl Told for OutOfMemory {
-    fn name(&self) -> String {
-        String::from("OutOfMemory")
+    let written = vec![Value::Number(taken as u64)];
+    match learned {
+        Ok(_) => Ok(written),
+        Err(error) => Err(Fault::new(fault(&error.fault).status, written)),
     }
-}
-
-impl Told for LearnError {
-    fn name(&self) -> String {
-        match self.fault {
-            LearnFault::Refused(cause) => cause.name().to_string(),
-            LearnFault::Form(fault) => fault.name().to_string(),
-            LearnFault::Differs => String::from("RowDiffers"),
-            LearnFault::OutOfMemory => OutOfMemory.name(),
-            LearnFault::NotOneRow { place } => format!("NotOneRow{place}"),
-        }
-    }
-}
-
-impl Told for TraceFault {
-    fn name(&self) -> String {
-        match self {
-            TraceFault::Form { fault, .. } => fault.name().to_string(),
-            TraceFault::OutOfMemory => OutOfMemory.name(),
-        }
-    }
-
-    fn written(&self) -> Vec<Value> {
-        match self {
-            TraceFault::Form { row, .. } => vec![whole([("number", number(*row))])],
-            TraceFault::OutOfMemory => Vec::new(),
-        }
-    }
-}
-
-macro_rules! errors {
-    ($($error:ident: $($part:ident)*;)*) => {
-        $(impl Told for $error {
-            fn name(&self) -> String {
-                match self {
-                    $($error::$part(fault) => Told::name(fault),)*
-                }
-            }
-        })*
-    };
-}
-
-errors! {
-    HeaderError: Setup Memory;
-    LogError: Header Memory;
-    RowError: Node Memory Refused;
-    OpenError: Setup Node Task Memory;
-    MembersError: Setup Members Old Memory;
-    PrepareError: Old Memory;
-    PlanError: Table Memory Refused;
-    ServeError: Line Memory Refused;
-    ReplyError: Line Refused;
-    RebalanceError: Live Old Memory Refused;
-    OwnedError: Node Memory;
-    OpeningError: Header Node Old Terms Memory;
-    SeenError: Node Kept Memory;
 }
