@@ -56,7 +56,7 @@ PARTS = [
     Part('wrong-members', 'tests/members/run wrong --fit'),
     Part('build', 'tests/build/try'),
     Part('c', 'bindings/c/try BUILT/library', 'library', 'gcc g++'),
-    Part('rust', 'bindings/rust/try BUILT/library BUILT/bully_workbench', 'library bully_workbench', 'cargo'),
+    Part('rust', 'bindings/rust/try BUILT/library', 'library', 'cargo'),
     Part('package', 'tests/members/run package BUILT/library', 'library'),
     Part('rules', 'tests/members/run rules BUILT/library', 'library', short='--rebalance 100 --restarts 4 --forgetful 4 --manners 3',
          full='--rebalance 5000 --restarts 100 --forgetful 1000 --manners 300', limit=7200),

@@ -1,7 +1,7 @@
 //! Two nodes elect through lines, each in the loop of `docs/NODE.md`. What they have to say follows from the rows of an election in
 //! `docs/FORMATS.md`, and so do the numbers of calls.
 
-use bully::{check, Agent, Answer, Call, CallKind, Setup, State, Status, Verdict, Want};
+use bully::{check, Agent, Answer, Setup, State, Status, Verdict, Want};
 use std::thread;
 
 const HEADER: &str = "bully,3,2,3,1 1,clear\n";
@@ -154,74 +154,6 @@ fn their_rows_are_lawful_behind_a_header() {
     assert_eq!(check(trace.as_bytes()), Ok(Verdict::Lawful { events: 19 }));
     trace.push_str("saw,1,normal,1,2,-,1 1 2\n");
     assert_eq!(check(trace.as_bytes()), Ok(Verdict::Differs { row: 23 }));
-}
-
-/// The call in the slot, from its start to its return.
-#[test]
-fn a_call_under_way() {
-    let mut pair = Pair::open(&Setup::new(2, 3, 1000));
-    pair.recover_both();
-    let [lower, higher] = &mut pair.agents;
-    assert_eq!(lower.request(), Ok(None));
-    lower.start().expect("a start");
-    let call = Call {
-        kind: CallKind::AreYouUp,
-        callee: 2,
-        orphan: false,
-    };
-    assert_eq!(lower.state().call, Some(call));
-    assert_eq!(lower.state().wants, Want::Await);
-    let request = lower.request().expect("memory").expect("a request");
-    let reply = higher.serve(&request).expect("it is up");
-    assert_eq!(lower.replied(&reply), Ok(Answer::Yes));
-    assert_eq!((lower.state().call, lower.request()), (None, Ok(None)));
-    assert_eq!(lower.state().wants, Want::Nothing);
-}
-
-/// A coordinator that checks finds a node that isn't Normal by its No.
-#[test]
-fn a_check_is_answered_no() {
-    let mut pair = elected();
-    let [lower, higher] = &mut pair.agents;
-    higher.check().expect("it is idle");
-    higher.start().expect("a start");
-    let request = higher.request().expect("memory").expect("a request");
-    assert_eq!(request, "ask,2,14,1,are-you-normal");
-    lower.crash().expect("it is up");
-    lower.recover().expect("it is down");
-    let reply = lower.serve(&request).expect("it is up");
-    assert_eq!(reply, "tell,2,14,no");
-    assert_eq!(lower.rows().as_deref(), Ok("run,2,are-you-normal,1,no\n"));
-    assert_eq!(higher.replied(&reply), Ok(Answer::No));
-    assert_eq!(
-        higher.rows().as_deref(),
-        Ok("return,2,are-you-normal,1,no\n")
-    );
-    assert_eq!(higher.state().wants, Want::Move); // no node is above: it stands for election again
-}
-
-/// A node whose coordinator is gone stands for election, and leads alone. A call that failed is two events.
-#[test]
-fn the_coordinator_is_gone() {
-    let [mut lower, _] = elected().agents;
-    lower.timeout().expect("it is idle");
-    lower.start().expect("a start");
-    let number = lower.state().number;
-    assert_eq!((number, lower.state().events), (7, 8));
-    assert_eq!(lower.failed(number), Ok(Answer::Failed));
-    let rows = "lose,1,are-you-up,2\nreturn,1,are-you-up,2,failed\n";
-    assert_eq!(lower.rows().as_deref(), Ok(rows));
-    assert_eq!(lower.state().events, 10);
-    lower.start().expect("the first call of an election");
-    assert_eq!(lower.failed(lower.state().number), Ok(Answer::Failed));
-    for _ in 0..3 {
-        lower.advance().expect("there is no lower node");
-    }
-    let table = lower.prepare(lower.task().as_deref()).expect("a table");
-    assert_eq!(table, [1, 1, 1]);
-    lower.plan(&table).expect("a plan");
-    lower.advance().expect("there is no other node");
-    assert_eq!(lower.claim().as_deref(), Ok("saw,1,normal,1,1,-,1 1 1\n"));
 }
 
 /// An agent may go on in another thread, since it is `Send`.
