@@ -16,8 +16,8 @@ import bully
 from bully import NotLearned, Owned, Replica, Status, check
 
 from bully.core import (
-    TTL_MAX, TTL_MIN, Activity, Ask, BackOff, Begin, Core, CoreOpening, Ending, Lease, Live, Promise, Reason, Request,
-    Seen, Session, Step, Stop, StoreAnswer, Unknown, Until, Wait, Way, Work,
+    TTL_MAX, TTL_MIN, Activity, Ask, Begin, Core, CoreOpening, Ending, Lease, Promise, Reason, Request, Seen, Session,
+    Stop, StoreAnswer, Until, Wait, Way,
 )  # fmt: skip
 from bully.driver import Call, Driver, StopWork, WaitForNews
 from bully.epochs import Opening
@@ -26,12 +26,11 @@ from places import ROOT
 
 TWO = 'bully,1,2,2'
 ONE = CoreOpening('bully,1,1,1', 7, 1, 22)
-FIRST, SECOND = Session(5, 1), Session(5, 2)
+FIRST = Session(5, 1)
 
-# What rebalances two nodes that are live and Down, before its plan and after it; and a group of one.
+# What rebalances two nodes that are live and Down, before its plan and after it.
 BEFORE = ['recover,1', 'recover,2', 'move,2', *['start,2', 'run,2', 'return,2', 'move,2'] * 2]
 AFTER = ['start,2', 'run,2', 'return,2', 'move,2']
-ALONE = ['recover,1', 'move,1', 'move,1', 'move,1', 'plan,1,1', 'move,1']
 
 
 def rebalanced(table: str) -> list[str]:
@@ -145,57 +144,6 @@ class Stories(unittest.TestCase):
 
     def ask(self, now: int, request: Request, session: Session = Session(0, 0), offset: int = 0) -> None:
         self.assertEqual(self.core.next(now), Ask(request, session, offset))
-
-    def snapshot_read(self, now: int, offset: int | None = None, has_request: bool = False) -> None:
-        leases = () if offset is None else (Lease(1, FIRST, Promise(7, offset)),)
-        self.core.snapshot_read(now, Seen(7, leases, False, has_request))
-
-    def acquire(self) -> None:
-        self.ask(0, Request.SNAPSHOT)
-        self.snapshot_read(5)
-        self.ask(10, Request.ACQUIRE, FIRST, 0)
-        self.core.answered(20, StoreAnswer.DONE)
-        self.ask(30, Request.SNAPSHOT)
-        self.snapshot_read(40, 0)
-
-    def begin(self) -> None:
-        self.acquire()
-        self.ask(50, Request.APPEND, offset=0)
-        self.assertEqual(self.core.rebalance(), ALONE)
-        self.core.answered(60, StoreAnswer.DONE)
-        self.ask(70, Request.SNAPSHOT)
-        self.core.learn(ALONE)
-        self.snapshot_read(80, 0)
-        self.assertEqual(self.core.next(90), Begin(5))
-
-    def test_it_works_and_stops(self) -> None:
-        core = self.core
-        self.begin()
-        self.assertEqual((core.owned(), core.session, core.sure_until), (Owned(5, (0,)), Live(FIRST, 10), 800_010))
-        self.assertEqual(
-            (core.promised, core.work, core.ending, core.has_request), (0, Work(Way.WORKING, 5), None, False)
-        )
-        self.assertEqual((core.epoch, core.node, core.offset, core.rows, core.events, core.token), (7, 1, 6, 6, 6, 5))
-        self.assertEqual(
-            (core.state(1).status, core.last_table, core.planner, core.nodes, core.partitions),
-            (Status.NORMAL, (1,), 1, 1, 1),
-        )
-        self.assertEqual(core.next(100), Wait(249_910, Until.ANY_IDLE, Reason.STABLE))
-        core.woke()
-        self.ask(110, Request.SNAPSHOT)
-        core.answered(120, StoreAnswer.UNANSWERED)
-        self.assertEqual(core.next(130), BackOff(49_990, Reason.PAUSE))
-        self.ask(260_010, Request.RENEW, FIRST)
-        core.answered(260_020, StoreAnswer.REFUSED)
-        self.assertEqual((core.next(260_030), core.work, core.session), (Stop(), Work(Way.STOPPING, 5), None))
-        self.assertEqual(core.next(260_040), BackOff(TTL_MIN, Reason.STOP))
-        core.stopped()
-        self.ask(260_050, Request.SNAPSHOT)
-        self.snapshot_read(260_060)
-        self.ask(260_070, Request.ACQUIRE, SECOND, 6)
-        core.answered(260_080, StoreAnswer.UNANSWERED)
-        self.assertEqual((core.session, core.promised, core.work, core.sure_until), (Unknown(SECOND), 6, None, 0))
-        self.ask(310_080, Request.RELEASE, SECOND)
 
     def test_is_stable(self) -> None:
         """A session that comes to a stable group is admitted once it has stayed for 10,000; and if another session came

@@ -7,7 +7,7 @@ from collections.abc import Callable
 from pathlib import Path
 
 import bully
-from bully import Replica, Setup, Verdict, VerdictKind, check, plan_table
+from bully import Setup, Verdict, VerdictKind, check, plan_table
 from .traces import EXAMPLES, LARGEST, ONE, TWO
 
 
@@ -139,28 +139,6 @@ class HeaderRows(unittest.TestCase):
             with self.subTest(header=header[:40]):
                 self.assertEqual(setup.header(), header)
                 self.assertEqual(str(check(header.encode())), 'lawful 0')
-
-    def test_detailed(self) -> None:
-        """Those of version 3 have what those of version 2 have."""
-        wanted = [
-            (TWO, 'bully,3,2,3,1 1,clear'),
-            (Setup(3, 7, weights=(1, 2, 1)), 'bully,3,3,7,1 2 1,clear'),
-            (Setup(2, 2, 5, (1000, 10), True), 'bully,3,2,2,1000 10,keep'),
-            (Setup(1024, 4096), f'bully,3,1024,4096,{"1 " * 1023}1,clear'),
-        ]
-        for setup, header in wanted:
-            with self.subTest(header=header[:40]), Replica(setup.detailed_header()) as replica:
-                self.assertEqual(setup.detailed_header(), header)
-                told = (replica.nodes, replica.partitions, replica.keeps)
-                self.assertEqual(told, (setup.nodes, setup.partitions, setup.keeps))
-
-    def test_replicas(self) -> None:
-        """A replica of the header has what the setup has."""
-        for setup, header in self.wanted:
-            with self.subTest(header=header[:40]), Replica(setup.header()) as replica:
-                told = (replica.nodes, replica.partitions, replica.keeps)
-                self.assertEqual(told, (setup.nodes, setup.partitions, setup.keeps))
-                self.assertIs(type(replica.keeps), bool)
 
     def test_numbers_that_do_not_fit(self) -> None:
         wanted: list[tuple[type, Setup]] = [

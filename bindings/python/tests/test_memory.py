@@ -27,7 +27,9 @@ class Memory(unittest.TestCase):
         calls(count)
         self.assertLess(resident_bytes() - before, 2_000_000)
 
-    def test_a_million_calls(self) -> None:
+    def test_calls(self) -> None:
+        """(The tests of C and Rust make a million.)"""
+
         def calls(count: int) -> None:
             with Agent(TWO, 1) as agent:
                 for _ in range(count):
@@ -40,7 +42,7 @@ class Memory(unittest.TestCase):
                     agent.crash()
                     agent.rows()
 
-        self.is_steady(calls, 125_000)
+        self.is_steady(calls, 25_000)
 
     def test_refusals(self) -> None:
         def calls(count: int) -> None:
@@ -49,7 +51,7 @@ class Memory(unittest.TestCase):
                     with self.assertRaises(bully.IsDown):
                         agent.crash()
 
-        self.is_steady(calls, 50_000)
+        self.is_steady(calls, 20_000)
 
     def test_agents(self) -> None:
         """Agents that are closed, and agents that are let go."""
@@ -88,7 +90,7 @@ class Memory(unittest.TestCase):
                     TWO.header()
                     TWO.detailed_header()
 
-        self.is_steady(calls, 50_000)
+        self.is_steady(calls, 20_000)
 
     def test_tables_and_traces(self) -> None:
         def calls(count: int) -> None:

@@ -11,7 +11,6 @@ from typing import Any
 
 import bully
 from bully import Call, CallKind, NotLearned, Replica, Setup, State, Status, Want, check
-from places import ROOT
 from .replicas import ELECTION_OF_THREE, ELECTION_OF_TWO, Member, shown, take_turns
 from .traces import LARGEST, TWO, log_of, text_of
 
@@ -43,68 +42,9 @@ class Elections(unittest.TestCase):
             seen = (replica.status(node), replica.coordinator(node), replica.task(node))
             self.assertEqual(seen, (Status.NORMAL, planner, table) if node in up else (Status.DOWN, None, None))
 
-    def test_alone(self) -> None:
-        (member,) = self.group('bully,1,1,2', 1)
-        self.expect(member, (ROOT / 'examples' / 'alone.csv').read_text().splitlines()[1:], 5, 1, (1, 1), [1])
-
-    def test_two(self) -> None:
-        for member in self.group('bully,1,2,3', 2):
-            self.expect(member, ELECTION_OF_TWO, 15, 2, (1, 1, 2), [1, 2])
-
     def test_three(self) -> None:
         for member in self.group('bully,1,3,7', 3):
             self.expect(member, ELECTION_OF_THREE, 25, 3, (1, 1, 1, 2, 2, 3, 3), [1, 2, 3])
-
-    def test_dead_coordinator(self) -> None:
-        """It leads, dies and comes back; only the dead node's partitions move, and then as many go back as it takes."""
-        first, second, _ = self.group('bully,1,3,7', 3)
-        second.append(second.read().crash(3))
-        second.append(second.read().timeout(2))
-        take_turns(first, second)
-        rows = ELECTION_OF_THREE + log_of(
-            'crash,3', 'timeout,2', 'fail,2', 'fail,2', 'move,2', 'call,2', 'move,2', 'call,2', 'move,2',
-            'plan,2,1 1 1 2 2 1 2', 'call,2', 'move,2',
-        )  # fmt: skip
-        self.expect(first, rows, 50, 2, (1, 1, 1, 2, 2, 1, 2), [1, 2])
-        third = Member('bully,1,3,7', first.log, 3)
-        third.append(third.read().recover(3))
-        take_turns(first, second, third)
-        rows += log_of(
-            'recover,3', 'move,3', 'call,3', 'call,3', 'move,3', 'call,3', 'call,3', 'move,3', 'plan,3,1 1 1 2 2 3 3',
-            'call,3', 'call,3', 'move,3',
-        )  # fmt: skip
-        self.expect(second, rows, 71, 3, (1, 1, 1, 2, 2, 3, 3), [1, 2, 3])
-
-    def test_last_of_two(self) -> None:
-        """The coordinator of two dies."""
-        first, _ = self.group('bully,1,2,3', 2)
-        first.append(first.read().crash(2))
-        first.append(first.read().timeout(1))
-        take_turns(first)
-        dies = log_of(
-            'crash,2', 'timeout,1', 'fail,1', 'fail,1', 'move,1', 'move,1', 'move,1', 'plan,1,1 1 1', 'move,1'
-        )
-        self.expect(first, ELECTION_OF_TWO + dies, 31, 1, (1, 1, 1), [1])
-
-    def test_forgotten_task(self) -> None:
-        """A coordinator that comes back without its task plans from the last plan's table: nothing moves. Without that
-        table it would be 1 1 2."""
-        log: list[str] = []
-        first, second = (Member('bully,1,2,3', log, node) for node in (1, 2))
-        second.append(second.read().recover(2))
-        take_turns(second)
-        alone = log_of('recover,2', 'move,2', 'fail,2', 'move,2', 'move,2', 'plan,2,2 2 2', 'move,2')
-        self.expect(second, alone, 8, 2, (2, 2, 2), [2])
-        first.append(first.read().recover(1))
-        take_turns(first, second)
-        second.append(second.read().check(2))
-        take_turns(first, second)
-        elects = ('move,2', 'call,2', 'move,2', 'call,2', 'move,2', 'plan,2,2 2 1', 'call,2', 'move,2')
-        joined = alone + log_of('recover,1', 'call,1', 'check,2', 'call,2', *elects)
-        self.expect(first, joined, 27, 2, (2, 2, 1), [1, 2])
-        second.append(second.read().crash(2), 'recover,2')
-        take_turns(first, second)
-        self.expect(second, joined + log_of('crash,2', 'recover,2', *elects), 43, 2, (2, 2, 1), [1, 2])
 
     def test_behind_others(self) -> None:
         """A row that was made before another one came to stand in the log isn't appended, and is made anew."""
@@ -149,19 +89,6 @@ class Replicas(unittest.TestCase):
             self.assertEqual((replica.token, replica.planner, replica.last_table), (15, 2, (1, 1, 2)))
             self.assertEqual((replica.task(1), replica.task(2)), (None, (1, 1, 2)))
             self.assertEqual((replica.generation(1), replica.generation(2)), (1, 0))
-
-    def test_offers(self) -> None:
-        """Rows to append change nothing."""
-        with Replica('bully,1,2,3') as replica:
-            replica.learn(ELECTION_OF_TWO)
-            before = shown(replica)
-            self.assertEqual(
-                (replica.crash(1), replica.check(2), replica.timeout(1)), ('crash,1', 'check,2', 'timeout,1')
-            )
-            self.assertEqual((replica.next(1), replica.next(2)), (None, None))
-            self.assertEqual(shown(replica), before)
-            replica.learn(['crash,1'])
-            self.assertEqual(replica.recover(1), 'recover,1')
 
     def test_ways_to_tell_rows(self) -> None:
         ways: list[Iterable[str | bytes]] = [
@@ -213,13 +140,8 @@ class Replicas(unittest.TestCase):
                 replica.learn(['anything', 'else'])
             refused = caught.exception
             self.assertEqual((refused.cause, refused.taken, refused.row), (bully.TooManyRows, 0, 1_000_002))
-
-    def test_no_room(self) -> None:
-        """No row is offered that the log has no room for, also if its rows aren't all events."""
-        with Replica('bully,1,1,1') as replica:
-            replica.learn(['recover,1'] + ['saw,1,election,-'] * 999_999)
             with self.assertRaises(bully.Full):
-                replica.next(1)
+                replica.next(1)  # no row is given that the log has no room for, also if its rows aren't all events
 
 
 class ReplicaFaults(unittest.TestCase):
