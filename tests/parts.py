@@ -86,7 +86,7 @@ PARTS = [
     Part('soak-over-etcd', 'tests/members/run soak BUILT/library --store etcd', 'library', 'etcd', NONE, NONE, '--seconds 20', is_timed=True),
     Part('soak-cooperating', 'tests/members/run soak BUILT/library --cooperative --kind talk', 'library', short=NONE, whole=NONE, full='--seconds 20', is_timed=True),
     Part('python', 'bindings/python/try BUILT/library --simulator BUILT/bully_workbench', 'library bully_workbench',
-         short='--seeds 60', whole='--seeds 200', full='--seeds 1000', limit=7200),
+         short='--seeds 60', whole='--seeds 200 --steps 2000', full='--seeds 1000 --steps 2000', limit=7200),
     Part('memory', 'tests/hostile/memory', 'bully_workbench', 'rustc'),
     # (the gate runs these by itself)
     Part('programs', 'tests/programs', 'bully bully_workbench', whole=NONE),

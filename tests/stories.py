@@ -3,8 +3,9 @@
 
     tests/stories.py    prints those of all languages, for the tests of Rust
 
-Each line is a call: its story, place, handle, name, status, arguments and answers, with tabs between them. A value is a number, a word, a quote and a text in hexadecimal, `[ VALUE.. ]`, or
-`{ NAME VALUE .. }`, which begins with `{..` if other fields aren't compared. Between these are spaces."""
+Each line is a call: its story, place, handle, name, status, arguments and answers, with tabs between them. A value is
+a number, a word, a quote and a text in hexadecimal, `[ VALUE.. ]`, or `{ NAME VALUE .. }`, which begins with `{..` if
+other fields aren't compared. Between these are spaces."""
 from __future__ import annotations
 
 import re
