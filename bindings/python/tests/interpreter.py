@@ -49,7 +49,8 @@ def state(shown: State, events: int, number: int) -> Fields:
     call = shown.call
     return whole(
         status=word(shown.status), wants=word(shown.wants), events=events, generation=shown.generation, number=number,
-        call=word(call.kind if call else None, 'NO_CALL_KIND'), orphan=int(call is not None and call.is_orphan), node=shown.node,
+        call=word(call.kind if call else None, 'NO_CALL_KIND'), orphan=int(call is not None and call.is_orphan),
+        node=shown.node,
         coordinator=shown.coordinator or 0, halter=shown.halter or 0, callee=call.callee if call else 0,
     )  # fmt: skip
 
@@ -73,8 +74,10 @@ def member_state(core: Core, now: int) -> Fields:
     session, since = shown.session if shown else Session(0, 0), shown.since if isinstance(shown, Live) else 0
     names = {Live: 'LIVE', Unknown: 'UNKNOWN'}
     return whole(
-        process=session.process, number=session.number, since=since, sure_left=max(core.sure_until - max(now, since), 0),
-        session=Word(names.get(type(shown), 'ABSENT')), promised=core.promised, work=word(work.way if work else None, 'IDLE'),
+        process=session.process, number=session.number, since=since, sure_left=max(core.sure_until - max(now, since),
+        0),
+        session=Word(names.get(type(shown), 'ABSENT')), promised=core.promised, work=word(work.way if work else None,
+        'IDLE'),
         token=work.token if work else 0, ending=word(core.ending), epoch=core.epoch, offset=core.offset, node=core.node,
         has_request=int(core.has_request),
     )  # fmt: skip
