@@ -139,6 +139,7 @@ class HeaderRows(unittest.TestCase):
             with self.subTest(header=header[:40]):
                 self.assertEqual(setup.header(), header)
                 self.assertEqual(str(check(header.encode())), 'lawful 0')
+        self.assertEqual(LARGEST.detailed_header(), f'bully,3,1024,4096,{"1 " * 1023}1,keep')
 
     def test_numbers_that_do_not_fit(self) -> None:
         wanted: list[tuple[type, Setup]] = [
