@@ -56,7 +56,12 @@ fn long_rows() {
     let mut replica = opened(&header);
     let live: Vec<u16> = (1..=100).collect();
     let rows = replica.rebalance(&live, None).expect("rows");
-    assert_eq!(replica.learn(&rows), Ok(rows.len()));
+    let is_plan = |row: &String| row.starts_with("plan,");
+    let before = rows.iter().position(is_plan).expect("a plan");
+    assert_eq!(replica.learn(&rows[..before]), Ok(before));
+    assert_eq!(replica.next(100).as_ref(), Ok(&Some(rows[before].clone())));
+    let after = &rows[before..];
+    assert_eq!(replica.learn(after), Ok(after.len()));
     // 40 for each node, and 96 more.
     let owners = live
         .iter()
