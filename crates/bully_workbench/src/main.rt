@@ -27,9 +27,9 @@
 //! exit status is 2 for other words, and 4 where something goes wrong, as where memory is refused.
 //!
 //! `bench/README.md` says what is timed. `tests/cluster/simulate` has the program judge the networks, agents of
-//! `bindings/python/try` and `bindings/rust/try` do again what their traces say, and `tests/hostile/memory` refuses a
-//! call each of its requests in turn. These calls are of all libraries but those that need a configuration, words or
-//! threads: what those make of refused memory is tried with the program itself.
+//! `bindings/python/try` do again what their traces say, and `tests/hostile/memory` refuses a call each of its requests
+//! in turn. These calls are of all libraries but those that need a configuration, words or threads: what those make of
+//! refused memory is tried with the program itself.
 //!
 //! It builds on bully_group, bully_agent, bully_rebalance, bully_annotate and the crates below them. Nothing builds on
 //! it.
