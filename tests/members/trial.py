@@ -224,8 +224,7 @@ class Trial:
 
         while not is_over() and not self.has_failed():
             self.fault = next(turns)
-            steps = self.fault.happens(self)
-            self.go_on_with(self.fault, steps, True)
+            self.go_on_with(self.fault, self.fault.happens(self), True)
             self.go_on()
         self.tend_until(self.is_stable, self.group.patience)
         self.group.mark()
@@ -264,8 +263,7 @@ class Trial:
     def tell(self) -> None:
         for what, count in self.happened.items():
             print(f'{what}: {count} times')
-        ended = ', '.join(f'{count} with {status}' for status, count in sorted(self.statuses.items()))
-        print(f'members that ended and were begun again: {ended or 0}')
+        print('members that ended by themselves, by status:', dict(self.statuses))
         if self.to_stable or self.never_stable:
             stable = f'stable after {len(self.to_stable)} faults{shown_seconds("in", self.to_stable)}'
             print(f'{stable}; in {self.never_stable} waits of {STABLE_MAX:g} s not')
