@@ -17,7 +17,7 @@ from .processes import ProcessHandle, close_all, family, send_all
 from .stores import Store
 from .waiting import wait_until
 
-# Seconds that the group gets to become stable where others faults come at once: a node that comes again and again is
+# Seconds that the group gets to become stable where other faults come at once: a node that comes again and again is
 # admitted later and later.
 STABLE_MAX = 12.0
 BEGIN_MAX = 1.0  # seconds after its end, within which a member is begun again there
