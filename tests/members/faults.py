@@ -118,6 +118,13 @@ def named(options: argparse.Namespace, counts: Counts) -> list[Fault]:
 # ---- A group
 
 
+class Uncounted(Counts):
+    """Counts for itself what a group does while a premise is broken: then nothing is promised."""
+
+    def hold(self, is_so: bool, what: str, *more: object) -> None:
+        self.failed += not is_so
+
+
 def occurring(options: argparse.Namespace) -> set[str]:
     """The premises by which acts must be judged, if each kind of act occurs. Work ends on a partition alone only in
     some groups."""
@@ -143,32 +150,40 @@ def run(
         group = Group(
             folder, store.addresses, options.ttl, within or store.within, few, PARTITIONS * len(few),
             [*KINDS[options.kind], *stop], partial(Work, worker=options.worker),
-            ['--rebalance', 'cooperative'] if options.cooperative else [], acts, counts, options.patience,
+            ['--rebalance', 'cooperative'] if options.cooperative else [], acts, Uncounted() if broken else counts,
+            options.patience,
         )  # fmt: skip
         closing.callback(group.work.close)
         closing.callback(group.close)
         group.work.broken += [(0.0, float('inf'))] if broken else []
         trial = Trial(group, store, random.Random(options.seed), options.stable if options.seconds else 1.0)
         closing.callback(trial.close)
-        try_group(trial, options, faults, broken)
+        chosen = try_group(trial, options, faults)
+        group.counts = counts
+        premises = [*broken, *(premise for fault in chosen for premise in fault.breaks)]
+        group.judge_acts(occurring(options), list(dict.fromkeys(premises)))
+        if not broken:  # else nothing more is promised
+            judge(trial, options, chosen)
 
 
-def try_group(trial: Trial, options: argparse.Namespace, faults: Sequence[Fault], broken: Sequence[str]) -> None:
-    """The group begins, faults happen to it, it leaves, and all that it did is judged."""
+def try_group(trial: Trial, options: argparse.Namespace, faults: Sequence[Fault]) -> list[Fault]:
+    """The group begins, faults happen to it, and it leaves. Which faults these were."""
     group, names = trial.group, NAMES[: options.nodes]
     if trial.start(names, PARTITIONS * len(names)) and options.idle:
         group.idle(options.idle, options.share)
     chosen = choose(trial, options, faults)
-    locks = time_locks(trial, options)
+    compare(group, time_locks(trial, options))
     group.leave()
-    broken = list(dict.fromkeys([*broken, *(premise for fault in chosen for premise in fault.breaks)]))
-    group.judge_acts(occurring(options), broken)
+    return chosen
+
+
+def judge(trial: Trial, options: argparse.Namespace, chosen: Sequence[Fault]) -> None:
+    """What the group left, and what happened to it."""
+    group = trial.group
     group.judge(options.program)
     never = [fault.name for fault in dict.fromkeys(chosen) if not trial.happened[fault.name]]
     group.count(not never, f'these never happened: {", ".join(never)}')
     trial.tell()
-    if locks:
-        compare(group, locks)
 
 
 def choose(trial: Trial, options: argparse.Namespace, faults: Sequence[Fault]) -> list[Fault]:
@@ -193,7 +208,9 @@ def time_locks(trial: Trial, options: argparse.Namespace) -> list[float]:
 
 
 def compare(group: Group, locks: list[float]) -> None:
-    """The death of a member beside that of the holder of a lock."""
+    """The death of a member beside that of the holder of a lock, if there were some."""
+    if not locks:
+        return
     death, lock = statistics.median(seconds for seconds, _ in group.times[DEATH]), statistics.median(locks)
     print(f'etcdctl lock: {len(locks)} times, held by the other in {lock:.2f} s, at most {max(locks):.2f} s')
     print(f'a death takes {death / lock:.2f} times as long')
