@@ -192,6 +192,7 @@ def choose(trial: Trial, options: argparse.Namespace, faults: Sequence[Fault]) -
         trial.run_for(options.seconds, faults)
         return list(faults)
     if options.few:
+        trial.order = iter('ba')  # so that a member whose clock is fast sees how the lease of another one ends
         chosen = [next(fault for fault in FAULTS if fault.name == name) for name in FEW]
     else:
         chosen = list(islice(in_turns(faults, trial.choice), options.count or sum(fault.times for fault in faults)))

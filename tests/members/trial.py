@@ -76,6 +76,7 @@ class Trial:
         self.statuses: Counter[int] = Counter()  # of members that ended
         self.fault: Fault | None = None  # the last one
         self.later: list[Later] = []
+        self.order: Iterator[str] = iter(())  # the nodes whose members the next faults happen to, if that isn't random
         self.disturbed = 0  # how many faults happen to the store
         self.to_stable: list[float] = []  # how long the group took to become stable, if it did
         self.never_stable = 0
@@ -120,20 +121,22 @@ class Trial:
     def some_family(self) -> tuple[str, dict[str, ProcessHandle]]:
         """A node, and the processes of its member, which are all there and not paused; nobody, if there are none."""
 
-        def find() -> tuple[str, dict[str, ProcessHandle]] | None:
-            members = [(name, member) for name, member in self.group.members.items() if member.poll() is None]
-            name, member = self.choice.choice(members) if members else ('', None)
-            there = family(member.pid) if member is not None else {}
-            if any(each.is_stopped for each in there.values()):
-                close_all(there.values())
-                return None
-            return (name, there) if there else None
+        wanted = next(self.order, '')
 
-        found = self.tend_until(find)
-        if found is None:
-            return '', {}
-        self.strikes(found[0])
-        return found
+        def find() -> tuple[str, dict[str, ProcessHandle]] | None:
+            there = [(name, member) for name, member in self.group.members.items() if member.poll() is None]
+            members = [(name, member) for name, member in there if wanted in ('', name)]
+            name, member = self.choice.choice(members) if members else ('', None)
+            found = family(member.pid) if member is not None else {}
+            if any(each.is_stopped for each in found.values()):
+                close_all(found.values())
+                return None
+            return (name, found) if found else None
+
+        name, found = self.tend_until(find) or ('', {})
+        if found:
+            self.strikes(name)
+        return name, found
 
     def kill(self, name: str) -> bool:
         """The member of this node is killed, once it is live. Whether that was seen."""
