@@ -7,7 +7,7 @@ from bully.epochs import Token
 from .over_memory import OverMemory
 from .stabilizing import Mode
 from .trouble import Trouble
-from .working import KINDS, Each, Process, Talk, Whole, Worker
+from .working import KINDS, Each, SimulatedProcess, Talk, Whole, Worker
 
 NEVER = 2**63
 
@@ -17,7 +17,7 @@ class CountsAtOnce(Talk):
         super().stop(token, rest, stopped)
         self.member.soon(0, partial(self.end, self.stops.pop()))
 
-    def stopped(self, process: Process) -> None:
+    def stopped(self, process: SimulatedProcess) -> None:
         pass
 
 
@@ -35,18 +35,18 @@ class StartsAllTheSame(Whole):
 
 
 class HearsOfTheProcessBefore(Whole):
-    def gone(self, process: Process) -> None:
+    def gone(self, process: SimulatedProcess) -> None:
         super().gone(self.process or process)
 
 
 class EndsAll(Each):
-    def gone(self, process: Process) -> None:
+    def gone(self, process: SimulatedProcess) -> None:
         if process in self.running.values():
             ended, self.running = frozenset(self.running), {}
             self.member.ended(ended)
 
 
-class AnswersFirst(Process):
+class AnswersFirst(SimulatedProcess):
     def hear_stop(self, partitions: frozenset[int]) -> None:
         self.stops.append(partitions)
         self.answer()
@@ -56,7 +56,7 @@ class Answers(Talk):
     process_type = AnswersFirst
 
 
-class GoesOn(Process):
+class GoesOn(SimulatedProcess):
     def next_unit(self) -> None:
         until, self.worker.until = self.worker.until, NEVER
         super().next_unit()

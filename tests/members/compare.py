@@ -37,7 +37,7 @@ FIELDS = ('key', 'value', 'create_revision', 'mod_revision')
 CALLS = 30  # of a log
 
 
-def words() -> argparse.Namespace:
+def read_options() -> argparse.Namespace:
     parser = argparse.ArgumentParser(description=__doc__, formatter_class=argparse.RawDescriptionHelpFormatter)
     parser.add_argument('library', type=Path)
     parser.add_argument('--requests', type=int, default=3000)
@@ -249,7 +249,7 @@ def compare_logs(servers: Servers, logs: int, seed: int) -> tuple[int, int]:
 
 
 def main() -> int:
-    options = words()
+    options = read_options()
     os.environ['BULLY_LIBRARY'] = str(options.library.resolve())
     if not PROGRAM:
         print('tests/members/compare: skipped, since no program `etcd` is on the path\n0 passed, 0 failed, 1 skipped')

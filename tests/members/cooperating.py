@@ -611,7 +611,7 @@ class Group:
             self.kill(process)
 
 
-def words() -> argparse.Namespace:
+def read_options() -> argparse.Namespace:
     parser = argparse.ArgumentParser(description=__doc__, formatter_class=argparse.RawDescriptionHelpFormatter)
     parser.add_argument('library', type=Path)
     parser.add_argument('--from', type=int, default=1, dest='first')
@@ -653,7 +653,7 @@ def try_kind(options: argparse.Namespace, is_cooperative: bool, counts: Counts) 
 
 
 def main() -> int:
-    options, counts = words(), Counts()
+    options, counts = read_options(), Counts()
     os.environ['BULLY_LIBRARY'] = str(options.library.resolve())
     for is_cooperative in options.kinds:
         try_kind(options, is_cooperative, counts)

@@ -12,7 +12,7 @@ from bully.core import BackOff, Core, End, Ending, Live, Promise, Reason, Reques
 from bully.driver import Again, Call, Driver, Note, Result, Start, Step, StopWork, WaitForNews
 from bully.epochs import Opening, Token
 from .expected import Expected
-from .judged import table_of
+from .simulated_store import table_of
 from .working import Action
 
 if TYPE_CHECKING:

@@ -6,7 +6,7 @@ from collections.abc import Iterable, Sequence
 
 from bully import Replica, Status
 from bully.core import Core, CoreOpening, Promise, Seen, Session
-from .judged import table_of
+from .simulated_store import table_of
 from .rebalanced import REBALANCE, is_stable
 
 

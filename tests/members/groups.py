@@ -1,25 +1,29 @@
-"""A group of members in processes of their own, over a store, which are killed and paused; and what came of them."""
+"""A group of members in processes of their own, over a store; and what came of them and of their work."""
 from __future__ import annotations
 
-import argparse
+import contextlib
 import math
 import os
-import signal
 import statistics
 import subprocess
 import sys
 import time
-from collections.abc import Callable, Sequence, Set as AbstractSet
-from dataclasses import dataclass, field
+from collections.abc import Callable, Collection, Iterator, Sequence, Set as AbstractSet
 from pathlib import Path
+from typing import TypeVar
 
 from bully import Status, check
+from bully.clocks import SECOND
 from bully.command import parser
 from bully.shared_log import Log, Unanswered
+from bully.sqlite import SqliteLog
 from bully.store_options import store_of
 from bully.view import GroupView, LogView
+from counts import Counts
 from places import PYTHON, environment
-from .processes import close_all, guards_of, is_running, own_memory, processor_seconds, send_all, workers_of
+from .monitor import judge
+from .premises import PREMISES, Act, act_of
+from .processes import guards_of, is_running, own_memory, processor_seconds
 from .tables import kept, most_kept, owners_by_name
 from .waiting import wait_until
 
@@ -41,51 +45,37 @@ MEMORY = 24.0  # MiB that an idle member and its watchdog have of their own
 
 KINDS = {'whole': (), 'each': ('--each',), 'talk': ('--talk',)}  # of workers: the words of `run`
 
+# How a worker is begun: alone; so that what works is a child of it, or a daemon with a session of its own, which it
+# leaves when it dies; or so that it takes no notice of SIGTERM.
+WORKERS: dict[str, tuple[str, ...]] = {
+    'plain': (), 'child': ('sh', '-c', '"$@"; exit', 'sh'), 'stubborn': ('sh', '-c', 'trap "" TERM; exec "$@"', 'sh'),
+    'daemon': ('sh', '-c', 'setsid -f "$@"; exec sleep 100000', 'sh'),
+}  # fmt: skip
 
-def add_modes(words: argparse.ArgumentParser) -> None:
-    """Options for the mode of a group, and for the kind of its workers."""
-    words.add_argument('--cooperative', action='store_true', help='a change stops only the work that moves')
-    words.add_argument(
-        '--kind', choices=KINDS, default='whole', help='one worker, one for each partition, or one that stays'
-    )
-
-
-def init_words(options: argparse.Namespace) -> list[str]:
-    """The words of `init` for these."""
-    return ['--rebalance', 'cooperative'] if options.cooperative else []
+_Found = TypeVar('_Found')
 
 
-def told_seconds(what: str, seconds: Sequence[float]) -> str:
+def shown_seconds(what: str, seconds: Sequence[float]) -> str:
     """Some times, for people; nothing, if there are none."""
     return f', {what} {statistics.median(seconds):.2f} s, at most {max(seconds):.2f} s' if seconds else ''
 
 
-@dataclass
-class Times:
-    """How long a group took to become stable after changes of one kind, and how many rows that took. The time counts
-    from the change, and also from the end of a lease, if one ended, or else from the start of the last one, if one
-    started. And how long it took until all partitions were worked on, if that was checked at once."""
-
-    to_stable: list[float] = field(default_factory=list)
-    after_end: list[float] = field(default_factory=list)
-    after_begin: list[float] = field(default_factory=list)
-    to_work: list[float] = field(default_factory=list)
-    rows: list[int] = field(default_factory=list)
-
-    def __str__(self) -> str:
-        told = told_seconds('to become stable in', self.to_stable) + told_seconds("after a lease's end", self.after_end)
-        told += told_seconds("after a lease's start", self.after_begin)
-        rows = f', {statistics.median(self.rows):.0f} rows, at most {max(self.rows)}'
-        return f'{len(self.to_stable)} times{told}{rows}{told_seconds("to work in", self.to_work)}'
-
-
 class Work:
-    """What the workers did: a file for each partition, with a row for each unit, and one of their faults."""
+    """What the workers did, as a recorder in a process of its own has it: a file for each partition, with a row for
+    each unit, and one of their faults."""
 
-    def __init__(self, folder: Path, partitions: int) -> None:
-        self.folder, self.partitions = folder, partitions
-        self.worker = [sys.executable, '-I', '-S', str(HERE / 'worker.py'), str(folder)]  # its words
+    def __init__(self, folder: Path, partitions: int, worker: str = 'plain') -> None:
+        """The worker is begun in one of the ways of `WORKERS`."""
+        self.folder, self.partitions, door = folder, partitions, folder / 'recorder'
         folder.mkdir()
+        python = [sys.executable, '-I', '-S']
+        self.worker = [*WORKERS[worker], *python, str(HERE / 'worker.py'), str(folder), str(door)]  # its words
+        self.recorder = subprocess.Popen(
+            [*python, str(HERE / 'recorder.py'), str(door), str(folder)], stdin=subprocess.PIPE
+        )
+        wait_until(door.exists)
+        # From when to when a premise was broken on purpose, by the clock of leases.
+        self.broken: list[tuple[float, float]] = []
 
     def sizes(self) -> list[int]:
         """How much was done on each partition."""
@@ -107,17 +97,33 @@ class Work:
 
     def units(self, partition: int) -> list[list[str]]:
         """The units on a partition that were done: token and node of each."""
-        return [row.split() for row in (self.folder / str(partition)).read_text().split('\n')[:-1]]
+        file = self.folder / str(partition)
+        return [row.split() for row in file.read_text().split('\n')[:-1]] if file.exists() else []
 
-    def faults(self, kind: str) -> list[str]:
-        """What workers reported of faults of this kind."""
+    def faults(self, kind: str, are_excused: bool = False) -> list[str]:
+        """What workers did wrong of this kind; or what they did while a premise was broken."""
         file = self.folder / 'faults'
         rows = file.read_text().splitlines() if file.exists() else []
-        return [row for row in rows if row.startswith(f'{kind} ')]
+        return [row for row in rows if row.startswith(f'{kind} ') and self.is_excused(row) == are_excused]
 
     def excused(self) -> list[str]:
-        """Faults that may be, because a premise was broken on purpose."""
-        return []
+        return self.faults('overlap', True) + self.faults('old', True)
+
+    def is_excused(self, row: str) -> bool:
+        """Whether a unit was asked for while a premise was broken."""
+        moment = int(row.split()[5].rstrip(':')) / SECOND
+        return any(since <= moment < until for since, until in self.broken)
+
+    def close(self) -> int:
+        """The status of the recorder."""
+        assert self.recorder.stdin is not None
+        self.recorder.stdin.close()
+        return self.recorder.wait(PATIENCE)
+
+
+def acts_of(file: Path) -> Iterator[Act]:
+    """The acts of a file; not the last line if that isn't whole, since its writer was killed."""
+    return map(act_of, file.read_bytes().split(b'\n')[:-1])
 
 
 class Group:
@@ -127,25 +133,28 @@ class Group:
         self, folder: Path, stores: dict[str, str], ttl: float, within: Callable[[str], Sequence[str]] = lambda _: (),
         names: Sequence[str] = NAMES, partitions: int = PARTITIONS, words: Sequence[str] = (),
         work: Callable[[Path, int], Work] = Work, init: Sequence[str] = (), acts: Path | None = None,
+        counts: Counts | None = None, patience: float = PATIENCE,
     ) -> None:  # fmt: skip
         """A new group. `stores` has the address of the log for each member, and for the view of the group ('').
         `within` has the words by which a process is begun where a member is; `words` are more ones for each member, and
-        `init` for the making of the log; `work` makes what has the work, in a folder; and in the folder `acts`, if
-        there is one, members write down what they do (`acting.py`)."""
+        `init` for the making of the log; `work` makes what has the work, in a folder; in the folder `acts`, if there is
+        one, members write down what they do (`instrumented_member.py`); and `patience` are the seconds that anything
+        may take."""
         self.folder, self.ttl, self.words, self.acts = folder, ttl, list(words), acts
-        self.stores, self.within = stores, within
+        self.stores, self.within, self.patience = stores, within, patience
+        self.counts = counts if counts is not None else Counts()
         self.configs = 0
         self.config = self.configured(names, partitions)
         self.work = work(folder / 'work', partitions)
         self.members: dict[str, subprocess.Popen[bytes]] = {}
-        self.passed = self.failed = 0
-        self.times: dict[str, Times] = {}
+        self.times: dict[str, list[tuple[float, int]]] = {}  # of changes: when the group was stable, by how many rows
         made = self.command('init', '--config', str(self.config), *init).wait(PATIENCE)
         self.count(made == 0, 'no log can be made')
         self.view = LogView(self.opened())
-        self.shown = self.view.show()  # as it was seen last
-        self.all_live = 0.0  # the last time when all nodes that were live before the last change still were
-        self.not_live = 0.0  # the last time when a node that has a process was not live yet
+        self.shown = self.before = self.view.show()  # as it was seen last, and before the last change
+        self.begun = 0.0  # when the last change began
+        self.meanwhile: Callable[[], object] = lambda: None  # what else is done again and again while it is waited
+        self.ends: dict[int, Sequence[int]] = {}  # with which statuses members may end, by their processes
 
     def configured(self, names: Sequence[str], partitions: int) -> Path:
         """A new file with settings."""
@@ -158,11 +167,11 @@ class Group:
         """The log."""
         return store_of(parser().parse_args(['status', '--log', self.stores['']])).open()
 
-    def command(self, name: str, *more: str, member: str = '') -> subprocess.Popen[bytes]:
-        """Starts `bully-member`, where the member is, if one is named."""
-        within, program, path = self.within(member) if member else (), ['bully_member'], str(PYTHON)
+    def command(self, name: str, *more: str, member: str = '', around: Sequence[str] = ()) -> subprocess.Popen[bytes]:
+        """Starts `bully-member`, below these words, and where the member is, if one is named."""
+        within, program, path = [*around, *(self.within(member) if member else ())], ['bully_member'], str(PYTHON)
         if member and self.acts is not None:
-            program, path = ['members.acting', str(self.acts)], os.pathsep.join([str(HERE.parent), path])
+            program, path = ['members.instrumented_member', str(self.acts)], os.pathsep.join([str(HERE.parent), path])
         words = [
             *within, sys.executable, '-W', 'error', '-m', *program, name, '--log', self.stores[member], *more,
         ]  # fmt: skip
@@ -173,37 +182,38 @@ class Group:
         """The file of what a member, or another command, says."""
         return self.folder / f'{name}.said'
 
-    def begin(self, name: str) -> None:
-        """A process for the node."""
+    def begin(self, name: str, around: Sequence[str] = ()) -> None:
+        """A process for the node, below these words."""
         more = [
             '--config', str(self.config), '--node', name, '--ttl', str(self.ttl), *self.words, '--', *self.work.worker,
         ]  # fmt: skip
-        self.members[name] = self.command('run', *more, member=name)
+        self.members[name] = self.command('run', *more, member=name, around=around)
 
     def begin_all(self, names: Sequence[str] = NAMES) -> None:
         for name in names:
             self.begin(name)
 
     def count(self, is_so: bool, what: str) -> None:
-        self.passed += is_so
-        self.failed += not is_so
-        if not is_so:
-            print(f'FAILED: {what}', flush=True)
+        self.counts.hold(is_so, what)
+
+    def may_have_ended(self, member: subprocess.Popen[bytes]) -> bool:
+        """Whether a member that has ended may have this status, because of what happened to it."""
+        return member.returncode in self.ends.get(member.pid, ())
+
+    def ended(self, process: subprocess.Popen[bytes]) -> int | None:
+        """The status of a process that is about to end; none, if it doesn't."""
+        with contextlib.suppress(subprocess.TimeoutExpired):
+            return process.wait(self.patience)
+        return None
 
     # The state of the group.
 
-    def snapshot(self, live: AbstractSet[str] | None = None) -> GroupView | None:
-        """What the view shows of the group; nothing, if the store doesn't answer. With `live` it is noted until when
-        all of these nodes were live, and until when not all nodes that have a process were."""
-        now = time.monotonic()
+    def snapshot(self) -> GroupView | None:
+        """What the view shows of the group; nothing, if the store doesn't answer."""
         try:
             self.shown = self.view.show()
         except Unanswered:
             return None
-        if live is not None and live <= live_in(self.shown):
-            self.all_live = now
-        if live is not None and not set(self.members) <= live_in(self.shown):
-            self.not_live = now
         return self.shown
 
     def show(self) -> GroupView:
@@ -226,157 +236,86 @@ class Group:
     def stay_stable(self, seconds: float, end: float) -> float | None:
         """Waits until the group has been stable for so many seconds. When that began; nothing, if it isn't so by the
         end."""
-        since, rows, live = 0.0, -1, live_in(self.shown)
-        while time.monotonic() < end:
-            shown, now = self.snapshot(live), time.monotonic()
+        since, rows = 0.0, -1
+
+        def since_when() -> float | None:
+            nonlocal since, rows
+            shown, now = self.snapshot(), time.monotonic()
             if shown is None or not self.is_stable(shown):
                 rows = -1
             elif shown.rows != rows:
                 since, rows = now, shown.rows
-            if rows >= 0 and now >= since + seconds:
-                return since
-            time.sleep(0.01)
-        return None
+            return since if rows >= 0 and now >= since + seconds else None
 
-    def goes_on(self, end: float, but: str = '') -> float | None:
+        return self.await_value(since_when, end)
+
+    def await_value(self, find: Callable[[], _Found], end: float) -> _Found:
+        """Waits until that finds something, up to the end. What it found."""
+        while True:
+            self.meanwhile()
+            found = find()
+            if found or time.monotonic() >= end:
+                return found
+            time.sleep(0.01)
+
+    def goes_on(self, but: str = '') -> bool:
         """Waits until one more unit is done on each partition by its owner, in an eager group by the token of the
-        table, except on those of the node `but`, which have no owner while it may not work on them. When that was."""
+        table, except on those of the node `but`, which have no owner while it may not work on them. Whether it is."""
         before, left_out = self.work.sizes(), (but, None) if but else ()
-        while time.monotonic() < end:
+
+        def is_done() -> bool:
             shown, sizes, units = self.snapshot(), self.work.sizes(), self.work.last_units()
-            owners = dict(enumerate(shown.owners if shown is not None else ()))
-            others = [partition for partition, owner in owners.items() if owner not in left_out]
-            are_done = all(sizes[partition] > before[partition] for partition in others)
-            if shown is not None and are_done and all(self.is_of(units[each], shown, owners[each]) for each in others):
-                return time.monotonic()
-            time.sleep(0.01)
-        return None
-
-    def is_of(self, unit: tuple[int, str], shown: GroupView, owner: str | None) -> bool:
-        """Whether the unit is its owner's, in an eager group by the token of the table."""
-        return unit[1] == owner and (shown.mode == 'cooperative' or unit[0] == shown.token)
-
-    def become_stable(self, what: str, change: Callable[[], object], steady: float = 0.0) -> None:
-        """Makes a change, and waits until the group is stable after it, and works. It notes how long that took, and how
-        many rows."""
-        before, begun = self.shown, time.monotonic()
-        self.all_live = self.not_live = begun
-        change()
-        stable_since = self.stay_stable(steady, begun + PATIENCE)
-        worked = self.goes_on(time.monotonic() + PATIENCE) if stable_since is not None else None
-        self.count(stable_since is not None, f'{what}: not stable')
-        self.count(worked is not None, f'{what}: no work')
-        self.see_processes(what)
-        if stable_since is not None and worked is not None:
-            times, after = self.times.setdefault(what, Times()), self.shown
-            times.to_stable.append(stable_since - begun)
-            gone, come = live_in(before) - live_in(after), live_in(after) - live_in(before)
-            times.after_end += [stable_since - self.all_live] if gone else []
-            times.after_begin += [stable_since - self.not_live] if come and not gone else []
-            times.to_work += [worked - begun] if steady == 0 else []
-            times.rows.append(after.rows - (before.rows if after.epoch == before.epoch else 0))
-
-    def see_processes(self, what: str) -> None:
-        """No member has ended by itself."""
-        for name, member in self.members.items():
-            self.count(member.poll() is None, f'{what}: {name} ended by itself, with status {member.returncode}')
-
-    # Changes.
-
-    def resize(self, what: str, names: Sequence[str], partitions: int) -> Path:
-        """The group gets these settings while its members work. The file that has them."""
-        epoch, file = self.show().epoch, self.configured(names, partitions)
-
-        def change() -> None:
-            status = self.command('resize', '--config', str(file)).wait(PATIENCE)
-            self.count(status == 0, f'{what} ends with status {status}')
-            self.work.partitions = partitions
-
-        self.become_stable(what, change)
-        self.count(self.show().epoch == epoch + 1, 'another epoch')
-        return file
-
-    def kill(self, name: str) -> None:
-        """The member is killed, and then another process comes for its node."""
-        member = self.members.pop(name)
-        self.become_stable('a death', member.kill)
-        member.wait(PATIENCE)
-        self.become_stable('a return', lambda: self.begin(name))
-
-    def set_maintenance(self, *words: str) -> None:
-        """Runs a command by which an operator sets maintenance."""
-        self.count(self.command(*words).wait(PATIENCE) == 0, f'{" ".join(words)} failed')
-
-    def drain(self, name: str) -> None:
-        """The node is drained, and taken back. Its process stays."""
-        drained, given = self.members.pop(name), []
-        self.become_stable('a drain', lambda: given.append(self.command('drain', name)))
-        self.count(given[0].wait(PATIENCE) == 0, 'a drain failed')
-        self.count(drained.poll() is None, f'{name} was drained, and ended with status {drained.returncode}')
-        self.members[name] = drained
-        self.become_stable('the end of a drain', lambda: self.set_maintenance('undrain', name))
-
-    def halt(self, name: str) -> None:
-        """In a pause of the group the member is killed, and another process comes for its node: the others work on, and
-        nothing is appended."""
-        self.set_maintenance('pause')
-        before, member = self.show(), self.members.pop(name)
-        member.kill()
-        member.wait()
-        for is_live in (False, True):
-            if is_live:
-                self.begin(name)
-            self.count(self.sees(name, is_live), f'{name} is {"not " if is_live else ""}live')
-            for _ in range(3):
-                self.count(
-                    self.goes_on(time.monotonic() + PATIENCE, name) is not None, 'the others do not work on in a pause'
-                )
-            after = self.show()
-            same = (after.epoch, after.rows, after.token) == (before.epoch, before.rows, before.token)
-            self.count(same and after.is_paused, f'in a pause the group has {after.rows} rows, and had {before.rows}')
-        self.become_stable('the end of a pause of the group', lambda: self.set_maintenance('resume'))
-
-    def sees(self, name: str, is_live: bool) -> bool:
-        """Waits until the node is live, or is not. Whether that came in time."""
-        end = time.monotonic() + PATIENCE
-        while (name in live_in(self.show())) != is_live:
-            if time.monotonic() > end:
+            if shown is None:
                 return False
-            time.sleep(0.01)
+            others = [each for each, owner in enumerate(shown.owners) if owner not in left_out]
+            are_owners = all(units[each][1] == shown.owners[each] for each in others)
+            is_by_token = shown.mode == 'cooperative' or all(units[each][0] == shown.token for each in others)
+            return are_owners and is_by_token and all(sizes[each] > before[each] for each in others)
+
+        return self.await_value(is_done, time.monotonic() + self.patience)
+
+    def mark(self) -> None:
+        """A change is made now."""
+        self.before, self.begun = self.shown, time.monotonic()
+
+    def settle(self, what: str, steady: float = 0.0) -> bool:
+        """Waits until the group is stable after a change, for so long, and works. It notes how long that took, and how
+        many rows."""
+        self.await_value(self.have_begun, time.monotonic() + PATIENCE)
+        stable_since = self.stay_stable(steady, time.monotonic() + self.patience)
+        works = stable_since is not None and self.goes_on()
+        self.count(stable_since is not None, f'{what}: not stable in {self.patience:g} s')
+        self.count(works, f'{what}: no work')
+        for name, member in self.members.items():
+            is_there = member.poll() is None or self.may_have_ended(member)
+            self.count(is_there, f'{what}: {name} ended by itself, with status {member.returncode}')
+        if stable_since is None or not works:
+            return False
+        before, after = self.before, self.shown
+        rows = after.rows - (before.rows if after.epoch == before.epoch else 0)
+        self.times.setdefault(what, []).append((stable_since - self.begun, rows))
         return True
 
-    def pause(self, name: str, seconds: float, whom: str) -> None:
-        """The member, its worker or both are stopped for so long; a member that is stopped for more than the ttl, until
-        the others are stable."""
-        paused = self.members[name]
-        workers = [] if whom == 'member' else workers_of(paused.pid)
-        self.count(whom == 'member' or bool(workers), f'{name} has no worker to pause')
+    def have_begun(self) -> bool:
+        """Whether each process of a member writes down what it does, or has ended; if they do that. This takes as long
+        as the start of Python."""
+        there = {file.name.split('-')[0] for file in self.acts.iterdir()} if self.acts is not None else None
+        return there is None or all(str(each.pid) in there or each.poll() is not None for each in self.members.values())
 
-        def send(number: int) -> None:
-            if whom != 'worker':
-                paused.send_signal(number)
-            send_all(workers, number)
+    def become_stable(self, what: str, change: Callable[[], object], steady: float = 0.0) -> bool:
+        """Makes a change, and waits until the group is stable after it, and works. Whether that came."""
+        self.mark()
+        change()
+        return self.settle(what, steady)
 
-        try:
-            if whom == 'worker' or seconds < self.ttl:
-                send(signal.SIGSTOP)
-                time.sleep(seconds)
-                self.become_stable(f'the end of a pause of a {whom} for {seconds:g} s', lambda: send(signal.SIGCONT))
-            else:
-                self.pause_for_long(name, whom, send)
-        finally:
-            close_all(workers)
-
-    def pause_for_long(self, name: str, whom: str, send: Callable[[int], None]) -> None:
-        """The member is stopped until the others are stable without it."""
-        paused = self.members.pop(name)
-        self.become_stable(f'the start of a pause of a {whom}', lambda: send(signal.SIGSTOP))
-        if paused.poll() is None:
-            self.members[name] = paused
-            self.become_stable(f'the end of a pause of a {whom}', lambda: send(signal.SIGCONT))
-        else:
-            print(f'{name} was stopped in the middle of a write, and was killed')
-            self.become_stable('a return', lambda: self.begin(name))
+    def resize(self, names: Sequence[str], partitions: int) -> Path:
+        """The group is to get these settings while its members work. The file that has them."""
+        epoch, file = self.show().epoch, self.configured(names, partitions)
+        status = self.ended(self.command('resize', '--config', str(file)))
+        self.count(status == 0, f'a resize ends with status {status}')
+        self.work.partitions = partitions
+        self.count(self.show().epoch == epoch + 1, 'another epoch')
+        return file
 
     # While the group is stable, and at its end.
 
@@ -393,27 +332,57 @@ class Group:
         self.count(max(shares) < most, f'an idle member took {max(shares):.2f} % of a processor')
         memory = sorted(sum(map(own_memory, each)) for each in processes.values())
         self.count(memory[-1] < MEMORY, f'an idle member has {memory[-1]:.1f} MiB of its own')
-        print(
-            f'idle, {spans} times {seconds:g} s: no row, and {min(shares):.2f} to {max(shares):.2f} % of a processor for '
-            f'a member; {memory[0]:.1f} to {memory[-1]:.1f} MiB of its own'
-        )
+        cost = f'{min(shares):.2f} to {max(shares):.2f} % of a processor, {memory[0]:.1f} to {memory[-1]:.1f} MiB'
+        print(f'idle, {spans} times {seconds:g} s: no row, and for a member {cost} of its own')
 
-    def end(self, program: Path | None = None) -> None:
-        """All leave in order, one of them after the others, and what they left is judged; also with everything said, if
-        there is the program `bully`."""
-        *others, last = self.members
-        for names in (others, [last]):
-            for name in names:
+    def leave(self) -> None:
+        """All leave in order, one of them after the others."""
+        names = list(self.members)
+        for leaving in (names[:-1], names[-1:]):
+            for name in leaving:
                 self.members[name].terminate()
-            for name in names:
-                self.count(
-                    self.members[name].wait(PATIENCE) == 0, f'{name} ended with status {self.members[name].returncode}'
-                )
+            for name in leaving:
+                status = self.ended(self.members[name])
+                is_so = status == 0 or self.may_have_ended(self.members[name])
+                self.count(is_so, f'{name} ended with status {status}')
+
+    def judge(self, program: Path | None = None) -> None:
+        """What all have left; also with everything said, if there is the program `bully`."""
         shown = self.show()
         self.count(not any(node.is_live for node in shown.nodes), 'a member is still live')
         self.count(all(node.status is Status.DOWN for node in shown.nodes), 'a node is still up')
+        for file in sorted(self.folder.glob('*.said')):
+            self.count('Traceback' not in file.read_text(errors='replace'), f'{file.name} has a traceback')
         self.judge_log(program)
         self.judge_work()
+
+    def written(self) -> Iterator[Act]:
+        """What members have written down of what they did, the units of their workers, and the epochs as the store has
+        them."""
+        assert self.acts is not None
+        for file in (*sorted(self.acts.iterdir()), *self.work.folder.glob('units')):
+            yield from acts_of(file)
+        with contextlib.closing(self.opened()) as log:
+            for epoch in log.epochs():
+                opening, rows = log.opening(epoch), list(log.read(epoch, 0))
+                names, is_file = list(opening.names), isinstance(log, SqliteLog)
+                told = {'epoch': epoch, 'header': opening.header, 'names': names, 'rows': rows, 'is_file': is_file}
+                yield Act(0, '', 'kept', {**told, 'is_cooperative': opening.is_cooperative})
+
+    def judge_acts(self, occur: Collection[str], broken: Collection[str] = ()) -> None:
+        """Judges what was written down: acts must be judged by these premises, and each that is broken on purpose must
+        refuse one."""
+        verdict = judge(self.written())
+        print(f'{verdict}; load {os.getloadavg()[0]:.1f}')
+        first = {refusal.premise: refusal for refusal in reversed(verdict.refused)}
+        for refusal in first.values():
+            print(f'refused, for the first time by this premise: {refusal} ({PREMISES[refusal.premise]})')
+        for premise in broken:
+            self.count(premise in first, f'no act was refused by {premise}')
+        if not broken:
+            self.count(not first, f'{len(verdict.refused)} acts were refused, by {", ".join(sorted(first))}')
+            never = sorted(set(verdict.never()) & set(occur))
+            self.count(not never, f'no act was judged by {", ".join(never)}')
 
     def judge_log(self, program: Path | None) -> None:
         log = self.opened()
@@ -450,8 +419,11 @@ class Group:
 
     def judge_work(self) -> None:
         """No overlap, and no token fell; one token is of one node."""
-        overlaps, units, excused = self.work.faults('overlap'), 0, self.work.excused()
+        self.count(self.work.close() == 0, 'the recorder failed')
+        overlaps, old, excused = self.work.faults('overlap'), self.work.faults('old'), self.work.excused()
         self.count(not overlaps, f'overlaps: {overlaps[:5]}')
+        self.count(not old, f'units by old tokens: {old[:5]}')
+        units = 0
         for partition in range(self.work.partitions):
             done = self.work.units(partition)
             tokens = [int(token) for token, _ in done]
@@ -460,14 +432,15 @@ class Group:
             self.count(tokens == sorted(tokens) or is_excused, f'a token fell on partition {partition}')
             is_single = len(set(tokens)) == len({(token, node) for token, node in done})
             self.count(is_single, f'partition {partition}: two nodes by one token')
-        print(
-            f'{units} units of work, {len(self.work.faults("old"))} refused by their tokens, {len(overlaps)} overlaps'
-        )
+        apart = f', and {len(excused)} of both while a premise was broken' if excused else ''
+        print(f'{units} units of work, {len(old)} refused by their tokens, {len(overlaps)} overlaps{apart}')
 
     def tell(self) -> None:
         print(f'the ttl is {self.ttl:g} s')
         for what, times in self.times.items():
-            print(f'{what}: {times}')
+            rows = [each for _, each in times]
+            told = shown_seconds('to become stable in', [seconds for seconds, _ in times])
+            print(f'{what}: {len(times)} times{told}, {statistics.median(rows):.0f} rows, at most {max(rows)}')
 
     def close(self) -> None:
         """Whatever is left is ended. A watchdog may yet release the lease of its member."""
@@ -484,14 +457,13 @@ def live_in(shown: GroupView) -> set[str]:
     return {node.name for node in shown.nodes if node.is_live}
 
 
-def cost(processes: dict[str, list[int]]) -> list[float]:
-    """How much processor time each member and its processes took."""
-    return [sum(map(processor_seconds, each)) for each in processes.values()]
-
-
 def shares_over(seconds: float, processes: dict[str, list[int]]) -> list[float]:
     """The percentage of a processor that each member and its processes take over so many seconds."""
-    before, start = cost(processes), time.monotonic()
+
+    def taken() -> list[float]:
+        return [sum(map(processor_seconds, each)) for each in processes.values()]
+
+    before, start = taken(), time.monotonic()
     time.sleep(seconds)
     length = time.monotonic() - start
-    return [100 * (after - earlier) / length for earlier, after in zip(before, cost(processes))]
+    return [100 * (after - earlier) / length for earlier, after in zip(before, taken())]

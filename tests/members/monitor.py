@@ -9,7 +9,7 @@ from collections.abc import Iterable, Mapping, Sequence
 from dataclasses import dataclass, field
 from typing import Any
 
-from .acts import Act, Lease, Lengths, Refusal, Span, Store, Sureness, Verdict
+from .premises import Act, Lease, Lengths, Refusal, Span, Store, Sureness, Verdict
 from .timing import Timing
 
 RULES = {'starts', 'steps', 'answered', 'learned', 'shown', 'followed', 'stopped', 'stopped_on'}
@@ -32,7 +32,7 @@ class Work:
 
 
 @dataclass
-class Process:
+class WorkerProcess:
     """A process of a worker: where it works, as it was told; and the stops that it hasn't answered."""
 
     partitions: set[int]
@@ -64,7 +64,7 @@ class Course:
     released: int | None = None  # the session that it has asked to release
     works: dict[int, Work] = field(default_factory=dict)
     over: dict[int, Work] = field(default_factory=dict)
-    processes: dict[int, Process] = field(default_factory=dict)
+    processes: dict[int, WorkerProcess] = field(default_factory=dict)
 
     @property
     def name(self) -> str:
@@ -326,12 +326,12 @@ class Judge:
             self.hold('MayStart', is_so, act, f'on partition {partition} work may start by {sorted(work.tokens)}')
 
     def _runs(self, course: Course, act: Act) -> None:
-        course.processes[act.more['process']] = Process(set(act.more['partitions']))
+        course.processes[act.more['process']] = WorkerProcess(set(act.more['partitions']))
         if act.more['token']:
             self._see_start(course, act, act.more['token'], act.more['partitions'])
 
     def _tells(self, course: Course, act: Act) -> None:
-        process, more = course.processes.setdefault(act.more['process'], Process(set())), act.more
+        process, more = course.processes.setdefault(act.more['process'], WorkerProcess(set())), act.more
         if 'begin' in more:
             process.partitions |= set(more['partitions'])
             self._see_start(course, act, more['begin'], more['partitions'])
@@ -346,7 +346,7 @@ class Judge:
 
     def _says(self, course: Course, act: Act) -> None:
         self.hold('HasEnded', not act.more['there'], act, 'processes are left')
-        course.processes[act.more['process']] = Process(set())
+        course.processes[act.more['process']] = WorkerProcess(set())
         if act.more['word'] == 'lost':
             shown = act.more['shows'][1] if 'shows' in act.more else act.at
             if shown > course.latest:  # else the watchdog didn't hear of the last renewal

@@ -26,7 +26,7 @@ from bully.shared_log import LogError, Unanswered
 from .asking import KeptLog, Pending, Request, made, opened
 from .cluster import SERVERS, Cluster, Keys, Outcome, Version, Weather, interval, weather_of
 from .driven import Member, Wrong
-from .judged import Epoch, Lease, LogStore
+from .simulated_store import Epoch, Lease, LogStore
 from .over_memory import OverMemory
 from .stabilizing import Mode
 from .trouble import Trouble

@@ -18,7 +18,7 @@ from bully.settings import Settings
 from bully.shared_log import Known
 from bully.store_options import BadWords
 from .driven import Member, Wrong
-from .judged import Epoch, Lease, LogStore, StoreMaker
+from .simulated_store import Epoch, Lease, LogStore, StoreMaker
 from .stabilizing import NEVER, Mode, Simulation
 from .trouble import Trouble
 

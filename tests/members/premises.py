@@ -1,218 +1,217 @@
-"""Tries the premises of drivers in a short run of processes: three members over a file, or over a server of etcd, whose
-acts are written down and judged (`monitor.py`).
+"""What processes of members do, as a list of acts; what these say of the store; and the premises by which `monitor.py`
+judges them.
 
-    tests/members/run premises LIBRARY_FOLDER [--store sqlite|etcd] [--ttl SECONDS] [--patience SECONDS] [--cooperative]
-        [--kind KIND] [--folder FOLDER]
+An act is a line of JSON: `at`, a moment by CLOCK_BOOTTIME; `member`, the process of a member; `kind`; and more:
 
-LIBRARY_FOLDER is what `bin/library` wrote. Each kind of act occurs: members start, and end in order; the store is
-silent for so long that requests aren't answered; a member is stopped for longer than its lease lasts, and one is
-killed; and the nodes get other numbers. An act that breaks a premise is printed, with the name of the premise. It is a
-failure, too, if no act was judged by one of them. The last line is 'N passed, M failed'; the exit status is 0 if M is
-0, otherwise 1. """
+- `starts`, `steps`, `answered`, `learned`, `shown`, `followed`, `stopped`, `stopped_on`: a call on the rules of a
+  member, each with what these are then: `in` which epoch, the `end` of its log, until when the lease is `sure`, and the
+  number of the session that is `live`. `instrumented_member.py` writes these, and
+- `asks`, `gave`: a call of the log, and what came of it;
+- `runs`, `tells`, `heard`, `says`, `gone`: a worker starts, is told a line, has answered a stop; an end is reported to
+  the member; the member is gone, and its lease is about to be released. `instrumented_watchdog.py` writes these;
+- `unit`: a unit of work that is over, or whose worker was killed in it. `recorder.py` writes it;
+- `kept`: an epoch, as the store has it in the end, and whether that is a file. `groups.py` writes it.
+
+Those of a member and of its watchdog also have what the clock of their process `shows`, and moments before and after.
+"""
 from __future__ import annotations
 
-import argparse
-import contextlib
-import os
-import signal
-import sqlite3
-import subprocess
-import sys
-import tempfile
-import time
-from collections.abc import Callable, Collection, Iterator, Sequence
-from functools import partial
-from pathlib import Path
+import json
+from bisect import bisect_right
+from collections import Counter, defaultdict
+from collections.abc import Callable, Iterable, Mapping, Sequence
+from dataclasses import dataclass
+from typing import Any, NamedTuple
 
-from bully.sqlite import SqliteLog
-from .acts import PREMISES, Act, act_of
-from .etcd_servers import PROGRAM, Server, Servers
-from .groups import KINDS, NAMES, PATIENCE, Group, add_modes, init_words
-from .monitor import judge
-from .soaking import Recorded
+# The premises, by their names in `crates/bully_run/specs/Run.antt` and `crates/bully_clock/specs/Timed.antt`.
+PREMISES = {
+    'IsEpochOf': 'what a member is told of an epoch is what the store has, and the number of its node there',
+    'AreRowsOf': 'the rows that it is told are the next ones of the log of its epoch',
+    'IsWhole': 'before a snapshot is reported, the member has learned all rows that the log had at that moment',
+    'NumbersLast': 'the sessions of a process have the numbers 1, 2, 3 and so on',
+    'WritesAsKnown': 'an append has the rows of the rules, and names the leases that the member was shown',
+    'ClosesAsKnown': 'the end of an epoch spares only whom the change does not affect; names have one node each',
+    'BeginsWhileSure': 'work starts only while the lease is sure, and as long as it is the store keeps it',
+    'NeverBack': 'the clock of a process never goes back',
+    'KeepsUp': 'while a clock of the store counts a ttl, that of a process counts at least four fifths of that',
+    'EndsNoSooner': 'the store ends no lease that is not released sooner than a ttl after it was granted last',
+    'HasNoWork': 'nothing of the work of a process is left when its lease is released because it is gone',
+    'IsTrueAnswer': 'an acquire or a renewal is reported as done only if the store has done it since it was requested',
+    'ShowsAsked': 'a snapshot shows no session of the process of its member that this has not asked for',
+    'WorksInTime': 'work ends no later after its lease was sure than the clock of its process keeps up by',
+    'MayStart': 'work starts only after the rules say so, where they say it, by that token',
+    'HasEnded': 'work has ended before that is reported',
+    'HasEndedOn': 'work on a partition has ended before that is reported',
+    'Starts': 'each process has a number of its own',
+    'sent_by': 'what is sent to the store is what the rules ask for',
+    'IsAnswer': 'what is reported as the answer of a request is that of the store to this request',
+    'IsNow': 'the time that is reported is that of a clock that does not go back',
+}
 
-NODES, PARTITIONS = 3, 6
-
-
-def add_words(parser: argparse.ArgumentParser) -> None:
-    parser.add_argument('library', type=Path)
-    parser.add_argument('--store', choices=['sqlite', 'etcd'], default='sqlite')
-    parser.add_argument('--ttl', type=float, default=2.0, help='no less than 2 with etcd')
-    parser.add_argument(
-        '--patience', type=float, default=PATIENCE, help='seconds that a change may take: with a bug it may never come'
-    )
-    add_modes(parser)
-
-
-def words() -> argparse.Namespace:
-    parser = argparse.ArgumentParser(description=__doc__, formatter_class=argparse.RawDescriptionHelpFormatter)
-    add_words(parser)
-    parser.add_argument('--folder', type=Path, help='keep the log, the work and the acts there')
-    return parser.parse_args()
+Lease = list[Any]  # process and number of its session, epoch and offset of its promise, and what that keeps
 
 
-# ---- What was written down
+class Act(NamedTuple):
+    """An act."""
+
+    at: int
+    member: str
+    kind: str
+    more: Mapping[str, Any]
 
 
-def acts_in(group: Group) -> Iterator[Act]:
-    """The acts of all processes of the group; not those whose line isn't whole, since the writer was killed."""
-    assert group.acts is not None
-    for file in (*sorted(group.acts.iterdir()), *group.work.folder.glob('units')):
-        for line in file.read_bytes().split(b'\n')[:-1]:
-            yield act_of(line)
+def act_of(line: str | bytes) -> Act:
+    """The act of a line."""
+    more = json.loads(line)
+    return Act(more.pop('at'), more.pop('member'), more.pop('kind'), more)
 
 
-def kept_of(group: Group) -> Iterator[Act]:
-    """The epochs, as the store has them."""
-    with contextlib.closing(group.opened()) as log:
-        for epoch in log.epochs():
-            opening = log.opening(epoch)
-            told = {'header': opening.header, 'names': list(opening.names), 'is_cooperative': opening.is_cooperative}
-            rows, is_file = list(log.read(epoch, 0)), isinstance(log, SqliteLog)
-            yield Act(0, '', 'kept', {'epoch': epoch, **told, 'rows': rows, 'is_file': is_file})
+@dataclass(frozen=True)
+class Refusal:
+    """An act that isn't one, by this premise."""
+
+    premise: str
+    act: Act
+    why: str
+
+    def __str__(self) -> str:
+        told = json.dumps(self.act.more)
+        about = told if len(told) < 400 else f'{told[:400]}..'
+        return f'{self.premise} at {self.act.at}: {self.act.member} {self.act.kind} {about}: {self.why}'
 
 
-def occurring(options: argparse.Namespace) -> set[str]:
-    """The premises by which acts must be judged: work ends on a partition alone only in some groups."""
-    has_parts = options.cooperative or options.kind == 'each'
-    return PREMISES.keys() - ({'HasEndedOn'} if not has_parts else set())
+@dataclass
+class Verdict:
+    """How many acts there were of each kind, how often each premise was judged, and what was refused."""
+
+    kinds: Counter[str]
+    judged: Counter[str]
+    refused: list[Refusal]
+    late: list[int]  # how many nanoseconds after its lease was sure a watchdog ended work, in order
+
+    def never(self) -> list[str]:
+        """The premises that no act was judged by."""
+        return [premise for premise in PREMISES if not self.judged[premise]]
+
+    def __str__(self) -> str:
+        kinds = ', '.join(f'{count} {kind}' for kind, count in sorted(self.kinds.items()))
+        judged = ', '.join(f'{premise} {self.judged[premise]}' for premise in PREMISES)
+        total = sum(self.kinds.values()), sum(self.judged.values())
+        told = f'{total[0]} acts ({kinds}), judged {total[1]} times ({judged}): {len(self.refused)} refused'
+        if not self.late:
+            return told
+        median, worst = self.late[len(self.late) // 2] / 1e6, self.late[-1] / 1e6
+        return f'{told}; {len(self.late)} times work was late: {median:.1f} ms, at most {worst:.1f}'
 
 
-def see_acts(group: Group, occur: Collection[str], broken: str | None = None) -> None:
-    """Judges what the group did, by each of these premises; one may be broken on purpose."""
-    verdict = judge([*acts_in(group), *kept_of(group)])
-    print(f'{verdict}; load {os.getloadavg()[0]:.1f}')
-    first = {refusal.premise: refusal for refusal in reversed(verdict.refused)}
-    for refusal in first.values():
-        print(f'refused, for the first time by this premise: {refusal} ({PREMISES[refusal.premise]})')
-    if broken is not None:
-        group.count(broken in first, f'no act was refused by {broken}')
-        return
-    group.count(not verdict.refused, f'{len(verdict.refused)} acts were refused, by {", ".join(sorted(first))}')
-    never = sorted(set(verdict.never()) & set(occur))
-    group.count(not never, f'no act was judged by {", ".join(never)}')
+# ---- What is known of the store, by all acts
 
 
-# ---- What happens
+class Append(NamedTuple):
+    """An append whose rows are in the log: when it was requested; when its answer came, if that was that it is done;
+    and where the log ended then."""
+
+    asked: int
+    done: int | None
+    end: int
 
 
-class Trial:
-    """A group to which all happens once."""
+class Lengths:
+    """The lengths that the log of an epoch has had, and when."""
 
-    def __init__(self, group: Group, be_silent: Callable[[float], object], patience: float, is_lawful: bool) -> None:
-        """The store can be silent for so many seconds. A change may take so many, as long as no premise is broken on
-        purpose."""
-        self.group, self.be_silent, self.patience, self.is_lawful = group, be_silent, patience, is_lawful
+    def __init__(self, appends: Iterable[Append]) -> None:
+        each = list(appends)
+        self.there = {0, *(append.end for append in each)}
+        self._asked = self._rising((append.asked, append.end) for append in each)
+        self._done = self._rising((append.done, append.end) for append in each if append.done is not None)
 
-    def run(self) -> None:
-        """One after the other, as long as the group becomes stable in time."""
-        changes: Sequence[tuple[str, Callable[[], object]]] = (
-            ('the start', lambda: self.group.begin_all(NAMES[:NODES])),
-            ('a silence', lambda: self.be_silent(self.group.ttl / 2)),  # longer than a member waits
-            ('a stop', lambda: self.stop('b')), ('other numbers', self.turn), ('a death', lambda: self.kill('a')),
-            ('a return', lambda: self.group.begin('a')),
-        )  # fmt: skip
-        for what, change in changes:
-            change()
-            if not self.is_settled():
-                self.group.count(not self.is_lawful, f'{what}: not stable in {self.patience:g} s')
-                break
-        self.end()
+    @staticmethod
+    def _rising(pairs: Iterable[tuple[int, int]]) -> tuple[list[int], list[int]]:
+        moments, most = [0], [0]
+        for moment, end in sorted(pairs):
+            moments.append(moment)
+            most.append(max(most[-1], end))
+        return moments, most
 
-    def is_settled(self) -> bool:
-        """Waits until the group is stable, and works."""
-        end = time.monotonic() + self.patience
-        return self.group.stay_stable(0.0, end) is not None and self.group.goes_on(end) is not None
+    def least(self, moment: int) -> int:
+        """No less than this was there at that moment."""
+        return self._done[1][bisect_right(self._done[0], moment) - 1]
 
-    def stop(self, name: str) -> None:
-        """The member is stopped until its lease is over. Its watchdog kills one that has the file locked then."""
-        member = self.group.members[name]
-        member.send_signal(signal.SIGSTOP)
-        time.sleep(1.5 * self.group.ttl)
-        member.send_signal(signal.SIGCONT)
-        if member.poll() is not None:
-            self.group.begin(name)
-
-    def turn(self) -> None:
-        """The nodes get other numbers, in a new epoch."""
-        file = self.group.configured(NAMES[1:NODES] + NAMES[0], PARTITIONS)
-        with contextlib.suppress(subprocess.TimeoutExpired):
-            self.group.command('resize', '--config', str(file)).wait(self.patience)
-
-    def kill(self, name: str) -> None:
-        member = self.group.members.pop(name)
-        member.kill()
-        member.wait()
-
-    def end(self) -> None:
-        """All leave in order."""
-        end = time.monotonic() + self.patience
-        for member in self.group.members.values():
-            member.terminate()
-        for name, member in self.group.members.items():
-            with contextlib.suppress(subprocess.TimeoutExpired):
-                member.wait(max(0.0, end - time.monotonic()))
-            is_in_order = member.returncode == 0 or not self.is_lawful
-            self.group.count(is_in_order, f'{name} ended with status {member.returncode}')
+    def most(self, moment: int) -> int:
+        """No more than this was."""
+        return self._asked[1][bisect_right(self._asked[0], moment) - 1]
 
 
-def lock(file: Path, seconds: float) -> None:
-    """Nobody can write into the file for so long."""
-    with contextlib.closing(sqlite3.connect(file, isolation_level=None)) as locked:
-        locked.execute('begin immediate')
-        time.sleep(seconds)
+class Store:
+    """What the acts say of the store."""
+
+    def __init__(self, acts: Sequence[Act]) -> None:
+        self.epochs = {act.more['epoch']: act.more for act in acts if act.kind == 'kept'}
+        self.is_file = all(each.get('is_file', True) for each in self.epochs.values())
+        self.promised: dict[str, int] = {}  # when a lease with this promise was first requested
+        self.rolled: dict[int, int] = {}  # when the end of this epoch was first requested
+        appends: dict[int, list[Append]] = defaultdict(list)
+        under_way: dict[str, Act] = {}  # the append of a member
+        for act in acts:
+            if act.kind == 'asks':
+                self._see(act)
+            if act.kind in ('asks', 'gave') and act.more['call'] == 'append':
+                if act.kind == 'asks':
+                    under_way[act.member] = act
+                elif act.member in under_way:
+                    self._see_append(appends, under_way.pop(act.member), act)
+        for act in under_way.values():
+            self._see_append(appends, act, None)  # its process was killed meanwhile
+        self.lengths = {epoch: Lengths(appends[epoch]) for epoch in self.epochs}
+
+    def _see(self, act: Act) -> None:
+        more = act.more
+        if more['call'] in ('acquire', 'promise'):
+            lease = [*more['session'], more['epoch'], more['offset'], list(more.get('works', ()))]
+            self.promised.setdefault(json.dumps(lease), act.at)
+        elif more['call'] == 'roll_over':
+            self.rolled.setdefault(more['epoch'], act.at)
+
+    def _see_append(self, appends: dict[int, list[Append]], asks: Act, gave: Act | None) -> None:
+        epoch, offset, rows = (asks.more[word] for word in ('epoch', 'offset', 'rows'))
+        end = offset + len(rows)
+        if self.rows(epoch, offset, end) == rows:
+            done = gave.at if gave is not None and gave.more['result'] is True else None
+            appends[epoch].append(Append(asks.at, done, end))
+
+    def rows(self, epoch: int, offset: int, end: int) -> list[str]:
+        """The rows of an epoch between these."""
+        return list(self.epochs[epoch]['rows'][offset:end]) if epoch in self.epochs else []
 
 
-def pause(server: Server, seconds: float) -> None:
-    """The server is paused for so long."""
-    server.pause()
-    time.sleep(seconds)
-    server.resume()
+# ---- Leases that are sure
 
 
-def store_in(closing: contextlib.ExitStack, folder: Path, kind: str) -> tuple[str, Callable[[float], object]]:
-    """The address of a log, and what silences its store."""
-    if kind == 'sqlite':
-        return f'sqlite:{folder / "group.db"}', partial(lock, folder / 'group.db')
-    servers = Servers()
-    closing.callback(servers.close)
-    return servers.address('group'), partial(pause, servers.each[0])
+class Span(NamedTuple):
+    """A session was sure of its lease from one moment to another."""
+
+    since: int
+    until: int
+    session: tuple[int, int]
 
 
-def tried_in(
-    folder: Path, options: argparse.Namespace, within: Callable[[str], Sequence[str]] = lambda _: (), broken: str | None = None
-) -> Group:  # fmt: skip
-    """All of it; no process is left. Members are begun by these words. If a premise is broken on purpose, only that is
-    wanted."""
-    acts = folder / 'acts'
-    acts.mkdir()
-    with contextlib.ExitStack() as closing:
-        store, be_silent = store_in(closing, folder, options.store)
-        group = Group(
-            folder, dict.fromkeys(['', *NAMES], store), options.ttl, within, names=NAMES[:NODES],
-            partitions=PARTITIONS, words=KINDS[options.kind], work=Recorded, init=init_words(options), acts=acts,
-        )  # fmt: skip
-        assert isinstance(group.work, Recorded)
-        closing.callback(group.work.close)
-        closing.callback(group.close)
-        Trial(group, be_silent, options.patience, broken is None).run()
-        see_acts(group, occurring(options), broken)
-    return group
+class Sureness:
+    """Who was sure of the lease of each node, and when; and what was seen of it."""
 
+    def __init__(self) -> None:
+        self.spans: dict[str, list[Span]] = defaultdict(list)
+        # Answers: when each was requested, and the sessions that hold leases by it.
+        self.seen: list[tuple[Act, int, dict[str, tuple[int, int]]]] = []
 
-def main() -> int:
-    options = words()
-    os.environ['BULLY_LIBRARY'] = str(options.library.resolve())
-    if options.store == 'etcd' and PROGRAM is None:
-        print('tests/members/premises: skipped, since no program `etcd` is on the path\n0 passed, 0 failed, 1 skipped')
-        return 0
-    with tempfile.TemporaryDirectory() as room:
-        folder = (options.folder or Path(room)).resolve()
-        folder.mkdir(exist_ok=True)
-        group = tried_in(folder, options)
-    print(f'{group.passed} passed, {group.failed} failed')
-    return 1 if group.failed else 0
-
-
-if __name__ == '__main__':
-    sys.exit(main())
+    def judge(self, hold: Callable[[str, bool, Act, str], None]) -> None:
+        """Within the time for which a session was sure nobody may have seen its lease gone, or another session's."""
+        spans = {name: sorted(each) for name, each in self.spans.items()}
+        begins = {name: [span.since for span in each] for name, each in spans.items()}
+        for act, asked, holders in self.seen:
+            names = spans.keys() & holders.keys() if act.more['call'] == 'acquire' else spans.keys()
+            for name in names:
+                index = bisect_right(begins[name], asked) - 1
+                if index >= 0 and act.at <= spans[name][index].until:
+                    span = spans[name][index]
+                    why = f'{name}: {span.session} was sure from {span.since} to {span.until}'
+                    hold('BeginsWhileSure', holders.get(name) == span.session, act, why)

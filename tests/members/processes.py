@@ -153,7 +153,7 @@ def children(process: int) -> list[int]:
         return []
 
 
-class Process(NamedTuple):
+class ProcessHandle(NamedTuple):
     """A process by its number, and by a descriptor, which never comes to be another one's."""
 
     number: int
@@ -194,41 +194,41 @@ def guards_of(member: int) -> list[int]:
     return [guard for watchdog in children(member) for guard in (watchdog, *keepers(watchdog))]
 
 
-def workers_of(member: int) -> list[Process]:
+def workers_of(member: int) -> list[ProcessHandle]:
     """The workers of a member."""
     found = [
-        (watchdog, Process(worker, os.pidfd_open(worker)))
+        (watchdog, ProcessHandle(worker, os.pidfd_open(worker)))
         for watchdog in children(member)
         for worker in below(watchdog)
     ]
     return [worker for watchdog, worker in found if worker.number in below(watchdog)]
 
 
-def family(member: int) -> dict[str, Process]:
+def family(member: int) -> dict[str, ProcessHandle]:
     """A `member` that has not been waited for, its `watchdog`, its first `worker` and the `keeper` of that; nobody, if
     not all are there."""
     watchdogs = children(member)
     workers = [worker for watchdog in watchdogs for worker in below(watchdog)]
     if len(watchdogs) != 1 or not workers:
         return {}
-    found: dict[str, Process] = {}
+    found: dict[str, ProcessHandle] = {}
     with contextlib.suppress(ProcessLookupError, FileNotFoundError):
         numbers = member, watchdogs[0], parent_of(workers[0]), workers[0]
         for name, number in zip(('member', 'watchdog', 'keeper', 'worker'), numbers):
-            found[name] = Process(number, os.pidfd_open(number))
+            found[name] = ProcessHandle(number, os.pidfd_open(number))
     if len(found) == 4 and below(watchdogs[0]) == workers and not any(each.has_ended for each in found.values()):
         return found
     close_all(found.values())
     return {}
 
 
-def close_all(processes: Iterable[Process]) -> None:
+def close_all(processes: Iterable[ProcessHandle]) -> None:
     """They aren't looked at any more."""
     for process in processes:
         os.close(process.descriptor)
 
 
-def send_all(processes: Iterable[Process], number: int) -> None:
+def send_all(processes: Iterable[ProcessHandle], number: int) -> None:
     """Sends a signal to processes, as far as they are still there."""
     for process in processes:
         with contextlib.suppress(ProcessLookupError):

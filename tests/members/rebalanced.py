@@ -10,7 +10,7 @@ from typing import Optional
 
 from bully import BullyError, Owned, Replica, Setup, Status, check, plan_table
 from bully.group import setup_of
-from .judged import table_of
+from .simulated_store import table_of
 
 REBALANCE = 11  # times as many rows as nodes: a rebalance has no more
 

@@ -78,7 +78,7 @@ def try_broken(counts: Counts, seeds: int) -> None:
         print(f'a worker that {name}: {first}'[:200])
 
 
-def words() -> argparse.Namespace:
+def read_options() -> argparse.Namespace:
     parser = argparse.ArgumentParser(description=__doc__, formatter_class=argparse.RawDescriptionHelpFormatter)
     parser.add_argument('library', type=Path)
     for part in ('--rebalance', '--restarts', '--forgetful', '--manners', '--broken'):
@@ -87,7 +87,7 @@ def words() -> argparse.Namespace:
 
 
 def main() -> int:
-    options, counts = words(), Counts()
+    options, counts = read_options(), Counts()
     os.environ['BULLY_LIBRARY'] = str(options.library.resolve())
     is_all = not any((options.rebalance, options.restarts, options.forgetful, options.manners, options.broken))
     if is_all or options.rebalance:

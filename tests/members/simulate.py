@@ -38,7 +38,7 @@ from .working import KINDS
 ENOUGH = 200  # seeds, among which each kind of trouble must be
 
 
-def words() -> argparse.Namespace:
+def read_options() -> argparse.Namespace:
     parser = argparse.ArgumentParser(description=__doc__, formatter_class=argparse.RawDescriptionHelpFormatter)
     parser.add_argument('library', type=Path)
     parser.add_argument('--from', dest='first', type=int, default=1, metavar='SEED')
@@ -110,7 +110,7 @@ def try_long(changes: int, is_cooperative: bool, counts: Counts) -> None:
 
 
 def main() -> int:
-    options, counts = words(), Counts()
+    options, counts = read_options(), Counts()
     os.environ['BULLY_LIBRARY'] = str(options.library.resolve())
     if options.long:
         for is_cooperative in (False, True) if options.is_cooperative is None else (options.is_cooperative,):

@@ -34,10 +34,10 @@ from bully.epochs import Opening, Token
 from bully.settings import Settings
 from .driven import NAMES, Member, Wrong
 from .expected import last_table
-from .judged import Epoch, LogStore, StoreMaker, table_of
+from .simulated_store import Epoch, LogStore, StoreMaker, table_of
 from .rebalanced import fewest, is_stable, moves
 from .trouble import OFTEN, STABLE_WITHIN, TROUBLE_FOR, TTL, Trouble
-from .working import KINDS, Action, Process, Talk, Unit
+from .working import KINDS, Action, SimulatedProcess, Talk, Unit
 
 
 NEVER = 2**63  # nanoseconds
@@ -174,14 +174,14 @@ class Simulation:
         if len(self.changes) > OFTEN:
             raise Wrong(f'the log changes {len(self.changes)} times within a ttl')
 
-    def processes(self) -> list[Process]:
+    def processes(self) -> list[SimulatedProcess]:
         """All that work, or may."""
         return [process for member in self.members for process in member.worker.processes]
 
-    def holds(self, process: Process) -> bool:
+    def holds(self, process: SimulatedProcess) -> bool:
         return self.store.holds(process.worker.member.name, process.session)
 
-    def owned(self, process: Process) -> frozenset[int]:
+    def owned(self, process: SimulatedProcess) -> frozenset[int]:
         """What the last plan gives its node."""
         return self.plan.get(process.worker.member.name, frozenset())
 

@@ -7,7 +7,7 @@ from collections import defaultdict
 from collections.abc import Callable, Iterator, Mapping
 from dataclasses import dataclass, field
 
-from .acts import Act
+from .premises import Act
 
 Hold = Callable[[str, bool, Act, str], None]
 TIGHT = 100_000  # nanoseconds: if two moments are further apart, it isn't known when between them a clock was read

@@ -22,12 +22,17 @@ ROW = 64  # bytes that a row has at most
 UNIT = 0.002  # seconds that a unit of work takes
 
 folder, node, answers = sys.argv[1], os.environ['BULLY_NODE'], os.environ.get('BULLY_ANSWERS')
-member = os.environ.get('ACTS_OF', '-')  # whose acts are written down, if they are: these have the clock of leases
-of_leases = time.CLOCK_BOOTTIME if 'CLOCK_RATE' not in os.environ else 9  # the kernel's, as `acted.py` has it
-clock = time.CLOCK_MONOTONIC if member == '-' else of_leases
+member = os.environ.get('ACTS_OF', '-')  # whose acts are written down, if they are
+# By which clock it reports moments: if acts are written down, by theirs, as `instrumentation.py` has it.
+kernels = time.CLOCK_BOOTTIME if 'CLOCK_RATE' not in os.environ else 9
+clock, ahead = time.CLOCK_MONOTONIC if member == '-' else kernels, int(os.environ.get('ACTS_AHEAD', 0))
 lines = open(0, 'rb', buffering=0, closefd=False)  # so that nothing is read ahead
 token, partitions = int(os.environ.get('BULLY_TOKEN', 0)), os.environ.get('BULLY_PARTITIONS', '').split()
 recorder = socket.socket(socket.AF_UNIX, socket.SOCK_SEQPACKET)
+
+
+def moment() -> int:
+    return time.clock_gettime_ns(clock) - ahead
 
 
 def tell(fault: str, partition: str) -> None:
@@ -63,10 +68,10 @@ def work_by_file(partition: str) -> None:
 
 def work_by_recorder(partition: str) -> None:
     """One unit, by leave of the recorder."""
-    recorder.send(f'begin {partition} {token} {node} {member} {time.clock_gettime_ns(clock)}'.encode())
+    recorder.send(f'begin {partition} {token} {node} {member} {moment()}'.encode())
     if recorder.recv(ROW) == b'granted':
         time.sleep(UNIT)
-        recorder.send(b'end %d' % time.clock_gettime_ns(clock))
+        recorder.send(b'end %d' % moment())
 
 
 def hear() -> None:

@@ -1,8 +1,9 @@
 """The workers of simulated members, of three kinds: one process for all partitions (`whole`), one for each (`each`),
 and one that stays over changes and is told of them by lines (`talk`).
 
-A `Process` is what the watchdog runs. A `Worker` is what the member knows of it. Each hears of the other by messages,
-which come in order and maybe late. A message about a process that isn't the member's any more is dropped. """
+A `SimulatedProcess` is what the watchdog runs. A `Worker` is what the member knows of it. Each hears of the other by
+messages, which come in order and maybe late. A message about a process that isn't the member's any more is dropped.
+"""
 from __future__ import annotations
 
 from collections import deque
@@ -25,7 +26,7 @@ Action = Callable[[], object]
 class Unit:
     """A unit of work that a process has surely begun. The lease of its member lasts until `lease`."""
 
-    process: Process
+    process: SimulatedProcess
     token: Token
     partitions: frozenset[int]
     lease: int
@@ -43,7 +44,7 @@ class Line:
         self.soon(span, lambda: self.messages.popleft()())
 
 
-class Process:
+class SimulatedProcess:
     """A process of a worker: it works in units, one after the other, each on all partitions that it has. Its watchdog
     ends it if it is at work when the lease of its member isn't sure any more, or when its member is dead."""
 
@@ -121,7 +122,7 @@ class Process:
 class Worker:
     """The processes of a member that work, as the member starts and stops them."""
 
-    process_type = Process
+    process_type = SimulatedProcess
     stays = False  # whether a process stays when it has stopped something
     stops_all = False  # whether a process that stays stops all whatever it has to stop
 
@@ -131,7 +132,7 @@ class Worker:
         self.session: Session = Session(0, 0)
         self.until: int = 0  # it ends by then, unless it is idle
         self.paused_until: int = 0
-        self.processes: set[Process] = set()  # that there are
+        self.processes: set[SimulatedProcess] = set()  # that there are
         self.to_member, self.to_watchdog = Line(member.soon), Line(self.soon)
 
     # What the member asks for.
@@ -144,7 +145,7 @@ class Worker:
         """Work on some partitions must stop. The rest is left, by this token."""
         raise NotImplementedError
 
-    def run(self, token: Token, partitions: frozenset[int]) -> Process:
+    def run(self, token: Token, partitions: frozenset[int]) -> SimulatedProcess:
         """Starts a process."""
         process = self.process_type(self, token, partitions)
         self.processes.add(process)
@@ -156,10 +157,10 @@ class Worker:
 
     # What the member hears.
 
-    def stopped(self, process: Process) -> None:
+    def stopped(self, process: SimulatedProcess) -> None:
         """The process has stopped what it was told to stop first."""
 
-    def gone(self, process: Process) -> None:
+    def gone(self, process: SimulatedProcess) -> None:
         """The process is gone, with all that it has started."""
         raise NotImplementedError
 
@@ -198,7 +199,7 @@ class Whole(Worker):
 
     def __init__(self, member: Member) -> None:
         super().__init__(member)
-        self.process: Process | None = None
+        self.process: SimulatedProcess | None = None
         self.wanted = Token(0), frozenset[int]()  # what it is to work on
         self.owed = frozenset[int]()  # the partitions whose end is yet to be reported
 
@@ -228,7 +229,7 @@ class Whole(Worker):
             if wanted and self.simulation.happens('a worker is paused while it starts anew', trouble.restart_pauses):
                 self.pause(self.simulation.now + self.simulation.some(1.0))
 
-    def gone(self, process: Process) -> None:
+    def gone(self, process: SimulatedProcess) -> None:
         if process is self.process:
             self.process = None
             if process.is_told:
@@ -243,7 +244,7 @@ class Each(Worker):
 
     def __init__(self, member: Member) -> None:
         super().__init__(member)
-        self.running: dict[int, Process] = {}
+        self.running: dict[int, SimulatedProcess] = {}
 
     def start(self, token: Token, owned: frozenset[int], added: frozenset[int]) -> None:
         self.running.update((each, self.run(token, frozenset([each]))) for each in sorted(added))
@@ -252,7 +253,7 @@ class Each(Worker):
         for each in sorted(stopped):
             self.tell(partial(self.running[each].hear_stop, frozenset([each])))
 
-    def gone(self, process: Process) -> None:
+    def gone(self, process: SimulatedProcess) -> None:
         (partition,) = process.begun_with
         if self.running.get(partition) is process:
             del self.running[partition]
@@ -267,7 +268,7 @@ class Talk(Worker):
 
     def __init__(self, member: Member) -> None:
         super().__init__(member)
-        self.process: Process | None = None
+        self.process: SimulatedProcess | None = None
         self.has = frozenset[int]()  # what it was told to work on, and hasn't stopped
         self.stops: Deque[frozenset[int]] = deque()  # what it has yet to stop, by lines
         self.stops_all = self.simulation.choice.random() < 0.3
@@ -284,11 +285,11 @@ class Talk(Worker):
         self.stops.append(stopped)
         self.tell(partial(self.process.hear_stop, stopped))
 
-    def stopped(self, process: Process) -> None:
+    def stopped(self, process: SimulatedProcess) -> None:
         if process is self.process:
             self.end(self.stops.popleft())
 
-    def gone(self, process: Process) -> None:
+    def gone(self, process: SimulatedProcess) -> None:
         if process is self.process:
             self.process = None
             self.stops.clear()

@@ -6,12 +6,12 @@ import os
 import subprocess
 import sys
 from collections.abc import Callable
+from functools import partial
 from pathlib import Path
 
 from bully.epochs import Token
 from places import PYTHON, environment
-from ..groups import Group
-from ..soaking import Recorded
+from ..groups import Group, Work
 from ..waiting import PATIENCE, wait_until
 from .folders import WithFolder
 
@@ -28,14 +28,6 @@ sys.exit(main(sys.argv[1:]))
 """
 
 
-class Stubborn(Recorded):
-    """Workers work on for as long as they may once they are told to stop."""
-
-    def __init__(self, folder: Path, partitions: int) -> None:
-        super().__init__(folder, partitions)
-        self.worker = ['sh', '-c', 'trap "" TERM; exec "$@"', 'sh', *self.worker]
-
-
 class LostFiles(WithFolder):
     """Whatever is done to the file and to those beside it: no two work on a partition, and no token comes again."""
 
@@ -48,14 +40,13 @@ class LostFiles(WithFolder):
         """Members of three of four nodes work, and another one is ready."""
         stores = dict.fromkeys(['', *OLD, NEW], f'sqlite:{self.path}')
         self.group = group = Group(
-            self.folder, stores, TTL, names=OLD + NEW, partitions=6, words=['--stop-seconds', '1'], work=Stubborn,
-            init=['--rebalance', mode],
+            self.folder, stores, TTL, names=OLD + NEW, partitions=6, words=['--stop-seconds', '1'],
+            work=partial(Work, worker='stubborn'), init=['--rebalance', mode],
         )  # fmt: skip
-        assert isinstance(group.work, Recorded)
         self.addCleanup(group.work.close)
         self.addCleanup(group.close)
         group.become_stable('the start', lambda: group.begin_all(OLD))
-        self.assertEqual(group.failed, 0)
+        self.assertEqual(group.counts.failed, 0)
         return group
 
     def another(self, path: Path) -> subprocess.Popen[bytes]:

@@ -7,7 +7,7 @@ import unittest
 from collections.abc import Iterable, Sequence
 from typing import Any
 
-from ..acts import PREMISES, Act, act_of
+from ..premises import PREMISES, Act, act_of
 from ..monitor import judge
 
 ROWS = ['recover,1', 'recover,2']

@@ -1,4 +1,4 @@
-"""Writes down what a process of a member does: its acts, as lines of a file of its own (`acts.py`).
+"""Writes down what a process of a member does: its acts, as lines of a file of its own (`premises.py`).
 
 Each line is written at once, by one call of the system, since whoever writes may be killed at any moment: so only the
 last line of a file may not be whole.
@@ -14,12 +14,13 @@ from bully.clocks import nanoseconds_of_boot
 
 # The kernel's clock of leases. `clock_rate.c` shows it so, and has a process's own clock run at another rate.
 KERNELS = time.CLOCK_BOOTTIME if 'CLOCK_RATE' not in os.environ else 9
+AHEAD = int(os.environ.get('ACTS_AHEAD', 0))  # nanoseconds by which that is ahead in the time namespace of this process
 FOLDER, OF = 'ACTS_FOLDER', 'ACTS_OF'  # of the environment: where acts are kept, and of which member's process they are
 
 
 def moment() -> int:
     """By the kernel's clock of leases, whatever that of this process shows."""
-    return time.clock_gettime_ns(KERNELS)
+    return time.clock_gettime_ns(KERNELS) - AHEAD
 
 
 def reading() -> list[int]:

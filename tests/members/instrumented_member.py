@@ -1,9 +1,10 @@
 """`bully-member`, which also writes down what it does: each call on the rules of its member, and each call of the log.
 
-    python -m members.acting FOLDER WORDS OF BULLY-MEMBER ..
+    python -m members.instrumented_member FOLDER WORDS OF BULLY-MEMBER ..
 
 The package isn't changed for that: what is between driver and rules, and between driver and log, is wrapped here, and
-the watchdog is that of `acting_watchdog.py`. The acts go into a file of FOLDER. `acts.py` says which there are.
+the watchdog is that of `instrumented_watchdog.py`. The acts go into a file of FOLDER. `premises.py` says which there
+are.
 """
 from __future__ import annotations
 
@@ -23,9 +24,9 @@ from bully.faults import BullyError
 from bully.shared_log import Holder, Known, Log, Snapshot, Unanswered
 from bully.values import Line
 
-from .acted import FOLDER, OF, Pen, living_below, moment
+from .instrumentation import FOLDER, OF, Pen, living_below, moment
 
-WATCHDOG = str(Path(__file__).with_name('acting_watchdog.py'))
+WATCHDOG = str(Path(__file__).with_name('instrumented_watchdog.py'))
 CALLS = {
     Request.ACQUIRE: 'acquire', Request.RENEW: 'renew', Request.RELEASE: 'release', Request.SNAPSHOT: 'snapshot',
     Request.PROMISE: 'promise', Request.APPEND: 'append', Request.ROLL_OVER: 'roll_over', Request.FOLLOW: 'opening',
@@ -56,13 +57,13 @@ def shown_holders(holders: Mapping[str, Holder]) -> Told:
 # ---- Calls on the rules
 
 
-class ActedCore(Core):
+class InstrumentedCore(Core):
     """The rules of a member. Each call that changes them is written down, with what they are then."""
 
     def __init__(self, opening: CoreOpening, process: int, ttl: int) -> None:
         super().__init__(opening, process, ttl)
         about = shown_opening(opening)
-        note('starts', moment(), process=process, name=ActedMember.acts_for, ttl=ttl, **about, **self._now())
+        note('starts', moment(), process=process, name=InstrumentedMember.acts_for, ttl=ttl, **about, **self._now())
 
     def _now(self) -> Told:
         """The epoch, the end of its log, until when the lease is sure, and the number of the session that is live."""
@@ -166,7 +167,7 @@ def shown_answer(answer: object) -> object:
     return {'epoch': answer.epoch, 'is_paused': answer.maintenance.is_paused, **told}
 
 
-class ActedLog:
+class InstrumentedLog:
     """A log. Of the calls that requests of the rules are, each is written down as `asks`, and what came of it as
     `gave`."""
 
@@ -194,14 +195,14 @@ class ActedLog:
 # ---- The command
 
 
-class ActedMember(member.Member):
+class InstrumentedMember(member.Member):
     """A member over such a log."""
 
     acts_for = ''  # the name of its node
 
     def __init__(self, log: Log, node: int | str, *more: Any, **named: Any) -> None:
-        ActedMember.acts_for = str(node)
-        super().__init__(ActedLog(log), node, *more, **named)  # type: ignore[arg-type]
+        InstrumentedMember.acts_for = str(node)
+        super().__init__(InstrumentedLog(log), node, *more, **named)  # type: ignore[arg-type]
 
 
 def main() -> int:
@@ -209,8 +210,8 @@ def main() -> int:
     os.environ[FOLDER], os.environ[OF] = sys.argv[1], f'{os.getpid()}-{moment()}'
     pens.append(Pen())
     worker.WATCHDOG = WATCHDOG
-    setattr(driver, 'Core', ActedCore)
-    setattr(command, 'Member', ActedMember)
+    setattr(driver, 'Core', InstrumentedCore)
+    setattr(command, 'Member', InstrumentedMember)
     return command.main(sys.argv[2:])
 
 

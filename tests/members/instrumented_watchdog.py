@@ -1,6 +1,6 @@
 """The watchdog of a member whose acts are written down: `bully.watchdog`, which also writes down the workers that it
 starts, what these are told and answer, the ends that it reports, and that a member is gone before its lease is released
-(`acts.py`).
+(`premises.py`).
 """
 from __future__ import annotations
 
@@ -21,14 +21,14 @@ if __name__ == '__main__':  # `bully` without its __init__, as in the watchdog i
 
 from bully import releasing, watchdog
 
-from members.acted import Pen, living_below, moment
+from members.instrumentation import Pen, living_below, moment
 
 RELEASE = releasing.release
 pen: Pen  # of this process, once it runs
-keepers: list[ActedKeeper] = []  # the last one is that of this process, if it is one
+keepers: list[InstrumentedKeeper] = []  # the last one is that of this process, if it is one
 
 
-class ActedWorker(watchdog.Worker):
+class InstrumentedWorker(watchdog.Worker):
     """A worker whose start is written down, and what it is told and answers."""
 
     def __init__(self, words: Sequence[str], environment: list[bytes], talks: bool) -> None:
@@ -53,7 +53,7 @@ class ActedWorker(watchdog.Worker):
         return count
 
 
-class ActedKeeper(watchdog.Keeper):
+class InstrumentedKeeper(watchdog.Keeper):
     """A keeper that notes when it was asked to begin, before it looks at its clock."""
 
     asked, begins = 0, b''
@@ -83,7 +83,7 @@ def release(told: bytes, seconds: float) -> None:
 
 if __name__ == '__main__':
     pen = Pen()
-    setattr(watchdog, 'Worker', ActedWorker)
-    setattr(watchdog, 'Keeper', ActedKeeper)
+    setattr(watchdog, 'Worker', InstrumentedWorker)
+    setattr(watchdog, 'Keeper', InstrumentedKeeper)
     setattr(releasing, 'release', release)
     watchdog.main()
