@@ -14,7 +14,7 @@ from typing import Any, Deque, NamedTuple
 from .clocks import seconds_of_boot
 from .core import Promise, Session
 from .display import shown_name, time_text
-from .epochs import TTL, Token
+from .epochs import COOPERATIVE, EAGER, TTL, Token
 from .observer import Observer, Owner, Table
 from .shared_log import Holder, Log, LogError, Snapshot
 from .values import Status
@@ -94,7 +94,7 @@ class NodeView:
     partitions: tuple[int, ...]
 
     @property
-    def told_live(self) -> str:
+    def live_text(self) -> str:
         """Whether it is live, drained, or gave up, and whether its worker fails, for people."""
         drained = ', drained' * self.is_drained + ', gave up' * self.gave_up
         return ('yes' if self.is_live else 'no') + drained + ', its worker fails' * self.is_failing
@@ -136,7 +136,7 @@ class GroupView:
     @property
     def mode(self) -> str:
         """What its changes stop, in a word."""
-        return 'cooperative' if self.is_cooperative else 'eager'
+        return COOPERATIVE if self.is_cooperative else EAGER
 
     @property
     def is_changing(self) -> bool:
@@ -149,15 +149,15 @@ class GroupView:
         return self.is_stable and None not in self.owners and not any(node.is_failing for node in self.nodes)
 
     @property
-    def told_more(self) -> str:
+    def more_text(self) -> str:
         """Whether the group is paused, for which nodes a change waits, and how many partitions move, for people."""
         paused = '; paused: members that work continue, and nobody rebalances' if self.is_frozen else ''
         first = '; paused once the change under way is complete' if self.is_paused and not self.is_frozen else ''
-        late, moved = ', '.join(map(self._told_late, self.behind)), f'{self.moves} of {len(self.partitions)} partitions'
+        late, moved = ', '.join(map(self._late_text, self.behind)), f'{self.moves} of {len(self.partitions)} partitions'
         what = 'not stopped yet' if self.is_cooperative else 'not idle yet'
         return paused + first + (f'; {moved} move' if self.moves else '') + (f'; {what}: {late}' if late else '')
 
-    def _told_late(self, name: str) -> str:
+    def _late_text(self, name: str) -> str:
         """For how long a change has waited for that node, and in a cooperative group on which partitions it stops."""
         seconds, stops = f'for {self.behind[name]:.1f} s', ' '.join(map(str, self.stops.get(name, ())))
         return (
