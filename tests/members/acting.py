@@ -17,6 +17,7 @@ from pathlib import Path
 from typing import Any
 
 from bully import command, driver, member, worker
+from bully.commands import run
 from bully.core import Ask, Begin, Core, CoreOpening, Live, Promise, Request, Seen, Session, Step, StoreAnswer
 from bully.epochs import Opening, Token
 from bully.faults import BullyError
@@ -210,7 +211,7 @@ def main() -> int:
     pens.append(Pen())
     worker.WATCHDOG = WATCHDOG
     setattr(driver, 'Core', ActedCore)
-    setattr(command, 'Member', ActedMember)
+    setattr(run, 'Member', ActedMember)
     return command.main(sys.argv[2:])
 
 

@@ -425,7 +425,7 @@ class Maintained(Threads):
         self.addCleanup(shown.close)
         group = shown.show()
         self.assertEqual(
-            ([node.told_live for node in group.nodes], group.is_well), (['yes', 'no, drained', 'yes'], True)
+            ([node.live_text for node in group.nodes], group.is_well), (['yes', 'no, drained', 'yes'], True)
         )
         operations.undrain(self.log, '2')
         self.become_stable(1, 2, 3)

@@ -161,7 +161,7 @@ class Operated(Grouped):
         group = shown.show()
         self.assertEqual((list(group.behind), group.is_paused, group.is_frozen), (['a'], True, False))
         told = '; paused once the change under way is complete; 3 of 12 partitions move; not stopped yet: a on '
-        self.assertTrue(group.told_more.startswith(told), group.told_more)
+        self.assertTrue(group.more_text.startswith(told), group.more_text)
         slow.may_stop.set()
         wait_until(lambda: self.is_shared('abcd'))
         self.assertEqual(

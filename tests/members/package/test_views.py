@@ -6,7 +6,8 @@ import random
 import re
 from unittest import mock
 
-from bully import command, observer, view
+from bully import observer, view
+from bully.commands import status
 from bully.clocks import SECOND
 from bully.core import TTL_MIN, Promise, Session
 from bully.epochs import Opening, Token
@@ -79,9 +80,9 @@ class Slowly(Grouped):
         """In words of the command, which reads again until it has seen for long enough who came."""
         self.slowed()
         said: list[str] = []
-        with mock.patch.object(command, 'store_of') as store, mock.patch('builtins.print', said.append):
+        with mock.patch.object(status, 'store_of') as store, mock.patch('builtins.print', said.append):
             store().open.return_value, store().told_readers = self.log, ''
-            self.assertEqual(command.status_command(mock.Mock(json=False, watch=None)), 1)
+            self.assertEqual(status.status(mock.Mock(json=False, watch=None)), 1)
         group = self.viewed(self.log, self.members['b'][0].behind).show()
         (moving,) = group.stops['a']
         lines = said[0].splitlines()
@@ -247,7 +248,7 @@ class Stored(Viewed):
         stopping = self.seen_doing(group, Doing.STOPPING)
         self.assertEqual((len(stopping), set(stopping.values())), (8, {('a', None), ('c', None)}))
         self.assertEqual(set(self.seen_doing(group, Doing.WAITING).values()), {(None, None)})
-        self.assertRegex(group.told_more, '^; not idle yet: a for [0-9.]+ s, c for [0-9.]+ s$')
+        self.assertRegex(group.more_text, '^; not idle yet: a for [0-9.]+ s, c for [0-9.]+ s$')
 
     def test_who_is_affected(self) -> None:
         """By the proved rules those are affected, in any state, that lose something by the coming table; or all that
