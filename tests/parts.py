@@ -41,9 +41,15 @@ class Part(NamedTuple):
         return {'short': self.short, 'whole': self.whole, 'full': self.full or self.whole}[how]
 
 
+def simulated(name: str, words: str, short: int, whole: int, full: int) -> Part:
+    """Simulations of members up to these seeds."""
+    seeds = {'short': f'--to {short}', 'whole': f'--to {whole}', 'full': f'--to {full}'}
+    return Part(name, f'tests/members/run simulate BUILT/library{words}', 'library', limit=LONG, **seeds)
+
+
 NONE = 'none'
+LONG = 7200
 FIRST = ('library', 'bully', 'bully_workbench')
-MEMBERS = 'tests/members/run simulate BUILT/library'
 PARTS = [
     Part('snippets', 'tests/snippets/compare'),
     Part('promises', 'tests/promises/compare'),
@@ -55,35 +61,44 @@ PARTS = [
     Part('c', 'bindings/c/try BUILT/library', 'library', 'gcc g++'),
     Part('rust', 'bindings/rust/try BUILT/library BUILT/bully_workbench', 'library bully_workbench', 'cargo'),
     Part('package', 'tests/members/run package BUILT/library', 'library'),
-    Part('rules', 'tests/members/run rules BUILT/library', 'library', short='--rebalance 100 --restarts 4 --forgetful 4 --manners 3',
-         full='--rebalance 5000 --restarts 100 --forgetful 1000 --manners 300', limit=7200),
+    Part('rules', 'tests/members/run rules BUILT/library', 'library',
+         short='--rebalance 100 --restarts 4 --forgetful 4 --manners 3',
+         full='--rebalance 5000 --restarts 100 --forgetful 1000 --manners 300', limit=LONG),
     # (those that were found the longest ago; in full all, and those of the rules, for each of which a library is built)
-    Part('bugs', 'tests/members/run wrong BUILT/library --jobs 4', 'library', short='--turn', whole='--turn', full='file', limit=7200),
-    Part('bugs-of-rules', 'tests/members/run wrong BUILT/library --edited BUILT/edited .edit', 'library', short=NONE, whole=NONE,
-         full='--jobs 2', limit=7200),
-    Part('members', MEMBERS, 'library', short='--to 60', whole='--to 300', full='--to 10000', limit=7200),
-    Part('epochs', f'{MEMBERS} --epochs', 'library', short='--to 60', whole='--to 300', full='--to 10000', limit=7200),
-    Part('over-etcd', f'{MEMBERS} --over-etcd', 'library', short='--to 20', whole='--to 100', full='--to 10000', limit=7200),
-    Part('epochs-over-etcd', f'{MEMBERS} --over-etcd --epochs', 'library', short='--to 12', whole='--to 60', full='--to 3000', limit=7200),
-    Part('told', f'{MEMBERS} --told', 'library', short='--to 12', whole='--to 60', full='--to 3000', limit=7200),
-    Part('cooperating', 'tests/members/run cooperating BUILT/library', 'library', short='--to 25', whole='--to 100', full='--to 3000', limit=7200),
+    Part('bugs', 'tests/members/run wrong BUILT/library --jobs 4', 'library',
+         short='--turn', whole='--turn', full='file', limit=LONG),
+    Part('bugs-of-rules', 'tests/members/run wrong BUILT/library --edited BUILT/edited .edit', 'library',
+         short=NONE, whole=NONE, full='--jobs 2', limit=LONG),
+    simulated('members', '', 60, 300, 10_000),
+    simulated('epochs', ' --epochs', 60, 300, 10_000),
+    simulated('over-etcd', ' --over-etcd', 20, 100, 10_000),
+    simulated('epochs-over-etcd', ' --over-etcd --epochs', 12, 60, 3_000),
+    simulated('told', ' --told', 12, 60, 3_000),
+    Part('cooperating', 'tests/members/run cooperating BUILT/library', 'library',
+         short='--to 25', whole='--to 100', full='--to 3000', limit=LONG),
     Part('etcd', 'tests/members/run compare BUILT/library', 'library', 'etcd', short='--requests 1000 --logs 300'),
-    Part('kills', 'tests/members/run try BUILT/library', 'library', short='--kills 2 --pauses 2 --epochs 1 --maintenance 1 --share 3',
-         whole='--kills 4 --pauses 6 --share 3', full='--kills 100 --pauses 50 --share 1', limit=7200),
+    Part('kills', 'tests/members/run try BUILT/library', 'library',
+         short='--kills 2 --pauses 2 --epochs 1 --maintenance 1 --share 3',
+         whole='--kills 4 --pauses 6 --share 3', full='--kills 100 --pauses 50 --share 1', limit=LONG),
     Part('kills-cooperating', 'tests/members/run try BUILT/library --cooperative --kind each', 'library',
-         short='--kills 1 --pauses 1 --epochs 1 --maintenance 1 --share 4', whole='--kills 2 --pauses 3 --epochs 1 --maintenance 1 --share 4',
-         full='--kills 50 --pauses 25 --share 1', limit=7200),
+         short='--kills 1 --pauses 1 --epochs 1 --maintenance 1 --share 4',
+         whole='--kills 2 --pauses 3 --epochs 1 --maintenance 1 --share 4',
+         full='--kills 50 --pauses 25 --share 1', limit=LONG),
     Part('premises', 'tests/members/run premises BUILT/library', 'library'),
     Part('premises-cooperating', 'tests/members/run premises BUILT/library --cooperative --kind each', 'library'),
-    Part('premises-over-etcd', 'tests/members/run premises BUILT/library --store etcd --cooperative --kind talk', 'library', 'etcd'),
+    Part('premises-over-etcd', 'tests/members/run premises BUILT/library --store etcd --cooperative --kind talk',
+         'library', 'etcd'),
     Part('rates', 'tests/members/run rates BUILT/library', 'library', short=NONE),
     Part('rates-over-etcd', 'tests/members/run rates BUILT/library --store etcd', 'library', 'etcd', NONE),
-    Part('network', 'tests/members/run network BUILT/library', 'library', 'etcd', '--faults 4', '--faults 8', '--faults 100', limit=7200),
+    Part('network', 'tests/members/run network BUILT/library', 'library', 'etcd',
+         '--faults 4', '--faults 8', '--faults 100', limit=LONG),
     Part('soak', 'tests/members/run soak BUILT/library', 'library', short=NONE, whole=NONE, full='--seconds 20'),
-    Part('soak-over-etcd', 'tests/members/run soak BUILT/library --store etcd', 'library', 'etcd', NONE, NONE, '--seconds 20'),
-    Part('soak-cooperating', 'tests/members/run soak BUILT/library --cooperative --kind talk', 'library', short=NONE, whole=NONE, full='--seconds 20'),
+    Part('soak-over-etcd', 'tests/members/run soak BUILT/library --store etcd', 'library', 'etcd',
+         NONE, NONE, '--seconds 20'),
+    Part('soak-cooperating', 'tests/members/run soak BUILT/library --cooperative --kind talk', 'library',
+         short=NONE, whole=NONE, full='--seconds 20'),
     Part('python', 'bindings/python/try BUILT/library --simulator BUILT/bully_workbench', 'library bully_workbench',
-         short='--seeds 60', whole='--seeds 200', full='--seeds 1000', limit=7200),
+         short='--seeds 60', whole='--seeds 200', full='--seeds 1000', limit=LONG),
     Part('memory', 'tests/hostile/memory', 'bully_workbench', 'rustc'),
     # (the gate runs these by itself)
     Part('programs', 'tests/programs', 'bully bully_workbench', whole=NONE),
@@ -92,7 +107,8 @@ PARTS = [
     Part('logging', 'tests/logging/try', 'bully'),
     Part('terminal', 'tests/terminal/try', 'bully'),
     *(Part(name, f'tests/hostile/outside {name}', 'bully', 'rustc') for name in ('requests', 'spoiled', 'annotated')),
-    Part('processes', 'tests/processes/try BUILT/library', 'library bully', short='1 10', whole='2 20', full='10 100', limit=7200),
+    Part('processes', 'tests/processes/try BUILT/library', 'library bully',
+         short='1 10', whole='2 20', full='10 100', limit=LONG),
     Part('nodes', 'tests/cluster/simulate', 'bully bully_workbench', 'rustc', '60', '300', '300'),
     Part('release', 'tests/release/try BUILT/library BUILT/bully', 'library bully'),
 ]  # fmt: skip

@@ -156,9 +156,8 @@ def run_program(name: str, words: List[str], say: Say) -> NoReturn:
     crates = read_crates()
     crate = crate_of(crates, name, 'program')
     if name == 'bully' and not crate.product.exists():
-        say(
-            f'to use it, take the archive cinnabarloom-{version_of_all()}-x86_64-linux.tar.gz of a release, which has it built'
-        )
+        archive = f'cinnabarloom-{version_of_all()}-x86_64-linux.tar.gz'
+        say(f'to use it, take the archive {archive} of a release, which has it built')
     bring(crate.product, crates, crate, say, build_all)
     give_back_streams()
     become([str(crate.product), *words])

@@ -14,7 +14,8 @@ from typing import NamedTuple, Union
 from .adapter import Leases, awaited, core_opening_of, known_of, needs_promises, note_leaving, seen_of
 
 from .core import (
-    Activity, Ask, BackOff, Begin, Core, End, Ending, Live, Promise, Reason, Request, Seen, Stop, StoreAnswer, Until, Wait,
+    Activity, Ask, BackOff, Begin, Core, End, Ending, Live, Promise, Reason, Request, Seen, Stop, StoreAnswer, Until,
+    Wait,
 )  # fmt: skip
 from .epochs import Opening
 from .shared_log import Holder, Known, Log, Sessions, Snapshot

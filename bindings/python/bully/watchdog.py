@@ -9,7 +9,8 @@ dropped, by both sides. The member sends
     until NS                 until when its work is sure, in nanoseconds of CLOCK_BOOTTIME
     part WORDS               words before those of the next `share` or `begin`, because a message hasn't room for all
     share WORDS              words before those of each `begin` from now on
-    begin KEY SERIAL WORDS   starts that process with these words: NAME=VALUE for its environment, separated by zero bytes
+    begin KEY SERIAL WORDS   starts that process with these words: NAME=VALUE for its environment, separated by zero
+                             bytes
     stop KEY SERIAL          stops it: by SIGTERM, and after PATIENCE seconds by SIGKILL
     release WORDS            the lease that is released when the member is gone (`bully.releasing`); none without words
 
