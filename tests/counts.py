@@ -37,6 +37,11 @@ class Counts:
         if status and not failed:
             self.hold(False, f'{command} ended with status {status}')
 
+    def join(self, others: 'Counts') -> None:
+        """Adds what these counted."""
+        self.passed, self.failed = self.passed + others.passed, self.failed + others.failed
+        self.skipped += others.skipped
+
     def last(self) -> str:
         return f'{self.passed} passed, {self.failed} failed' + (f', {self.skipped} skipped' if self.skipped else '')
 

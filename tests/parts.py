@@ -22,8 +22,10 @@ from counts import Counts
 class Part(NamedTuple):
     """A command that counts by itself, in which BUILT stands for the folder of what is tried, and KIT for the kit; what
     of that it needs; the tools without which it is skipped; its words more in `bin/test`, in `bin/prove`, and for
-    `--full`; after how many seconds it is ended; and a crate for whose proof it waits, over which it has the prover
-    work. One of an option alone says so by `none` in the place of the words of the others."""
+    `--full`; after how many seconds it is ended; a crate for whose proof it waits, over which it has the prover work;
+    and whether its processes depend on time. A busy machine may starve such processes: if the part fails, it is run
+    once more after all others, with nothing beside it, and that run counts. One of an option alone says so by `none` in
+    the place of the words of the others."""
 
     name: str
     words: str
@@ -34,6 +36,7 @@ class Part(NamedTuple):
     full: str = ''
     limit: int = 1800
     proved: str = ''
+    is_timed: bool = False
 
     def more(self, how: str) -> str:
         """The words more of a way to run it: `short`, `whole`, or `full`, which are those of `whole` if it has none of
@@ -79,24 +82,27 @@ PARTS = [
     Part('etcd', 'tests/members/run compare BUILT/library', 'library', 'etcd', short='--requests 1000 --logs 300'),
     Part('kills', 'tests/members/run try BUILT/library', 'library',
          short='--kills 2 --pauses 2 --epochs 1 --maintenance 1 --share 3',
-         whole='--kills 4 --pauses 6 --share 3', full='--kills 100 --pauses 50 --share 1', limit=LONG),
+         whole='--kills 4 --pauses 6 --share 3', full='--kills 100 --pauses 50 --share 1', limit=LONG, is_timed=True),
     Part('kills-cooperating', 'tests/members/run try BUILT/library --cooperative --kind each', 'library',
          short='--kills 1 --pauses 1 --epochs 1 --maintenance 1 --share 4',
          whole='--kills 2 --pauses 3 --epochs 1 --maintenance 1 --share 4',
-         full='--kills 50 --pauses 25 --share 1', limit=LONG),
-    Part('premises', 'tests/members/run premises BUILT/library', 'library'),
-    Part('premises-cooperating', 'tests/members/run premises BUILT/library --cooperative --kind each', 'library'),
+         full='--kills 50 --pauses 25 --share 1', limit=LONG, is_timed=True),
+    Part('premises', 'tests/members/run premises BUILT/library', 'library', is_timed=True),
+    Part('premises-cooperating', 'tests/members/run premises BUILT/library --cooperative --kind each', 'library',
+         is_timed=True),
     Part('premises-over-etcd', 'tests/members/run premises BUILT/library --store etcd --cooperative --kind talk',
-         'library', 'etcd'),
-    Part('rates', 'tests/members/run rates BUILT/library', 'library', short=NONE),
-    Part('rates-over-etcd', 'tests/members/run rates BUILT/library --store etcd', 'library', 'etcd', NONE),
+         'library', 'etcd', is_timed=True),
+    Part('rates', 'tests/members/run rates BUILT/library', 'library', short=NONE, is_timed=True),
+    Part('rates-over-etcd', 'tests/members/run rates BUILT/library --store etcd', 'library', 'etcd', NONE,
+         is_timed=True),
     Part('network', 'tests/members/run network BUILT/library', 'library', 'etcd',
-         '--faults 4', '--faults 8', '--faults 100', limit=LONG),
-    Part('soak', 'tests/members/run soak BUILT/library', 'library', short=NONE, whole=NONE, full='--seconds 20'),
+         '--faults 4', '--faults 8', '--faults 100', limit=LONG, is_timed=True),
+    Part('soak', 'tests/members/run soak BUILT/library', 'library',
+         short=NONE, whole=NONE, full='--seconds 20', is_timed=True),
     Part('soak-over-etcd', 'tests/members/run soak BUILT/library --store etcd', 'library', 'etcd',
-         NONE, NONE, '--seconds 20'),
+         NONE, NONE, '--seconds 20', is_timed=True),
     Part('soak-cooperating', 'tests/members/run soak BUILT/library --cooperative --kind talk', 'library',
-         short=NONE, whole=NONE, full='--seconds 20'),
+         short=NONE, whole=NONE, full='--seconds 20', is_timed=True),
     Part('python', 'bindings/python/try BUILT/library --simulator BUILT/bully_workbench', 'library bully_workbench',
          short='--seeds 60', whole='--seeds 200', full='--seeds 1000', limit=LONG),
     Part('memory', 'tests/hostile/memory', 'bully_workbench', 'rustc'),
@@ -105,10 +111,10 @@ PARTS = [
     Part('tests', 'KIT/bin/rattle-test BUILT/bully_tests', 'bully_tests', whole=NONE),
     Part('cases', 'tests/cases/try', 'bully'),
     Part('logging', 'tests/logging/try', 'bully'),
-    Part('terminal', 'tests/terminal/try', 'bully'),
+    Part('terminal', 'tests/terminal/try', 'bully', is_timed=True),
     *(Part(name, f'tests/hostile/outside {name}', 'bully', 'rustc') for name in ('requests', 'spoiled', 'annotated')),
     Part('processes', 'tests/processes/try BUILT/library', 'library bully',
-         short='1 10', whole='2 20', full='10 100', limit=LONG),
+         short='1 10', whole='2 20', full='10 100', limit=LONG, is_timed=True),
     Part('nodes', 'tests/cluster/simulate', 'bully bully_workbench', 'rustc', '60', '300', '300'),
     Part('release', 'tests/release/try BUILT/library BUILT/bully', 'library bully'),
 ]  # fmt: skip
@@ -170,6 +176,18 @@ class Run:
             said.seek(0)
             return said.read().decode(errors='replace'), status, time.monotonic() - began
 
+    def count(self, part: Part, outcome: Tuple[str, int, float]) -> bool:
+        """Prints what came of a part, and adds its counts, unless it failed and is to be run once more. Returns whether
+        it added them."""
+        said, status, seconds = outcome
+        print(f'{said.rstrip()}\n== {part.name}: {seconds:.0f} s', flush=True)
+        counts = Counts()
+        counts.add(said, status, part.name)
+        if counts.failed and part.is_timed:
+            return False
+        self.counts.join(counts)
+        return True
+
     def run(self, make: Callable[[ThreadPoolExecutor], bool]) -> bool:
         """Runs the parts beside what makes the things that they need, adds their counts, and prints how long all took.
         Returns what that gave. If this command is ended meanwhile, what runs is ended, too; then the parts that wait
@@ -177,14 +195,14 @@ class Run:
         began = time.monotonic()
         with ThreadPoolExecutor(len(self.parts) + len(self.done) + 1) as pool, ExitStack() as behind, self.children:
             behind.callback(self.all_are_done)
-            begun = {pool.submit(self.try_part, part): part.name for part in self.parts}
+            begun = {pool.submit(self.try_part, part): part for part in self.parts}
             is_green = make(pool)
             for _ in range(1, all_jobs()):
                 self.provers.release()  # what the gate had is free
-            for ended in as_completed(begun):
-                said, status, seconds = ended.result()
-                print(f'{said.rstrip()}\n== {begun[ended]}: {seconds:.0f} s', flush=True)
-                self.counts.add(said, status, begun[ended])
+            starved = [part for each in as_completed(begun) if not self.count(part := begun[each], each.result())]
+            for part in starved:
+                print(f'== {part.name} failed beside other work: once more, alone', flush=True)
+                self.count(part._replace(is_timed=False), self.try_part(part))
         own, children = (resource.getrusage(whose) for whose in (resource.RUSAGE_SELF, resource.RUSAGE_CHILDREN))
         processor = sum(each.ru_utime + each.ru_stime for each in (own, children))
         print(f'== all: {time.monotonic() - began:.0f} s, {processor:.0f} s of processor time', flush=True)

@@ -39,7 +39,7 @@ RUN = '''
 import sys
 sys.path[:0] = ['bin', 'tests']
 import gate, parts
-more = {{'left-out': {{'whole': 'none'}}, 'endless': {{'limit': 1}}}}
+more = {{'left-out': {{'whole': 'none'}}, 'endless': {{'limit': 1}}, 'starved': {{'is_timed': True}}}}
 part = lambda name, needs: parts.Part(name, './part ' + name, ' '.join(needs), **more.get(name, {{}}))
 parts.PARTS[:] = [part(*each) for each in {parts!r}]
 counts = gate.prove('whole')
@@ -51,6 +51,8 @@ echo "begin $1" >>ROOM/parts
 [ "$1" != empty ] || { echo '0 passed, 0 failed'; exit; }
 [ "$1" != endless ] || exec sleep 100
 [ "$1" != bad ] || { echo 'no count'; exit 1; }
+[ "$1" != starved ] || [ -e ROOM/fed ] || { touch ROOM/fed; echo '2 passed, 1 failed'; exit 1; }
+[ "$1" != starved ] || [ ! -e ROOM/hungry ] || { echo '1 passed, 2 failed'; exit 1; }
 echo '2 passed, 1 failed'
 [ "$1" = wrong ] || { echo '3 passed, 0 failed'; exit 0; }
 echo '3 passed, 0 failed'; exit 7
@@ -238,6 +240,14 @@ class Gated(unittest.TestCase):
     def test_a_red_part_is_counted_and_nothing_recorded(self) -> None:
         self.assertEqual(self.last_of(('bad', ()), ('wrong', ())), '13 passed, 3 failed')
         self.assertEqual(self.record(), '')
+
+    def test_a_part_that_depends_on_time_is_run_once_more_if_it_fails(self) -> None:
+        self.assertEqual(self.last_of(('starved', ()), ('fine', ())), '16 passed, 0 failed')
+        self.assertEqual(sorted(self.parts_begun().split('\n')), ['', 'begin fine', 'begin starved', 'begin starved'])
+        self.assertEqual(self.parts_begun().split('\n')[-2], 'begin starved')
+        (self.tree.room / 'fed').unlink()
+        (self.tree.room / 'hungry').touch()
+        self.assertEqual(self.last_of(('starved', ()), ('fine', ())), '14 passed, 2 failed')
 
     def test_the_library_is_made_once_what_it_stands_on_is_done_and_counts_only_if_it_fails(self) -> None:
         self.install(
