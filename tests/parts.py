@@ -20,23 +20,20 @@ from counts import Counts
 
 
 class Part(NamedTuple):
-    """A command that counts by itself, in which BUILT stands for the folder of what is tried, and KIT for the kit; what
-    of that it needs; the tools without which it is skipped; its words more in `bin/test`, in `bin/prove`, and for
-    `--full`; after how many seconds it is ended; a crate for whose proof it waits, over which it has the prover work;
-    and whether its processes depend on time. A busy machine may starve such processes: if the part fails, it is run
-    once more after all others, with nothing beside it, and that run counts. One of an option alone says so by `none` in
-    the place of the words of the others."""
+    """A part: a command that counts its tests by itself. Its words for a way to run it are `none` if it doesn't run in
+    that way. A busy machine may starve processes that depend on time: if such a part fails, it is run once more after
+    all others, with nothing beside it, and that run counts."""
 
     name: str
-    words: str
-    needs: str = ''
-    tools: str = ''
-    short: str = ''
-    whole: str = ''
-    full: str = ''
-    limit: int = 1800
-    proved: str = ''
-    is_timed: bool = False
+    words: str  # the command; BUILT stands for the folder of what was built, and KIT for the kit
+    needs: str = ''  # what must be built first
+    tools: str = ''  # the tools without which it is skipped
+    short: str = ''  # further words in `bin/test`
+    whole: str = ''  # further words in `bin/prove`
+    full: str = ''  # further words with `--full`
+    limit: int = 1800  # the seconds after which it is ended
+    proved: str = ''  # a crate for whose proof it waits; it runs the prover over that
+    is_timed: bool = False  # whether its processes depend on time
 
     def more(self, how: str) -> str:
         """The words more of a way to run it: `short`, `whole`, or `full`, which are those of `whole` if it has none of
@@ -193,8 +190,8 @@ class Run:
         Returns what that gave. If this command is ended meanwhile, what runs is ended, too; then the parts that wait
         continue, and start nothing."""
         began = time.monotonic()
-        with ThreadPoolExecutor(len(self.parts) + len(self.done) + 1) as pool, ExitStack() as behind, self.children:
-            behind.callback(self.all_are_done)
+        with ThreadPoolExecutor(len(self.parts) + len(self.done) + 1) as pool, ExitStack() as closing, self.children:
+            closing.callback(self.all_are_done)
             begun = {pool.submit(self.try_part, part): part for part in self.parts}
             is_green = make(pool)
             for _ in range(1, all_jobs()):

@@ -126,11 +126,14 @@ def hand_on(tool: str) -> NoReturn:
 def run_beside(
     needs: Dict[str, List[str]], length: Dict[str, int], run: Callable[[str, int], object], children: Children
 ) -> Iterator[str]:
-    """Does each task once those that it needs are done, those of long chains first, and tells its name when it is done.
-    `length` has, as a guess, how long the chain of tasks is that begins with it. `run` is given how many processes a
-    task may use: up to two if its chain is three fifths of the longest that is left or more, else one; and the first
-    what the others that are ready leave of the cores. At most as many tasks as cores are under way, in at most two
-    processes more than cores, and fewer of both if memory is short: each reads alone at first."""
+    """Runs each task once those that it needs are done, and yields its name when it is done. A chain is a task and
+    those that need it, one after the other; `length` estimates how long the longest chain of each task takes. Tasks of
+    long chains start first.
+
+    `run` gets a task, and how many processes it may use: one; or two, if its chain is at least three fifths of the
+    longest one that is left. If fewer tasks are ready than cores are free, a task gets the other cores, too. So many
+    tasks run at the same time as there are cores, at most, and in all they use up to two more processes than that,
+    because each reads alone at first. If memory is short there are fewer of both."""
     tasks, cores, most = TopologicalSorter(needs), all_jobs(), all_jobs(2)
     tasks.prepare()
     ready: List[str] = []

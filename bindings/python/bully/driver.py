@@ -1,5 +1,5 @@
-"""Drives a core: what each step of its rules asks of the log and of the work, and what the core is told of what came of
-it.
+"""Drives a core: makes calls of the log, and starts and stops of work, of the steps that its rules ask for, and reports
+to it what came of them.
 
 A driver has no thread, no clock and does no IO. Whoever has a driver takes its next step, does that, and reports what
 came of it: `bully.member` over a log and a clock, and the tests in simulated time.
@@ -148,7 +148,7 @@ class Driver:
         return Start(owned, planner, self.working - before)
 
     def _stop(self) -> StopWork:
-        """What it may not go on with, and wasn't told to stop before."""
+        """What it may not go on with, and wasn't asked to stop before."""
         before = self.stopping
         self._look()
         return StopWork(self.stopping - before)

@@ -39,13 +39,13 @@ def told_command(words: Sequence[str], more: Mapping[str, str]) -> bytes:
     return json.dumps({'command': words, 'more': dict(more)}).encode()
 
 
-def release(told: bytes, seconds: float) -> None:
+def release(message: bytes, seconds: float) -> None:
     """Releases the lease. This process ends after so many seconds, at most, or becomes the command: a lease that isn't
     released by then ends by itself."""
     signal.signal(signal.SIGALRM, signal.SIG_DFL)
     signal.setitimer(signal.ITIMER_REAL, seconds)
     try:
-        what = json.loads(told)
+        what = json.loads(message)
         if 'file' in what:
             release_from_file(what['file'], what['log'], what['node'], what['session'], seconds)
         else:

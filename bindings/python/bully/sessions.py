@@ -72,7 +72,7 @@ def session_in(path: str) -> Session | None:
 
 
 def releases_of(options: argparse.Namespace, store: Store, log: Log) -> Callable[[Session], bytes] | None:
-    """What the watchdog of a member is told of a session, to release its lease: for a file what it needs itself, and
+    """What the watchdog of a member hears of a session, to release its lease: for a file what it needs itself, and
     otherwise the words of a command."""
     if isinstance(store, FileStore):
         from .sqlite import SqliteLog

@@ -434,7 +434,7 @@ class Keeper(Watchdog):
                 self.go_on_with(self.worker, words, is_late)
 
     def go_on_with(self, worker: Worker, words: bytes, is_late: bool) -> None:
-        """The worker works from now on; or is killed at once, and isn't told of work whose time is over."""
+        """The worker works from now on; or is killed at once, and doesn't hear of work whose time is over."""
         worker.has_work = True
         if not is_late:
             worker.tell(words)
@@ -693,7 +693,7 @@ class Sentinel:
 
 
 def release(watchdog: Watchdog) -> None:
-    """Releases the lease of a member that is gone, if it was told how."""
+    """Releases the lease of a member that is gone, if it knows how."""
     if watchdog.release:
         from bully import releasing  # it takes much memory
 
