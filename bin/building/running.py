@@ -17,6 +17,8 @@ from .crates import ROOT, Stopped
 # Where `apart` keeps the streams of the call, of those that were open.
 KEPT = {stream: kept for stream, kept in ((0, 7), (1, 8), (2, 9)) if Path(f'/dev/fd/{kept}').exists()}
 
+SHOWN_MAX = 20  # lines that are shown of what failed
+
 
 def give_way(process: int) -> None:
     """Has others be served before this process and those that it begins."""
@@ -28,8 +30,8 @@ def give_way(process: int) -> None:
 def all_jobs(more: int = 0) -> int:
     """As many processes of the prover as there are cores, or some more; but one for each 3 GB of free memory, and one
     at least."""
-    most, told = len(os.sched_getaffinity(0)) + more, Path('/proc/meminfo').read_text()
-    free = re.search(r'^MemAvailable: *(\d+) kB$', told, re.MULTILINE)
+    most, memory = len(os.sched_getaffinity(0)) + more, Path('/proc/meminfo').read_text()
+    free = re.search(r'^MemAvailable: *(\d+) kB$', memory, re.MULTILINE)
     return max(1, min(most, int(free[1]) // 3_000_000 if free else most))
 
 
@@ -70,15 +72,13 @@ class Children:
             return self.begun[-1]
 
     def run(self, words: Sequence[str], folder: Path, said: Path) -> bool:
-        """Whether these words, run in a folder, end with status 0. What they say goes into a file, and is told if they
-        don't."""
+        """Whether these words, run in a folder, end with status 0. What they print goes into a file; if they fail, it
+        is shown (`failure_text`)."""
         with said.open('ab') as out:
             status = self.begin(words, folder, out).wait()
         if status and not self.is_ending:
-            sys.stderr.write(
-                said.read_text(errors='replace')
-                + (f'{Path(words[0]).name} was ended by signal {-status}\n' if status < 0 else '')
-            )
+            by_signal = f'{Path(words[0]).name} was ended by signal {-status}\n' if status < 0 else ''
+            sys.stderr.write(failure_text(said) + by_signal)
         return status == 0
 
     def end(self, *_: object) -> None:
@@ -98,6 +98,19 @@ class Children:
         return self
 
     __exit__ = end
+
+
+def failure_text(said: Path) -> str:
+    """What a command printed that failed. If that is long: its errors, or else its last lines, and which file has
+    all."""
+    lines = said.read_text(errors='replace').splitlines(keepends=True)
+    if len(lines) <= SHOWN_MAX:
+        return ''.join(lines)
+    log = ROOT / 'out' / f'{said.stem}.log'
+    log.parent.mkdir(exist_ok=True)
+    log.write_bytes(said.read_bytes())
+    errors = [line for line in lines if 'error' in line]
+    return f'{"".join((errors or lines[-SHOWN_MAX:])[:SHOWN_MAX])}{log} has all {len(lines)} lines of {said.stem}\n'
 
 
 def give_back_streams() -> None:
