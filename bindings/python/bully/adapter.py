@@ -10,7 +10,7 @@ from operator import attrgetter
 
 from .core import Core, CoreOpening, Lease, Promise, Seen, Session, Until
 from .epochs import Opening
-from .shared_log import Holder, Known, Log, Snapshot, found_in, renewed
+from .shared_log import Holder, Log, Precondition, Snapshot, found_in, renewed
 
 
 def needs_promises(core: Core, found: Snapshot, now: int) -> bool:
@@ -19,14 +19,14 @@ def needs_promises(core: Core, found: Snapshot, now: int) -> bool:
     return found.maintenance.is_paused or core.needs_promises(now)
 
 
-def known_of(core: Core, opening: Opening, found: Snapshot, name: str, own: Holder | None) -> Known | None:
+def known_of(core: Core, opening: Opening, found: Snapshot, name: str, own: Holder | None) -> Precondition | None:
     """What a change that the core asks for compares of leases: all, in an eager group, or if the member ends. The
     snapshot is the last one that the core was shown; `own` is what its session, for the node of this name, was last
     known to have promised."""
     if not opening.is_cooperative or core.ending is not None:
         return None
     affected = frozenset(each for number, each in enumerate(opening.names, 1) if core.is_affected(number))
-    return Known(affected, {**found.holders, **({name: own} if own is not None else {})}, found.revision)
+    return Precondition(affected, {**found.holders, **({name: own} if own is not None else {})}, found.revision)
 
 
 # ---- What the core is shown

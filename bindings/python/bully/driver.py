@@ -18,7 +18,7 @@ from .core import (
     Wait,
 )  # fmt: skip
 from .epochs import Opening
-from .shared_log import Holder, Known, Log, Sessions, Snapshot
+from .shared_log import Holder, Log, Precondition, Sessions, Snapshot
 from .values import Owned, Status
 
 NONE: frozenset[int] = frozenset()  # no partitions
@@ -31,7 +31,7 @@ class Call(NamedTuple):
 
     ask: Ask
     call: Callable[[], Result]
-    known: Known | None = None
+    known: Precondition | None = None
 
 
 class Note(NamedTuple):

@@ -61,7 +61,7 @@ def add_group(add: Callable[..., None], group: GroupView) -> None:
     def nodes(value: Callable[[NodeView], float]) -> list[tuple[str, float]]:
         return [(labels(node.name), value(node)) for node in group.nodes]
 
-    names = dict.fromkeys([*(node.name for node in group.nodes), *group.behind])
+    names = dict.fromkeys([*(node.name for node in group.nodes), *group.waits])
     add('bully_epoch', 'The current epoch.', [('', group.epoch)])
     add('bully_events_total', 'The number of events in the current epoch.', [('', group.events)], 'counter')
     add('bully_token', 'The token of the last plan; 0 if there is none.', [('', group.token or 0)])
@@ -76,7 +76,7 @@ def add_group(add: Callable[..., None], group: GroupView) -> None:
     add('bully_node_normal', 'Whether the node is Normal.', nodes(lambda node: node.status is Status.NORMAL))
     add('bully_node_leads', 'Whether the node is the coordinator.', nodes(lambda node: node.name == group.coordinator))
     add('bully_node_partitions', 'How many partitions the node owns.', nodes(lambda node: len(node.partitions)))
-    waits = [(labels(each), group.behind.get(each, 0.0)) for each in names]
+    waits = [(labels(each), group.waits.get(each, 0.0)) for each in names]
     add('bully_idle_behind_seconds', 'For how many seconds a change has waited for the node to stop its work.', waits)
     stops = [(labels(each), len(group.stops.get(each, ()))) for each in names]
     add('bully_node_stops', 'On how many partitions the node must stop its work for a change.', stops)

@@ -11,7 +11,7 @@ from typing import TYPE_CHECKING
 
 from .core import Session
 from .encoding import session_of, session_text
-from .releasing import told_command, told_file
+from .releasing import command_release, file_release
 from .shared_log import Log
 from .store_options import OF_ETCD, PASSWORD, BadWords, FileStore, Store, name_of
 
@@ -78,11 +78,11 @@ def releases_of(options: argparse.Namespace, store: Store, log: Log) -> Callable
         from .sqlite import SqliteLog
 
         path, name = os.path.realpath(store.path), log.name if isinstance(log, SqliteLog) else ''
-        return lambda session: told_file(path, name, options.node, session_text(session))
+        return lambda session: file_release(path, name, options.node, session_text(session))
     python = [sys.executable, '-I', '-S', '-c', COMMAND, str(Path(__file__).resolve().parents[1])]
     words = [*python, 'release', f'--log={options.log}', f'--node={options.node}']
     for word, _, _ in OF_ETCD:
         given = getattr(options, name_of(word))
         words += [f'{word}={given}'] if given else []
     more = {PASSWORD: store.password} if store.password and not options.password_file else {}
-    return lambda session: told_command([*words, '--session', session_text(session)], more)
+    return lambda session: command_release([*words, '--session', session_text(session)], more)

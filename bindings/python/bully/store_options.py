@@ -56,18 +56,18 @@ class FileStore:
     def create(self, opening: Opening) -> Log:
         """Makes a log."""
         from .sqlite import SqliteLog
-        from .sqlite_file import ITS_GROUP, OWNER_ALONE, see_group
+        from .sqlite_file import ITS_GROUP, OWNER_ALONE, check_group
 
         if self.is_shared:
-            see_group(self.path)
+            check_group(self.path)
         return SqliteLog.create(self.path, opening, ITS_GROUP if self.is_shared else OWNER_ALONE)
 
     @property
-    def told_readers(self) -> str:
+    def readers_warning(self) -> str:
         """A warning, if other users may read the file."""
-        from .sqlite_file import told_readers
+        from .sqlite_file import readers_warning
 
-        return told_readers(self.path)
+        return readers_warning(self.path)
 
     def open(self, patience: float = 1.0, reads: bool = False) -> Repairable:
         """Opens the log."""
@@ -93,7 +93,7 @@ class EtcdStore:
     tls: ssl.SSLContext | None
     user: str
     password: str = field(repr=False)
-    told_readers = ''  # etcd has permissions of its own
+    readers_warning = ''  # etcd has permissions of its own
 
     def create(self, opening: Opening) -> Log:
         """Makes a log. Raises BadWords for a prefix below which another log may have keys."""
@@ -221,7 +221,7 @@ def check_ttl(of_log: float | None, word: float | None) -> None:
 
 def warn_of_readers(store: Store) -> None:
     """Warns if other users may read the file: an existing file keeps its mode, which may allow that."""
-    if store.told_readers:
+    if store.readers_warning:
         import logging
 
-        logging.getLogger('bully').warning('%s', store.told_readers)
+        logging.getLogger('bully').warning('%s', store.readers_warning)

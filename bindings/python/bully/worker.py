@@ -17,7 +17,7 @@ from contextlib import suppress
 from pathlib import Path
 from typing import BinaryIO, Deque
 
-from .boots import see_one_clock
+from .boots import check_one_clock
 from .clocks import SECOND, seconds_of_boot, sleep_until_ready
 from .core import Session
 from .member import Member
@@ -126,7 +126,7 @@ class Workers:
         that stays stopped in the middle of a write. `releases` says how the lease of a session is released: the
         watchdog does that once this process is gone, and nothing is left of a worker. This process kills what a
         watchdog that died leaves. Raises ForeignLog and ChildrenUnlisted."""
-        see_one_clock()
+        check_one_clock()
         self._member, self._others, self._failures.ttl = member, children_listed(), member.ttl
         self._releases = releases
         adopt()

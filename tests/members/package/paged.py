@@ -31,7 +31,7 @@ class Paged(unittest.TestCase):
         self.workers = Workers(['true'], self.NAMES[1], 0.0)
         self.page = server.MemberServer(('127.0.0.1', 0), self.NAMES[1])
         self.addCleanup(self.page.close)
-        self.page.show(view.LogView(self.log, self.member.behind), self.member, self.workers)
+        self.page.show(view.LogView(self.log, self.member.waits), self.member, self.workers)
 
     def get(self, target: str, method: str = 'GET', **headers: str) -> tuple[int, str, str]:
         """The status, the kind and the text of an answer."""

@@ -20,7 +20,7 @@ def repair(options: argparse.Namespace) -> int:
         elif damage is None:
             print(f'epoch {epoch}: nothing is damaged')
         else:
-            print(damage.told, *map(repr, damage.rows), sep='\n')
+            print(damage.summary, *map(repr, damage.rows), sep='\n')
             if options.cut != damage.offset or not cut(log, damage):
                 how = f'--cut {damage.offset} cuts these rows, once all members have ended'
                 why = 'somebody holds a lease' if options.cut == damage.offset else how

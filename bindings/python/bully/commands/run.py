@@ -93,7 +93,7 @@ def take_part(
     workers.begin(member, store.path if isinstance(store, FileStore) else '', releases_of(options, store, log))
     closing.callback(workers.close)
     if server is not None:
-        server.show(ask_until_answered(lambda: LogView(store.open(reads=True), member.behind, ttl)), member, workers)
+        server.show(ask_until_answered(lambda: LogView(store.open(reads=True), member.waits, ttl)), member, workers)
     if options.keep:
         pruning = Pruning(ask_until_answered(store.open), member, options.keep)
         closing.callback(pruning.close)

@@ -52,7 +52,7 @@ def watch(view: LogView, seconds: float, is_json: bool) -> None:
             unanswered = str(fault)
         else:
             unanswered = ''
-            state = dataclasses.replace(shown, behind=dict.fromkeys(shown.behind, 0.0))
+            state = dataclasses.replace(shown, waits=dict.fromkeys(shown.waits, 0.0))
             if state != last:
                 print(('' if is_json else time.strftime('%H:%M:%S ')) + output_of(shown, is_json), flush=True)
             last = state
