@@ -43,8 +43,8 @@ class Part(NamedTuple):
 
 def simulated(name: str, words: str, short: int, whole: int, full: int) -> Part:
     """Simulations of members up to these seeds."""
-    seeds = {'short': f'--to {short}', 'whole': f'--to {whole}', 'full': f'--to {full}'}
-    return Part(name, f'tests/members/run simulate BUILT/library{words}', 'library', limit=LONG, **seeds)
+    few, some, many = (f'--to {most}' for most in (short, whole, full))
+    return Part(name, f'tests/members/run simulate BUILT/library{words}', 'library', '', few, some, many, LONG)
 
 
 NONE = 'none'
