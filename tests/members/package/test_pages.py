@@ -188,8 +188,8 @@ class Pages(Paged):
         """They end, and count no more."""
         self.log.is_silent = True
         self.addCleanup(setattr, self.log, 'is_silent', False)
-        answers = {self.get('/group?after=0')[::2] for _ in range(answers.POLLS_MAX + 1)}
-        self.assertEqual(answers, {(503, 'the store does not answer\n')})
+        given = {self.get('/group?after=0')[::2] for _ in range(answers.POLLS_MAX + 1)}
+        self.assertEqual(given, {(503, 'the store does not answer\n')})
 
     def test_a_silent_store(self) -> None:
         """Health, and what is measured of the member, are shown all the same."""
