@@ -20,23 +20,20 @@ from counts import Counts
 
 
 class Part(NamedTuple):
-    """A command that counts by itself, in which BUILT stands for the folder of what is tried, and KIT for the kit; what
-    of that it needs; the tools without which it is skipped; its words more in `bin/test`, in `bin/prove`, and for
-    `--full`; after how many seconds it is ended; a crate for whose proof it waits, over which it has the prover work;
-    and whether its processes depend on time. A busy machine may starve such processes: if the part fails, it is run
-    once more after all others, with nothing beside it, and that run counts. One of an option alone says so by `none` in
-    the place of the words of the others."""
+    """A part: a command that counts its tests by itself. Its words for a way to run it are `none` if it doesn't run in
+    that way. A busy machine may starve processes that depend on time: if such a part fails, it is run once more after
+    all others, with nothing beside it, and that run counts."""
 
     name: str
-    words: str
-    needs: str = ''
-    tools: str = ''
-    short: str = ''
-    whole: str = ''
-    full: str = ''
-    limit: int = 1800
-    proved: str = ''
-    is_timed: bool = False
+    words: str  # the command; BUILT stands for the folder of what was built, and KIT for the kit
+    needs: str = ''  # what must be built first
+    tools: str = ''  # the tools without which it is skipped
+    short: str = ''  # further words in `bin/test`
+    whole: str = ''  # further words in `bin/prove`
+    full: str = ''  # further words with `--full`
+    limit: int = 1800  # the seconds after which it is ended
+    proved: str = ''  # a crate for whose proof it waits; it runs the prover over that
+    is_timed: bool = False  # whether its processes depend on time
 
     def more(self, how: str) -> str:
         """The words more of a way to run it: `short`, `whole`, or `full`, which are those of `whole` if it has none of
@@ -44,9 +41,16 @@ class Part(NamedTuple):
         return {'short': self.short, 'whole': self.whole, 'full': self.full or self.whole}[how]
 
 
+def simulated(name: str, words: str, short: int, whole: int, full: int) -> Part:
+    """Simulations of members up to these seeds."""
+    few, some, many = (f'--to {most}' for most in (short, whole, full))
+    return Part(name, f'tests/members/run simulate BUILT/library{words}', 'library', '', few, some, many, LONG)
+
+
 NONE = 'none'
+LONG = 7200
 FIRST = ('library', 'bully', 'bully_workbench')
-MEMBERS, FAULTS = 'tests/members/run simulate BUILT/library', 'tests/members/run faults BUILT/library'
+FAULTS = 'tests/members/run faults BUILT/library'
 PARTS = [
     Part('snippets', 'tests/snippets/compare'),
     Part('promises', 'tests/promises/compare'),
@@ -58,26 +62,29 @@ PARTS = [
     Part('c', 'bindings/c/try BUILT/library', 'library', 'gcc g++'),
     Part('rust', 'bindings/rust/try BUILT/library', 'library', 'cargo'),
     Part('package', 'tests/members/run package BUILT/library', 'library'),
-    Part('rules', 'tests/members/run rules BUILT/library', 'library', short='--rebalance 100 --restarts 4 --forgetful 4 --manners 3',
-         full='--rebalance 5000 --restarts 100 --forgetful 1000 --manners 300', limit=7200),
+    Part('rules', 'tests/members/run rules BUILT/library', 'library',
+         short='--rebalance 100 --restarts 4 --forgetful 4 --manners 3',
+         full='--rebalance 5000 --restarts 100 --forgetful 1000 --manners 300', limit=LONG),
     # (those that were found the longest ago; in full all, and those of the rules, for each of which a library is built)
-    Part('bugs', 'tests/members/run wrong BUILT/library --jobs 4', 'library', short='--turn', whole='--turn', full='file', limit=7200),
-    Part('bugs-of-rules', 'tests/members/run wrong BUILT/library --edited BUILT/edited .edit', 'library', short=NONE, whole=NONE,
-         full='--jobs 2', limit=7200),
-    Part('members', MEMBERS, 'library', short='--to 60', whole='--to 300', full='--to 10000', limit=7200),
-    Part('epochs', f'{MEMBERS} --epochs', 'library', short='--to 60', whole='--to 300', full='--to 10000', limit=7200),
-    Part('over-etcd', f'{MEMBERS} --over-etcd', 'library', short='--to 20', whole='--to 100', full='--to 10000', limit=7200),
-    Part('epochs-over-etcd', f'{MEMBERS} --over-etcd --epochs', 'library', short='--to 12', whole='--to 60', full='--to 3000', limit=7200),
-    Part('told', f'{MEMBERS} --told', 'library', short='--to 12', whole='--to 60', full='--to 3000', limit=7200),
-    Part('careless-store', f'{MEMBERS} --careless-store', 'library', short='--to 12', whole='--to 60', full='--to 3000',
-         limit=7200),
-    Part('long', MEMBERS, 'library', short='--long 100', whole='--long 300', full='--long 10000', limit=7200),
-    Part('cooperating', 'tests/members/run cooperating BUILT/library', 'library', short='--to 25', whole='--to 100', full='--to 3000', limit=7200),
+    Part('bugs', 'tests/members/run wrong BUILT/library --jobs 4', 'library',
+         short='--turn', whole='--turn', full='file', limit=LONG),
+    Part('bugs-of-rules', 'tests/members/run wrong BUILT/library --edited BUILT/edited .edit', 'library',
+         short=NONE, whole=NONE, full='--jobs 2', limit=LONG),
+    simulated('members', '', 60, 300, 10_000),
+    simulated('epochs', ' --epochs', 60, 300, 10_000),
+    simulated('over-etcd', ' --over-etcd', 20, 100, 10_000),
+    simulated('epochs-over-etcd', ' --over-etcd --epochs', 12, 60, 3_000),
+    simulated('told', ' --told', 12, 60, 3_000),
+    simulated('careless-store', ' --careless-store', 12, 60, 3_000),
+    Part('long', 'tests/members/run simulate BUILT/library', 'library',
+         short='--long 100', whole='--long 300', full='--long 10000', limit=LONG),
+    Part('cooperating', 'tests/members/run cooperating BUILT/library', 'library',
+         short='--to 25', whole='--to 100', full='--to 3000', limit=LONG),
     Part('etcd', 'tests/members/run compare BUILT/library', 'library', 'etcd', short='--requests 1000 --logs 300'),
     Part('kills', FAULTS, 'library', short='--count 8 --idle 10 --share 3', whole='--count 18 --idle 10 --share 3',
-         full='--count 150 --idle 10 --share 2', limit=7200, is_timed=True),
+         full='--count 150 --idle 10 --share 2', limit=LONG, is_timed=True),
     Part('kills-cooperating', f'{FAULTS} --cooperative --kind each', 'library', short='--count 6 --idle 10 --share 4',
-         whole='--count 10 --idle 10 --share 4', full='--count 80 --idle 10 --share 2', limit=7200, is_timed=True),
+         whole='--count 10 --idle 10 --share 4', full='--count 80 --idle 10 --share 2', limit=LONG, is_timed=True),
     Part('premises', f'{FAULTS} --few', 'library', is_timed=True),
     Part('premises-cooperating', f'{FAULTS} --few --cooperative --kind each', 'library', is_timed=True),
     Part('premises-over-etcd', f'{FAULTS} --few --store etcd --cooperative --kind talk', 'library', 'etcd',
@@ -87,14 +94,14 @@ PARTS = [
     Part('rates', f'{FAULTS} --faults rates', 'library', short=NONE, is_timed=True),
     Part('rates-over-etcd', f'{FAULTS} --faults rates --store etcd', 'library', 'etcd', NONE, is_timed=True),
     Part('network', f'{FAULTS} --store network', 'library', 'etcd', '--count 4', '--count 8', '--count 100 --locks 10',
-         limit=7200, is_timed=True),
+         limit=LONG, is_timed=True),
     Part('soak', FAULTS, 'library', short=NONE, whole=NONE, full='--seconds 20', is_timed=True),
     Part('soak-over-etcd', f'{FAULTS} --store servers', 'library', 'etcd', '--seconds 10 --faults server,etcd',
          '--seconds 20 --faults server,etcd', '--seconds 20', is_timed=True),
     Part('soak-cooperating', f'{FAULTS} --cooperative --kind talk', 'library', short=NONE, whole=NONE,
          full='--seconds 20', is_timed=True),
     Part('python', 'bindings/python/try BUILT/library --simulator BUILT/bully_workbench', 'library bully_workbench',
-         short='--seeds 60', whole='--seeds 200 --steps 2000', full='--seeds 1000 --steps 2000', limit=7200),
+         short='--seeds 60', whole='--seeds 200 --steps 2000', full='--seeds 1000 --steps 2000', limit=LONG),
     Part('memory', 'tests/hostile/memory', 'bully_workbench', 'rustc'),
     # (the gate runs these by itself)
     Part('programs', 'tests/programs', 'bully bully_workbench', whole=NONE),
@@ -103,7 +110,8 @@ PARTS = [
     Part('logging', 'tests/logging/try', 'bully'),
     Part('terminal', 'tests/terminal/try', 'bully', is_timed=True),
     *(Part(name, f'tests/hostile/outside {name}', 'bully', 'rustc') for name in ('requests', 'spoiled', 'annotated')),
-    Part('processes', 'tests/processes/try BUILT/library', 'library bully', short='1 10', whole='2 20', full='10 100', limit=7200, is_timed=True),
+    Part('processes', 'tests/processes/try BUILT/library', 'library bully',
+         short='1 10', whole='2 20', full='10 100', limit=LONG, is_timed=True),
     Part('nodes', 'tests/cluster/simulate', 'bully bully_workbench', 'rustc', '60', '300', '300'),
     Part('release', 'tests/release/try BUILT/library BUILT/bully', 'library bully'),
 ]  # fmt: skip
@@ -182,8 +190,8 @@ class Run:
         Returns what that gave. If this command is ended meanwhile, what runs is ended, too; then the parts that wait
         continue, and start nothing."""
         began = time.monotonic()
-        with ThreadPoolExecutor(len(self.parts) + len(self.done) + 1) as pool, ExitStack() as behind, self.children:
-            behind.callback(self.all_are_done)
+        with ThreadPoolExecutor(len(self.parts) + len(self.done) + 1) as pool, ExitStack() as closing, self.children:
+            closing.callback(self.all_are_done)
             begun = {pool.submit(self.try_part, part): part for part in self.parts}
             is_green = make(pool)
             for _ in range(1, all_jobs()):

@@ -1,4 +1,4 @@
-"""How the crates are proved, built and run: what stands behind the commands of bin/.
+"""How the crates are proved, built and run: the modules of the commands of bin/.
     crates    the crates' graph, the kit, and the words of its tools
     kept      the sum of what something is made of, the stamp that keeps it, and the locks
     running   work beside other work, within cores and memory

@@ -49,7 +49,7 @@ Crates = Dict[str, Crate]
 
 
 def read_crates(root: Path = ROOT) -> Crates:
-    """The crates whose folders are there, each behind those that it stands on."""
+    """The crates whose folders are there, each after those that it depends on."""
     heads = {
         line.split(':')[0].split()[0]: line
         for line in (root / 'crates.txt').read_text().splitlines()

@@ -39,7 +39,7 @@ def is_made_of(product: Path, text: str) -> bool:
     return product.exists() and stamp_of(product).exists() and stamp_of(product).read_text() == text
 
 
-def see_unchanged(crates: Iterable[Crate], text: str) -> None:
+def check_unchanged(crates: Iterable[Crate], text: str) -> None:
     """Stops if one of these crates isn't what the text says, of which something is made."""
     for crate in crates:
         if f'\n{crate.name} {sum_of(crate)}\n' not in text:
@@ -48,7 +48,7 @@ def see_unchanged(crates: Iterable[Crate], text: str) -> None:
 
 def keep(product: Path, text: str, crates: Iterable[Crate] = ()) -> None:
     """Keeps what was built, as made of what the text says, unless one of these crates changed meanwhile."""
-    see_unchanged(crates, text)
+    check_unchanged(crates, text)
     new = product.with_name(f'{product.name}.made_of.new')
     new.write_text(text)
     new.replace(stamp_of(product))

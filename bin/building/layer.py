@@ -106,7 +106,7 @@ def arguments_of(function: 'Function', structures: Iterable[str]) -> List[Argume
 
 
 def wrapper(function: 'Function', structures: Iterable[str]) -> str:
-    """The proved function behind a function of the header, and the wrapper that is called in its place."""
+    """The declaration of the proved function for a function of the header, and the wrapper that calls it."""
     if function.gives != 'bully_status':
         raise Stopped(
             f'bully.h: {function.name} gives {function.gives}, and bin/building/layer.py makes no wrapper of that'

@@ -19,7 +19,7 @@ from .crates import (
     words_over_sources,
     words_to_build,
 )
-from .kept import drop, is_made_of, keep, locked, made_of, see_unchanged, stamp_of
+from .kept import drop, is_made_of, keep, locked, made_of, check_unchanged, stamp_of
 from .running import Children, all_jobs, become, give_back_streams, run_beside
 
 Say = Callable[[str], None]
@@ -74,7 +74,7 @@ class Building(NamedTuple):
             words += ['--incremental', 'out/incremental']
         elif crate.kind == 'library':
             words.append('--statements')
-        see_unchanged([crate], self.made_of[name])
+        check_unchanged([crate], self.made_of[name])
         # (the prover refuses libraries over another build of this one; a program that was built goes on without it)
         for upper in (each for each in self.crates.values() if name in each.below and each.kind == 'library'):
             stamp_of(upper.product).unlink(missing_ok=True)
@@ -156,9 +156,8 @@ def run_program(name: str, words: List[str], say: Say) -> NoReturn:
     crates = read_crates()
     crate = crate_of(crates, name, 'program')
     if name == 'bully' and not crate.product.exists():
-        say(
-            f'to use it, take the archive cinnabarloom-{version_of_all()}-x86_64-linux.tar.gz of a release, which has it built'
-        )
+        archive = f'cinnabarloom-{version_of_all()}-x86_64-linux.tar.gz'
+        say(f'to use it, take the archive {archive} of a release, which has it built')
     bring(crate.product, crates, crate, say, build_all)
     give_back_streams()
     become([str(crate.product), *words])

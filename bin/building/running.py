@@ -17,6 +17,8 @@ from .crates import ROOT, Stopped
 # Where `apart` keeps the streams of the call, of those that were open.
 KEPT = {stream: kept for stream, kept in ((0, 7), (1, 8), (2, 9)) if Path(f'/dev/fd/{kept}').exists()}
 
+SHOWN_MAX = 20  # lines that are shown of what failed
+
 
 def give_way(process: int) -> None:
     """Has others be served before this process and those that it begins."""
@@ -28,8 +30,8 @@ def give_way(process: int) -> None:
 def all_jobs(more: int = 0) -> int:
     """As many processes of the prover as there are cores, or some more; but one for each 3 GB of free memory, and one
     at least."""
-    most, told = len(os.sched_getaffinity(0)) + more, Path('/proc/meminfo').read_text()
-    free = re.search(r'^MemAvailable: *(\d+) kB$', told, re.MULTILINE)
+    most, memory = len(os.sched_getaffinity(0)) + more, Path('/proc/meminfo').read_text()
+    free = re.search(r'^MemAvailable: *(\d+) kB$', memory, re.MULTILINE)
     return max(1, min(most, int(free[1]) // 3_000_000 if free else most))
 
 
@@ -70,15 +72,13 @@ class Children:
             return self.begun[-1]
 
     def run(self, words: Sequence[str], folder: Path, said: Path) -> bool:
-        """Whether these words, run in a folder, end with status 0. What they say goes into a file, and is told if they
-        don't."""
+        """Whether these words, run in a folder, end with status 0. What they print goes into a file; if they fail, it
+        is shown (`failure_text`)."""
         with said.open('ab') as out:
             status = self.begin(words, folder, out).wait()
         if status and not self.is_ending:
-            sys.stderr.write(
-                said.read_text(errors='replace')
-                + (f'{Path(words[0]).name} was ended by signal {-status}\n' if status < 0 else '')
-            )
+            by_signal = f'{Path(words[0]).name} was ended by signal {-status}\n' if status < 0 else ''
+            sys.stderr.write(failure_text(said) + by_signal)
         return status == 0
 
     def end(self, *_: object) -> None:
@@ -98,6 +98,19 @@ class Children:
         return self
 
     __exit__ = end
+
+
+def failure_text(said: Path) -> str:
+    """What a command printed that failed. If that is long: its errors, or else its last lines, and which file has
+    all."""
+    lines = said.read_text(errors='replace').splitlines(keepends=True)
+    if len(lines) <= SHOWN_MAX:
+        return ''.join(lines)
+    log = ROOT / 'out' / f'{said.stem}.log'
+    log.parent.mkdir(exist_ok=True)
+    log.write_bytes(said.read_bytes())
+    errors = [line for line in lines if 'error' in line]
+    return f'{"".join((errors or lines[-SHOWN_MAX:])[:SHOWN_MAX])}{log} has all {len(lines)} lines of {said.stem}\n'
 
 
 def give_back_streams() -> None:
@@ -126,11 +139,14 @@ def hand_on(tool: str) -> NoReturn:
 def run_beside(
     needs: Dict[str, List[str]], length: Dict[str, int], run: Callable[[str, int], object], children: Children
 ) -> Iterator[str]:
-    """Does each task once those that it needs are done, those of long chains first, and tells its name when it is done.
-    `length` has, as a guess, how long the chain of tasks is that begins with it. `run` is given how many processes a
-    task may use: up to two if its chain is three fifths of the longest that is left or more, else one; and the first
-    what the others that are ready leave of the cores. At most as many tasks as cores are under way, in at most two
-    processes more than cores, and fewer of both if memory is short: each reads alone at first."""
+    """Runs each task once those that it needs are done, and yields its name when it is done. A chain is a task and
+    those that need it, one after the other; `length` estimates how long the longest chain of each task takes. Tasks of
+    long chains start first.
+
+    `run` gets a task, and how many processes it may use: one; or two, if its chain is at least three fifths of the
+    longest one that is left. If fewer tasks are ready than cores are free, a task gets the other cores, too. So many
+    tasks run at the same time as there are cores, at most, and in all they use up to two more processes than that,
+    because each reads alone at first. If memory is short there are fewer of both."""
     tasks, cores, most = TopologicalSorter(needs), all_jobs(), all_jobs(2)
     tasks.prepare()
     ready: List[str] = []

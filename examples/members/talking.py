@@ -4,9 +4,10 @@ it has in memory.
 
     bully-member run --talk .. -- talking.py FOLDER
 
-    {"begin": TOKEN, "partitions": [0, 5], "coordinator": "c", "settings": {..}}    work on these and no others, by this token
-    {"stop": true}                                                                  work on nothing, and then answer `stopped`
-    {"stop": [5]}                                                                   the same for these; in a cooperative group
+    {"begin": TOKEN, "partitions": [0, 5], "coordinator": "c", "settings": {..}}
+                      work on these and no others, by this token
+    {"stop": true}    work on nothing, and then answer `stopped`
+    {"stop": [5]}     the same for these; in a cooperative group
 
 It answers on the descriptor BULLY_ANSWERS. As `worker.py` does it adds a line to the file of each of its partitions,
 and refuses to if that has seen a newer token. What it keeps are the files that it has opened: whoever keeps more has to

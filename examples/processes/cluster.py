@@ -208,7 +208,8 @@ class Cluster:
         member.life += 1
         bug = self.options.bug if BUGS.get(self.options.bug) == member.node else None
         told = {
-            'supervisor': os.getpid(), 'port': port_of(self.listener), 'node': member.node, 'life': member.life, 'events': member.events,
+            'supervisor': os.getpid(), 'port': port_of(self.listener), 'node': member.node, 'life': member.life,
+            'events': member.events,
             'nodes': self.options.nodes, 'partitions': self.options.partitions,
             'says_all': self.options.all_details, 'bug': bug,
         }  # fmt: skip

@@ -79,7 +79,8 @@ class Commands(unittest.TestCase):
                     program.unlink(missing_ok=True)
                     self.assertNotEqual(self.tree.status_over(streams, command), 125)
                     program.write_text(
-                        f'#!/bin/sh\nfor each in 0 1 2 7 8 9; do {kinds}; echo $is >&6; done 6>{self.tree.room}/seen\nexit 5\n'
+                        f'#!/bin/sh\nfor each in 0 1 2 7 8 9; do {kinds}; echo $is >&6; done 6>{self.tree.room}/seen\n'
+                        'exit 5\n'
                     )
                     self.assertEqual(self.tree.status_over(streams, command), 5)
                     self.assertEqual((self.tree.room / 'seen').read_text().split(), [*wanted.split(), *['closed'] * 3])

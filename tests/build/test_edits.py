@@ -25,7 +25,8 @@ SOURCE = """impl Slot {
 pub const MOST: u16 = 3;
 """
 SAID = """fn slots::slot::Slot::held: proved
-fn slots::slot::Slot::take: no proof: expected answers in ./proofs/slot/Slot/take/Answers.antt; `search` did not prove `returns-clause-emptied`, `returns-clause-held`
+fn slots::slot::Slot::take: no proof: expected answers in ./proofs/slot/Slot/take/Answers.antt; \
+`search` did not prove `returns-clause-emptied`, `returns-clause-held`
 ./proofs/slot/Slot/drop_it/Answers.antt:17:5: error: `returns-clause-left`: it is not so
 ./proofs/slot/Slot/fill/Answers.antt:3:5: error: `returns-in-Some`: it is not so
 ./proofs/slot/Slot/empty/Answers.antt:3:5: error: `returns`: a record has no field `gone`

@@ -40,7 +40,8 @@ import sys
 sys.path[:0] = ['bin', 'tests']
 import gate, parts
 more = {{'left-out': {{'whole': 'none'}}, 'endless': {{'limit': 1}}, 'starved': {{'is_timed': True}}}}
-parts.PARTS[:] = [parts.Part(name, './part ' + name, ' '.join(needs), **more.get(name, {{}})) for name, needs in {parts!r}]
+part = lambda name, needs: parts.Part(name, './part ' + name, ' '.join(needs), **more.get(name, {{}}))
+parts.PARTS[:] = [part(*each) for each in {parts!r}]
 counts = gate.prove('whole')
 print(counts.last())
 '''
@@ -164,9 +165,11 @@ class Sessions(unittest.TestCase):
     def test_output_errors_and_status_count_each(self) -> None:
         right = Case('it', 'bully', 'said\n', 'said\n', 'told\n', 3)
         for case, is_right in (
-            (right, True), (right._replace(stdin=''), False), (right._replace(stdout=''), False), (right._replace(stderr=''), False),
-            (right._replace(stderr='tell\n'), False), (right._replace(status=0), False), (right._replace(stderr='...\n'), True),
-            (right._replace(command='bully 2>&-', stderr='...\n'), False), (right._replace(command='bully 2>&-', stderr=''), True),
+            (right, True), (right._replace(stdin=''), False), (right._replace(stdout=''), False),
+            (right._replace(stderr=''), False), (right._replace(stderr='tell\n'), False),
+            (right._replace(status=0), False), (right._replace(stderr='...\n'), True),
+            (right._replace(command='bully 2>&-', stderr='...\n'), False),
+            (right._replace(command='bully 2>&-', stderr=''), True),
         ):  # fmt: skip
             last, told = self.run_case(case)
             self.assertEqual(last, '1 passed, 0 failed' if is_right else '0 passed, 1 failed', f'{case}\n{told}')

@@ -1,4 +1,4 @@
-"""What is built, and when: behind a changed comment, contract or line of crates.txt, beside another call, and behind a
+"""What is built, and when: after a changed comment, contract or line of crates.txt, beside another call, and after a
 call that was ended."""
 import signal
 import subprocess
@@ -159,8 +159,8 @@ class Kept(unittest.TestCase):
     def build(self) -> 'subprocess.CompletedProcess[str]':
         return self.tree.call('bully', 'check', 'it')
 
-    def built_behind(self) -> 'list[str]':
-        """The crates that were built by a call, behind a first one."""
+    def built_after(self) -> 'list[str]':
+        """The crates that were built by a call after a first one."""
         before = len(self.tree.log())
         self.assertEqual(self.build().stdout, 'stand-in check it\n')
         return sorted(self.tree.begun(before))
@@ -184,39 +184,39 @@ class Kept(unittest.TestCase):
     def test_a_changed_comment_has_the_crate_and_those_above_built(self) -> None:
         self.build_first()
         self.tree.write('left', 'src/lib.rt', '// left, another comment\n')
-        self.assertEqual(self.built_behind(), ['bully', 'left'])
+        self.assertEqual(self.built_after(), ['bully', 'left'])
 
     def test_a_changed_contract_has_all_above_built(self) -> None:
         self.build_first()
         self.tree.write('base', 'specs/Lib.antt', 'another definition\n')
-        self.assertEqual(self.built_behind(), ['base', 'bully', 'left', 'right'])
+        self.assertEqual(self.built_after(), ['base', 'bully', 'left', 'right'])
 
     def test_a_file_that_was_only_touched_has_nothing_built(self) -> None:
         self.build_first()
         (self.tree.top / 'crates' / 'base' / 'src' / 'lib.rt').touch()
-        self.assertEqual(self.built_behind(), [])
+        self.assertEqual(self.built_after(), [])
 
     def test_a_proof_that_was_taken_away_counts(self) -> None:
         self.tree.write('right', 'proofs/half/Answers.antt', 'an answer\n')
         self.build_first()
         subprocess.run(['rm', '-r', str(self.tree.top / 'crates' / 'right' / 'proofs')], check=True)
-        self.assertEqual(self.built_behind(), ['bully', 'right'])
+        self.assertEqual(self.built_after(), ['bully', 'right'])
 
     def test_a_library_that_was_taken_away_has_those_above_built(self) -> None:
         self.build_first()
         subprocess.run(['rm', '-r', str(self.tree.top / 'crates' / 'base' / 'out' / 'built')], check=True)
         self.tree.write('bully', 'src/main.rt', '// another program\n')
-        self.assertEqual(self.built_behind(), ['base', 'bully', 'left', 'right'])
+        self.assertEqual(self.built_after(), ['base', 'bully', 'left', 'right'])
 
     def test_a_program_that_was_taken_away_is_built(self) -> None:
         self.build_first()
         (self.tree.top / 'crates' / 'bully' / 'out' / 'bully').unlink()
-        self.assertEqual(self.built_behind(), ['bully'])
+        self.assertEqual(self.built_after(), ['bully'])
 
     def test_another_kit_has_all_built(self) -> None:
         self.build_first()
         (self.tree.room / 'kit' / 'KIT-ID').write_text('another one\n')
-        self.assertEqual(self.built_behind(), ['base', 'bully', 'left', 'right'])
+        self.assertEqual(self.built_after(), ['base', 'bully', 'left', 'right'])
 
     def test_libraries_over_a_new_build_have_no_stamps_and_the_program_keeps_its_own(self) -> None:
         self.build_first()
@@ -242,16 +242,16 @@ class Kept(unittest.TestCase):
         self.assertIn('base is made, and was not proved\n', self.build().stderr)
         (self.tree.room / 'late' / 'base').unlink()
         self.tree.write('base', 'src/lib.rt', '// base\n')
-        self.assertEqual(self.built_behind(), [])
+        self.assertEqual(self.built_after(), [])
         self.tree.write('bully', 'src/main.rt', '// another program\n')
-        self.assertEqual(self.built_behind(), ['base', 'bully', 'left', 'right'])
+        self.assertEqual(self.built_after(), ['base', 'bully', 'left', 'right'])
 
     def test_what_changed_while_it_was_built_is_not_kept(self) -> None:
         call = self.tree.call_with_edit('bully', 'left', 'left')
         self.assertEqual((call.stdout, call.returncode), ('', 125))
         self.assertIn('bully: left changed while it was built: call this again\n', call.stderr)
         self.tree.write('left', 'src/lib.rt', '// left\n')
-        self.assertIn('left', self.built_behind())
+        self.assertIn('left', self.built_after())
 
     def test_what_changed_before_its_turn_is_not_built(self) -> None:
         call = self.tree.call_with_edit('bully', 'base', 'left')
@@ -262,7 +262,7 @@ class Kept(unittest.TestCase):
         self.build_first()
         self.tree.list_crates({'base': '', 'left': 'base', 'bully': 'left'})
         subprocess.run(['rm', '-r', str(self.tree.top / 'crates' / 'right')], check=True)
-        self.assertEqual(self.built_behind(), ['bully'])
+        self.assertEqual(self.built_after(), ['bully'])
 
     def test_what_is_not_proved_is_told_and_not_kept(self) -> None:
         (self.tree.room / 'refuse' / 'left').touch()
@@ -271,7 +271,21 @@ class Kept(unittest.TestCase):
         self.assertIn('a contract of left is not proved\n', refused.stderr)
         self.assertIn('left was not built\n', refused.stderr)
         (self.tree.room / 'refuse' / 'left').unlink()
-        self.assertIn('left', self.built_behind())
+        self.assertIn('left', self.built_after())
+
+    def test_of_a_long_output_the_errors_are_shown(self) -> None:
+        """If it has none, its end. A file has all of it, which is named last."""
+        log = self.tree.top / 'out' / 'left.log'
+        named = f'{log} has all 110 lines of left\nbully: left was not built\n'
+        lines = [f'fn held_{number}: proved\n' for number in range(110)]
+        for text, shown in (
+            ([*lines[:50], './Answers.antt:3:5: error: not so\n', *lines[51:]], './Answers.antt:3:5: error: not so\n'),
+            (lines, ''.join(lines[-20:])), (['error\n'] * 110, 'error\n' * 20),
+        ):  # fmt: skip
+            (self.tree.room / 'refuse' / 'left').write_text(''.join(text))
+            refused = self.build()
+            self.assertTrue(refused.stderr.endswith(f'\n{shown}{named}'), refused.stderr)
+            self.assertEqual((refused.returncode, log.read_text()), (125, ''.join(text)))
 
     def test_two_calls_at_once_build_once(self) -> None:
         first = self.tree.begin_held('base', 'bully', 'one')
@@ -294,7 +308,7 @@ class Kept(unittest.TestCase):
         prover = self.ended_by(signal.SIGTERM)
         waited(lambda: not is_there(prover), 'the prover is gone')
         self.tree.let_go('base')
-        self.assertEqual(self.built_behind(), ['base', 'bully', 'left', 'right'])
+        self.assertEqual(self.built_after(), ['base', 'bully', 'left', 'right'])
 
     def test_the_prover_of_a_killed_build_keeps_others_out_until_it_ends(self) -> None:
         prover = self.ended_by(signal.SIGKILL)

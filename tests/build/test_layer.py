@@ -26,8 +26,10 @@ EVERY_KIND = """bully_status bully_take(bully_thing *thing, const uint16_t *old,
                         char *text, size_t room, size_t *length);
 bully_status bully_rest(void);"""
 WRAPPERS = """__typeof__(bully_take) bully_c_take;
-bully_status bully_take(bully_thing *thing, const uint16_t *old, size_t old_count, uint64_t now, char *text, size_t room, size_t *length) {
-    if (thing == NULL || !can_lie(old, old_count, sizeof *old) || !can_lie(text, room, sizeof *text) || length == NULL) {
+bully_status bully_take(bully_thing *thing, const uint16_t *old, size_t old_count, uint64_t now, char *text, \
+size_t room, size_t *length) {
+    if (thing == NULL || !can_lie(old, old_count, sizeof *old) || !can_lie(text, room, sizeof *text) \
+|| length == NULL) {
         return BULLY_NULL;
     }
     return bully_c_take(thing, source(old, old_count), old_count, now, target(text, room), room, length);

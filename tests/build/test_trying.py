@@ -90,8 +90,8 @@ class Trying(unittest.TestCase):
         build_checked(program)
         ended = self.tree.call('try')
         self.assertEqual(ended.returncode, 125)
-        told = 'a check ended it in left::half: a result does not fit its type. bin/check left tells which proof fails of that'
-        self.assertEqual(ended.stderr, f'bully: {told}\n')
+        why = 'a check ended it in left::half: a result does not fit its type.'
+        self.assertEqual(ended.stderr, f'bully: {why} bin/check left tells which proof fails of that\n')
 
     def test_gives_the_status_and_the_signal_of_the_program(self) -> None:
         self.tree.call('try')

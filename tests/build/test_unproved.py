@@ -16,11 +16,17 @@ RUN = '''
 import sys
 sys.path[:0] = ['bin', 'tests']
 import parts
-parts.PARTS[:] = [parts.Part('over-it', './part over-it', 'bully', short='few', whole='many'), parts.Part('alone', './part alone'),
-    parts.Part('lacking', './part lacking', tools='sh no-such-tool'), parts.Part('long', './part long', short='none', whole='none', full='all')]
+parts.PARTS[:] = [
+    parts.Part('over-it', './part over-it', 'bully', short='few', whole='many'), parts.Part('alone', './part alone'),
+    parts.Part('lacking', './part lacking', tools='sh no-such-tool'),
+    parts.Part('long', './part long', short='none', whole='none', full='all')]
 sys.exit(parts.test(sys.argv[1:], 'short', lambda line: print(line, file=sys.stderr)).end())
 '''
-PART = '#!/bin/sh\necho "$*" >>ROOM/parts\n[ "$1" != over-it ] || "$BULLY_BUILT/bully" it </dev/null\necho "1 passed, 0 failed"\n'
+PART = '''#!/bin/sh
+echo "$*" >>ROOM/parts
+[ "$1" != over-it ] || "$BULLY_BUILT/bully" it </dev/null
+echo "1 passed, 0 failed"
+'''
 EXPORTS = '''
 #[unsafe(no_mangle)]
 pub extern "C" fn bully_c_one(alloc: Global) -> u32
@@ -135,8 +141,8 @@ class Unproved(unittest.TestCase):
         first, second = (self.tree.call('library', '--unproved', str(folder)) for _ in range(2))
         self.assertEqual((first.returncode, first.stdout, second.returncode), (0, '', 0), first.stderr)
         self.assertEqual((files_of(folder), self.tree.begun()), (LAYOUT, ['try']))
-        said = 'library: builds it without its proofs, in about two minutes of processor time. So this library is not proved: bin/library proves'
-        self.assertIn(said, first.stderr)
+        said = 'library: builds it without its proofs, in about two minutes of processor time. '
+        self.assertIn(f'{said}So this library is not proved: bin/library proves', first.stderr)
         self.assertNotIn('proof', second.stderr)
 
     def test_the_library_waits_for_another_call_that_builds(self) -> None:

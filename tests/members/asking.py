@@ -14,7 +14,7 @@ from bully.core import Promise, Session, Until
 from bully.encoding import maintenance_of, session_text
 from bully.epochs import Opening
 from bully.etcd import EtcdLog, offset_text, promise_text
-from bully.etcd_client import Address, Client, Json, Refusal, Silent, behind
+from bully.etcd_client import Address, Client, Json, Refusal, Silent, prefix_end
 from bully.shared_log import Holder, Wanted, is_awaited
 from .cluster import SERVERS, Cluster, Outcome
 
@@ -146,7 +146,7 @@ class KeptLog(EtcdLog):
 
     def _below(self, prefix: bytes) -> dict[bytes, bytes | None]:
         """The values of all keys with this prefix, by the rest of the key."""
-        found = self.client.cluster.keys.found(prefix, behind(prefix))
+        found = self.client.cluster.keys.found(prefix, prefix_end(prefix))
         return {key[len(prefix) :]: version.value for key, version in found}
 
 

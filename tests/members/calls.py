@@ -9,7 +9,7 @@ from bully.core import Promise, Session
 from bully.epochs import Opening
 from bully.maintenance import Maintenance
 from bully.memory import MemoryLog
-from bully.shared_log import Known, Log, LogError, found_in
+from bully.shared_log import Log, LogError, Precondition, found_in
 from .steps import LONG, plain_snapshot
 
 WRITER = 'w'  # a member that is there for one change
@@ -76,12 +76,12 @@ def calls_with(meant: Meant) -> list[tuple[int, str, Callable[[Log], object]]]:
     ]  # fmt: skip
 
 
-def by_member(log: Log, here: Promise, change: Callable[[Known], bool]) -> bool:
+def by_member(log: Log, here: Promise, change: Callable[[Precondition], bool]) -> bool:
     """A member that is there for this alone makes a change. Whether it was done."""
     session = Session(3, 1)
     log.acquire(WRITER, session, here, LONG)
     found = found_in(log)
-    done = change(Known(frozenset(), found.holders, found.revision))
+    done = change(Precondition(frozenset(), found.holders, found.revision))
     log.release(WRITER, session)
     return done
 

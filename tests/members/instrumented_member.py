@@ -18,10 +18,11 @@ from pathlib import Path
 from typing import Any
 
 from bully import command, driver, member, worker
+from bully.commands import run
 from bully.core import Ask, Begin, Core, CoreOpening, Live, Promise, Request, Seen, Session, Step, StoreAnswer
 from bully.epochs import Opening, Token
 from bully.faults import BullyError
-from bully.shared_log import Holder, Known, Log, Snapshot, Unanswered
+from bully.shared_log import Holder, Log, Precondition, Snapshot, Unanswered
 from bully.values import Line
 
 from .instrumentation import FOLDER, OF, Pen, living_below, moment
@@ -134,13 +135,13 @@ def of_session(name: str, session: Session, promise: Promise | None = None) -> T
     return {'name': name, 'session': [session.process, session.number], **more}
 
 
-def shown_known(known: Known | None) -> Told | None:
+def shown_known(known: Precondition | None) -> Told | None:
     if known is None:
         return None
     return {'affected': sorted(known.affected), 'holders': shown_holders(known.holders), 'revision': known.revision}
 
 
-def of_change(epoch: int, offset: int, known: Known | None, **more: object) -> Told:
+def of_change(epoch: int, offset: int, known: Precondition | None, **more: object) -> Told:
     """A call that appends, or ends the epoch."""
     return {'epoch': epoch, 'offset': offset, 'known': shown_known(known), **more}
 
@@ -211,7 +212,7 @@ def main() -> int:
     pens.append(Pen())
     worker.WATCHDOG = WATCHDOG
     setattr(driver, 'Core', InstrumentedCore)
-    setattr(command, 'Member', InstrumentedMember)
+    setattr(run, 'Member', InstrumentedMember)
     return command.main(sys.argv[2:])
 
 

@@ -19,7 +19,7 @@ from bully.driver import Call, Result, WaitForNews
 from bully.encoding import maintenance_of, session_of, unpacked
 from bully.epochs import FIRST, Opening
 from bully.etcd import WATCH_AGAIN, Part, offset_of, promise_of
-from bully.etcd_client import Json, Silent, behind
+from bully.etcd_client import Json, Silent, prefix_end
 from bully.maintenance import Maintenance
 from bully.settings import Settings
 from bully.shared_log import LogError, Unanswered
@@ -53,7 +53,7 @@ class EtcdStore(LogStore):
 
     def below(self, prefix: bytes) -> dict[str, bytes]:
         """The values of all keys with this prefix, by the rest of the key."""
-        found = self.cluster.keys.found(prefix, behind(prefix))
+        found = self.cluster.keys.found(prefix, prefix_end(prefix))
         return {key[len(prefix) :].decode(): version.value or b'' for key, version in found}
 
     def see(self, changed: list[bytes]) -> str | None:

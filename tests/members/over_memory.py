@@ -15,7 +15,7 @@ from bully.epochs import FIRST, Opening
 from bully.maintenance import Maintenance
 from bully.memory import MemoryLog
 from bully.settings import Settings
-from bully.shared_log import Known
+from bully.shared_log import Precondition
 from bully.store_options import BadWords
 from .driven import Member, Wrong
 from .simulated_store import Epoch, Lease, LogStore, StoreMaker
@@ -62,8 +62,8 @@ class MemoryStore(LogStore):
 class CarelessLog(MemoryLog):
     """It compares of an append only where the log ends, and that somebody holds a lease."""
 
-    def append(self, epoch: int, offset: int, rows: Sequence[str], known: Known | None = None) -> bool:
-        return super().append(epoch, offset, rows, Known(frozenset(), {}))
+    def append(self, epoch: int, offset: int, rows: Sequence[str], known: Precondition | None = None) -> bool:
+        return super().append(epoch, offset, rows, Precondition(frozenset(), {}))
 
 
 class CarelessStore(MemoryStore):

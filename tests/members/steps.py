@@ -4,7 +4,7 @@ from __future__ import annotations
 from bully.clocks import SECOND
 from bully.core import Promise, Session
 from bully.epochs import Opening
-from bully.shared_log import Holder, Known, Log
+from bully.shared_log import Holder, Log, Precondition
 
 HEADER = 'bully,1,3,6'
 OPENING = Opening.first(HEADER)
@@ -50,10 +50,10 @@ def be_idle(log: Log, *holders: tuple[str, Session], here: Promise | None = None
     return there
 
 
-def known_to(log: Log, *affected: str, **holders: Holder) -> Known:
+def known_to(log: Log, *affected: str, **holders: Holder) -> Precondition:
     """What a change that affects these names compares, by a snapshot that finds all but these holders."""
     found = log.snapshot(*where(end_of(log)))
-    return Known(frozenset(affected), {**found.holders, **holders}, found.revision)
+    return Precondition(frozenset(affected), {**found.holders, **holders}, found.revision)
 
 
 def where(here: Promise) -> tuple[int, int]:

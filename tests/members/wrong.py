@@ -119,7 +119,8 @@ class Bug:
         """Why it can't be tried, if it can't."""
         with tempfile.TemporaryDirectory() as folder:
             for name in {change.file for change in self.changes}:
-                shutil.copy(PYTHON / 'bully' / name, folder)
+                Path(folder, name).parent.mkdir(exist_ok=True)
+                shutil.copy(PYTHON / 'bully' / name, Path(folder, name))
             if not self.plant(Path(folder)):
                 return 'its lines are not in their file once'
         if self.edit and not (ROOT / self.edit).is_file():

@@ -62,7 +62,8 @@ def build_wheel(wheel_directory: str, config_settings: Settings = None, metadata
     """Writes the wheel into this folder, with the file that the setting `proved` names, if any. Its name."""
     library = find_library()
     tag = f'py3-none-{platform()}' if library else 'py3-none-any'
-    files = {f'{NAME}/{each.name}': each.read_bytes() for each in sorted((HERE / NAME).glob('*')) if is_source(each)}
+    sources = filter(is_source, sorted((HERE / NAME).rglob('*')))
+    files = {each.relative_to(HERE).as_posix(): each.read_bytes() for each in sources}
     files[COMMAND] = (HERE / COMMAND).read_bytes()
     files[f'{NAME}/bully.h'] = find_header(library).read_bytes()
     if library:

@@ -10,7 +10,7 @@ from operator import attrgetter
 
 from .core import Core, CoreOpening, Lease, Promise, Seen, Session, Until
 from .epochs import Opening
-from .shared_log import Holder, Known, Log, Snapshot, found_in, renewed
+from .shared_log import Holder, Log, Precondition, Snapshot, found_in, renewed
 
 
 def needs_promises(core: Core, found: Snapshot, now: int) -> bool:
@@ -19,14 +19,14 @@ def needs_promises(core: Core, found: Snapshot, now: int) -> bool:
     return found.maintenance.is_paused or core.needs_promises(now)
 
 
-def known_of(core: Core, opening: Opening, found: Snapshot, name: str, own: Holder | None) -> Known | None:
+def known_of(core: Core, opening: Opening, found: Snapshot, name: str, own: Holder | None) -> Precondition | None:
     """What a change that the core asks for compares of leases: all, in an eager group, or if the member ends. The
     snapshot is the last one that the core was shown; `own` is what its session, for the node of this name, was last
     known to have promised."""
     if not opening.is_cooperative or core.ending is not None:
         return None
     affected = frozenset(each for number, each in enumerate(opening.names, 1) if core.is_affected(number))
-    return Known(affected, {**found.holders, **({name: own} if own is not None else {})}, found.revision)
+    return Precondition(affected, {**found.holders, **({name: own} if own is not None else {})}, found.revision)
 
 
 # ---- What the core is shown
@@ -77,11 +77,12 @@ def seen_of(
     found: Snapshot, end: Promise, name: str, numbers: Mapping[str, int], is_up: Callable[[int], bool],
     leases: Leases | None = None,
 ) -> Seen:  # fmt: skip
-    """What the core is shown of a snapshot. The log ends at `end` for the core, which acts for the node of this name;
-    `numbers` has the numbers of all names, and `is_up` says which numbers are up in the log. During a pause the core is
-    shown an unknown process, for which it waits in an eager group. Its own lease is shown as that of a session that
-    stays; but during a pause, if it was acquired since, or its node isn't up, as that of one that leaves: so it isn't
-    admitted, and in a cooperative group it waits, too."""
+    """What the core is shown of a snapshot. The core acts for the node of this name, and has learned the log up to
+    `end`; `numbers` has the numbers of all names, and `is_up` says which numbers are up in the log.
+
+    During a pause the core is shown an unknown process, for which it waits in an eager group. In a cooperative group it
+    waits if its own session was acquired during the pause, or its node isn't up: then its lease is shown as that of a
+    session that leaves, which isn't admitted. Otherwise its lease is shown as that of a session that stays."""
     is_frozen = found.is_frozen(end)
     up = [each for each, number in numbers.items() if is_up(number)] if is_frozen else []
     holders = frozen(found, name, up) if is_frozen else found.holders
@@ -121,7 +122,7 @@ def frozen(found: Snapshot, name: str, up: Iterable[str]) -> dict[str, Holder]:
 
 
 def awaited(until: Until, seen: Seen, needs_promises: bool) -> Until:
-    """What a wait is for, after a snapshot that showed this, if the core needs promises or doesn't: an unknown process
-    must go before all can be idle."""
+    """What a wait is for, after a snapshot that showed this. Promises are of no use to a core that doesn't need them,
+    and while there is an unknown process, because not all are idle before that is gone."""
     is_in_vain = until is Until.ALL_IDLE and seen.has_unknown
     return Until.NEWS if is_in_vain or not needs_promises else until

@@ -20,12 +20,12 @@ def boot_name() -> str:
     """The id of this boot of the machine; followed by the time namespace, with its number and its offset, unless that
     is the machine's own. The leases of an earlier boot have ended. Raises ForeignLog."""
     boot = Path('/proc/sys/kernel/random/boot_id').read_text(encoding='ascii').strip()
-    see_one_clock()
+    check_one_clock()
     namespace = namespace_of('time')
     return boot if namespace in ('', OWN_NAMESPACE) else f'{boot} {namespace} {own_offset()}'
 
 
-def see_one_clock() -> None:
+def check_one_clock() -> None:
     """Raises ForeignLog if the children of this process, as its watchdog, would have another clock than the process
     itself."""
     if namespace_of('time') != namespace_of('time_for_children'):

@@ -1,62 +1,38 @@
-"""Completion of the words of `bully-member` in bash, zsh and fish, made from the parser of these words."""
+"""Completion of the words of `bully-member` in bash, zsh and fish, made from the options of its commands."""
 from __future__ import annotations
 
-import argparse
-from collections.abc import Iterable, Iterator
+from collections.abc import Iterable, Iterator, Mapping, Sequence
 
-PROGRAM = 'bully-member'
+from .command_options import Option
+from .outputs import PROGRAM
+
+HELP = Option('--help', 'show this help message and exit')
 OF_WORKER = 'worker'  # the words of another command, after `--`
 
+Commands = Mapping[str, 'tuple[str, Sequence[Option]]']  # what each does, and its options
 
-def completion(shell: str, parser: argparse.ArgumentParser) -> str:
+
+def completion(shell: str, commands: Commands) -> str:
     """The script for this shell."""
-    return {'bash': for_bash, 'zsh': for_zsh, 'fish': for_fish}[shell](commands_of(parser))
+    return SHELLS[shell]({name: (about, [HELP, *options]) for name, (about, options) in commands.items()})
 
 
-Commands = dict[str, tuple[str, argparse.ArgumentParser]]  # the help and the parser of each
+def named(options: Sequence[Option]) -> list[Option]:
+    """The options that have a name."""
+    return [each for each in options if not each.is_argument]
 
 
-def commands_of(parser: argparse.ArgumentParser) -> Commands:
-    """The commands of this parser."""
-    [kind] = [each for each in parser._actions if isinstance(each, argparse._SubParsersAction)]
-    about = {each.dest: each.help or '' for each in kind._choices_actions}
-    return {name: (about[name], command) for name, command in kind.choices.items()}
+def arguments(options: Sequence[Option]) -> list[Option]:
+    return [each for each in options if each.is_argument]
 
 
-def options_of(command: argparse.ArgumentParser) -> list[argparse.Action]:
-    """The options of a command that its help shows."""
-    return [each for each in command._actions if each.option_strings and each.help != argparse.SUPPRESS]
+def is_file(option: Option) -> bool:
+    return option.value == 'FILE'
 
 
-def places_of(command: argparse.ArgumentParser) -> list[argparse.Action]:
-    """The words of a command that aren't options."""
-    return [each for each in command._actions if not each.option_strings]
-
-
-def word_of(option: argparse.Action) -> str:
-    return option.option_strings[-1]
-
-
-def takes_value(option: argparse.Action) -> bool:
-    return option.nargs not in (0, '?')  # one that may have none is a word like any other
-
-
-def is_file(option: argparse.Action) -> bool:
-    return option.metavar == 'FILE'
-
-
-def choices_of(action: argparse.Action) -> list[str]:
-    return list(map(str, action.choices or ()))
-
-
-def help_of(action: argparse.Action) -> str:
-    """The help of an option, on one line."""
-    return (action.help or '') % {'default': action.default, 'prog': PROGRAM}
-
-
-def told(action: argparse.Action) -> str:
-    """The same without quotes."""
-    return help_of(action).replace("'", '').replace('"', '')
+def quoted(option: Option) -> str:
+    """The help of an option, as it is in quotes."""
+    return option.about.replace("'", '').replace('"', '')
 
 
 # ---- bash
@@ -64,7 +40,7 @@ def told(action: argparse.Action) -> str:
 
 def for_bash(commands: Commands) -> str:
     names = ' '.join(commands)
-    cases = ''.join(bash_case(name, command) for name, (_, command) in commands.items())
+    cases = ''.join(bash_case(name, options) for name, (_, options) in commands.items())
     return f"""\
 # Completion of {PROGRAM} in bash: {PROGRAM} completion bash > FILE, and then source FILE.
 _bully_member() {{
@@ -89,17 +65,16 @@ complete -F _bully_member {PROGRAM}
 """
 
 
-def bash_case(name: str, command: argparse.ArgumentParser) -> str:
+def bash_case(name: str, options: Sequence[Option]) -> str:
     """The case of a command: its words, those that take a path, and those that take another value."""
-    options = options_of(command)
-    words = [*map(word_of, options), *(choice for place in places_of(command) for choice in choices_of(place))]
-    paths = [word_of(each) for each in options if is_file(each)]
-    values = [word_of(each) for each in options if takes_value(each) and not is_file(each) and not each.choices]
-    more = ' more=1' if any(place.dest == OF_WORKER for place in places_of(command)) else ''
+    words = [*(each.word for each in named(options)), *(each for one in arguments(options) for each in one.choices)]
+    paths = [each.word for each in named(options) if is_file(each)]
+    values = [each.word for each in named(options) if each.needs_value and not is_file(each) and not each.choices]
+    more = ' more=1' if any(each.word == OF_WORKER for each in options) else ''
     line = f"        {name}) words='{' '.join(words)}' paths='{' '.join(paths)}' values='{' '.join(values)}'{more}"
     chosen = ''.join(
-        f"\n            [[ $before != {word_of(each)} ]] || words='{' '.join(choices_of(each))}'"
-        for each in options if each.choices
+        f"\n            [[ $before != {each.word} ]] || words='{' '.join(each.choices)}'"
+        for each in named(options) if each.choices
     )  # fmt: skip
     return f'{line}{chosen} ;;\n'
 
@@ -108,7 +83,7 @@ def bash_case(name: str, command: argparse.ArgumentParser) -> str:
 
 
 def for_zsh(commands: Commands) -> str:
-    named = ''.join(f"        '{name}:{about}'\n" for name, (about, _) in commands.items())
+    abouts = ''.join(f"        '{name}:{about}'\n" for name, (about, _) in commands.items())
     cases = ''.join(
         f'        {name}) _arguments {" ".join(zsh_words(each))} ;;\n' for name, (_, each) in commands.items()
     )
@@ -118,7 +93,7 @@ def for_zsh(commands: Commands) -> str:
 _bully_member() {{
     local -a commands
     commands=(
-{named}    )
+{abouts}    )
     if ((CURRENT == 2)); then
         _describe command commands
         _arguments '--help[show help]' '--version[show the version]'
@@ -137,21 +112,18 @@ fi
 """
 
 
-def zsh_words(command: argparse.ArgumentParser) -> Iterator[str]:
+def zsh_words(options: Sequence[Option]) -> Iterator[str]:
     """The specifications for `_arguments`."""
-    for option in options_of(command):
-        about = told(option).replace('[', '(').replace(']', ')').replace(':', '\\:')
-        yield f"'{word_of(option)}[{about}]{zsh_value(option) if takes_value(option) else ''}'"
-    for place in places_of(command):
-        if place.dest == OF_WORKER:
-            yield "'*::WORKER:_normal'"
-        else:
-            yield f"'{zsh_value(place)}'"
+    for option in named(options):
+        about = quoted(option).replace('[', '(').replace(']', ')').replace(':', '\\:')
+        yield f"'{option.word}[{about}]{zsh_value(option) if option.needs_value else ''}'"
+    for argument in arguments(options):
+        yield "'*::WORKER:_normal'" if argument.word == OF_WORKER else f"'{zsh_value(argument)}'"
 
 
-def zsh_value(action: argparse.Action) -> str:
-    named = f':{action.metavar or action.dest}:'
-    return named + ('_files' if is_file(action) else f'({" ".join(choices_of(action))})' if action.choices else '')
+def zsh_value(option: Option) -> str:
+    values = '_files' if is_file(option) else f'({" ".join(option.choices)})' if option.choices else ''
+    return f':{option.value or option.word[2:].replace("-", "_")}:{values}'
 
 
 # ---- fish
@@ -161,21 +133,24 @@ def for_fish(commands: Commands) -> str:
     first = f'complete -c {PROGRAM} -n __fish_use_subcommand'
     about_all = f"{first} -l help -d 'show help'", f"{first} -l version -d 'show the version'"
     lines = [f'complete -c {PROGRAM} -f', *about_all]
-    for name, (about, command) in commands.items():
+    for name, (about, options) in commands.items():
         lines.append(f"{first} -a {name} -d '{about}'")
-        lines += fish_lines(f"complete -c {PROGRAM} -n '__fish_seen_subcommand_from {name}'", command)
+        lines += fish_lines(f"complete -c {PROGRAM} -n '__fish_seen_subcommand_from {name}'", options)
     head = f'# Completion of {PROGRAM} in fish: put it into ~/.config/fish/completions/{PROGRAM}.fish.'
     return '\n'.join([head, *lines, ''])
 
 
-def fish_lines(begin: str, command: argparse.ArgumentParser) -> Iterable[str]:
+def fish_lines(begin: str, options: Sequence[Option]) -> Iterable[str]:
     """The lines of a command, each of which starts with these words."""
-    for option in options_of(command):
-        value = ' -F -r' if is_file(option) else ' -x' if takes_value(option) else ''
-        chosen = f" -a '{' '.join(choices_of(option))}'" if option.choices else ''
-        yield f"{begin} -l {word_of(option)[2:]} -d '{told(option)}'{value}{chosen}"
-    for place in places_of(command):
-        if place.choices:
-            yield f"{begin} -a '{' '.join(choices_of(place))}'"
-        elif place.dest == OF_WORKER:
+    for option in named(options):
+        value = ' -F -r' if is_file(option) else ' -x' if option.needs_value else ''
+        chosen = f" -a '{' '.join(option.choices)}'" if option.choices else ''
+        yield f"{begin} -l {option.word[2:]} -d '{quoted(option)}'{value}{chosen}"
+    for argument in arguments(options):
+        if argument.choices:
+            yield f"{begin} -a '{' '.join(argument.choices)}'"
+        elif argument.word == OF_WORKER:
             yield f'{begin} -F'
+
+
+SHELLS = {'bash': for_bash, 'zsh': for_zsh, 'fish': for_fish}

@@ -5,9 +5,11 @@ line if there is one.
 """
 from __future__ import annotations
 
+import bisect
 import codecs
 import re
-from collections.abc import Sequence
+from collections.abc import Iterable, Iterator, Sequence
+from typing import NamedTuple
 
 from .settings import ConfigFault, Settings, read_settings
 from .shared_log import LogError
@@ -17,7 +19,10 @@ TOP_KEYS = frozenset('nodes partitions events turns period names weights keep fa
 FAULT_KEYS = frozenset('at node kind'.split())
 KEY = re.compile(rb'\s*(?:"([^"\\]*)"|\'([^\']*)\'|([\w-]+))\s*=')  # at the start of a line
 TABLE = re.compile(rb'\s*\[\[?\s*[^\]]+\]')
-LINES_MAX = 1000  # of a document that is searched for a line that isn't TOML
+# What may be open at the end of a line, or not: texts, comments, and brackets.
+TOKEN = re.compile(
+    rb'"""(?:\\.|[^\\])*?"{3,5}|\'{3}.*?\'{3,5}|"(?:\\.|[^"\\\n])*"|\'[^\'\n]*\'|#[^\n]*|[][{}\n]', re.DOTALL
+)
 
 
 def settings_in(path: str) -> Settings:
@@ -79,53 +84,73 @@ def fault_of(lines: Sequence[bytes]) -> str:
 def with_line(text: bytes, fault: str) -> str:
     """A fault with the number of its line, as it follows the name of the file. A missing key has no line, nor has a
     fault whose line isn't clear."""
-    lines = text.split(b'\n')
+    lines, starts = text.split(b'\n'), starts_of(text)
     kind, _, key = fault.partition(' ')
     if kind == 'Missing':
-        return f': {fault}{mistyped(lines, key)}'
+        return f': {fault}{mistyped(keys_of(lines, starts), key)}'
     if kind == 'Toml':
-        line = line_of_form(lines)
-        return f':{line}: {fault}' if line else f': {fault}'
-    found = candidates(lines, 'names' if kind == 'DoubleName' else key)
-    numbers = [number for number, end, _ in found if fault_of(lines[:end]) == fault]
-    # (two in one table: one of them isn't a key, but part of a text of several lines)
-    if not numbers or len(numbers) > 1 and table_end(lines, numbers[0]) == table_end(lines, numbers[1]):
+        return f':{starts[first_with(fault, lines, starts) - 1] + 1}: {fault}'
+    found = [each for each in keys_of(lines, starts) if each.may_be('names' if kind == 'DoubleName' else key)]
+    at = first_with(fault, lines, [each.end for each in found])
+    if at == len(found) or [each.end for each in found].count(found[at].end) > 1:
         return f': {fault}'
-    named = next(name for number, _, name in found if number == numbers[0])
-    return f':{numbers[0]}: {fault}' if key or kind == 'DoubleName' else f':{numbers[0]}: {fault} {named}'
+    return f':{found[at].number}: {fault}' + ('' if key or kind == 'DoubleName' else f' {found[at].name}')
 
 
-def mistyped(lines: Sequence[bytes], key: str) -> str:
-    """Which line may have the missing key under another name: an unknown key that is spelled much like it."""
-    import difflib
-
-    found = {name: number for number, _, name in candidates(lines, '')}
-    near = difflib.get_close_matches(key, found, 1)
-    return f' (line {found[near[0]]} has {near[0]}, which is no key)' if near else ''
-
-
-def candidates(lines: Sequence[bytes], key: str) -> list[tuple[int, int, str]]:
-    """The lines that start with this key, or with a key that is unknown there: for each its number from 1, the number
-    of lines up to the end of its table, and its key."""
-    found, known = [], TOP_KEYS
-    for number, line in enumerate(lines, 1):
-        if TABLE.match(line):
-            known = FAULT_KEYS
-        match = KEY.match(line)
-        groups = match.groups() if match else ()
-        name = next((each for each in groups if each is not None), b'').decode('utf-8', 'replace')
-        if match and (name == key if key else name not in known):
-            found.append((number, table_end(lines, number), name))
+def starts_of(text: bytes) -> list[int]:
+    """The lines that start outside of all values, as far as the text is TOML: of each how many lines come before it."""
+    found, depth, lines = [0], 0, 0
+    for token in TOKEN.findall(text):
+        depth += (token in b'[{') - (token in b']}')
+        lines += token.count(b'\n')
+        if token == b'\n' and depth == 0:
+            found.append(lines)
     return found
 
 
-def table_end(lines: Sequence[bytes], number: int) -> int:
-    """How many lines there are up to the end of the table that has the line of this number."""
-    return next((at for at in range(number, len(lines)) if TABLE.match(lines[at])), len(lines))
+def first_with(fault: str, lines: Sequence[bytes], counts: Sequence[int]) -> int:
+    """The index of the first of these rising numbers of lines that have this fault; how many numbers there are, if none
+    has. More lines have it, too."""
+    low, high = 0, len(counts)
+    while low < high:
+        middle = (low + high) // 2
+        if fault_of(lines[: counts[middle]]) == fault:
+            high = middle
+        else:
+            low = middle + 1
+    return low
 
 
-def line_of_form(lines: Sequence[bytes]) -> int | None:
-    """The first line that isn't TOML. All lines before it are."""
-    if len(lines) > LINES_MAX:
-        return None
-    return max(count for count in range(len(lines)) if fault_of(lines[:count]) != 'Toml') + 1
+def mistyped(keys: Iterable[Key], missing: str) -> str:
+    """Which line may have the missing key under another name: an unknown key that is spelled much like it."""
+    import difflib
+
+    found = {key.name: key.number for key in keys if not key.is_known}
+    near = difflib.get_close_matches(missing, found, 1)
+    return f' (line {found[near[0]]} has {near[0]}, which is no key)' if near else ''
+
+
+class Key(NamedTuple):
+    """A key that starts a line: its name, the number of the line from 1, whether it is known there, and the number of
+    lines up to the end of its table."""
+
+    name: str
+    number: int
+    is_known: bool
+    end: int
+
+    def may_be(self, name: str) -> bool:
+        """Whether it is the one of a fault that has this name, or of one that has no name, of an unknown key."""
+        return self.name == name if name else not self.is_known
+
+
+def keys_of(lines: Sequence[bytes], starts: Sequence[int]) -> Iterator[Key]:
+    """The keys that start lines, of these lines that start outside of all values."""
+    tables = [start for start in starts if start < len(lines) and TABLE.match(lines[start])]
+    for start in starts:
+        match = KEY.match(lines[start]) if start < len(lines) else None
+        if match:
+            name = next(each for each in match.groups() if each is not None).decode('utf-8', 'replace')
+            at = bisect.bisect_right(tables, start)
+            known = FAULT_KEYS if at else TOP_KEYS
+            yield Key(name, start + 1, name in known, (*tables, len(lines))[at])

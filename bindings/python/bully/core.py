@@ -47,8 +47,8 @@ class Session:
 @dataclass(frozen=True, order=True)
 class Lease:
     """Who holds the lease of a node; which partitions its promise keeps, in rising order: none in an eager group; and
-    whether the holder is known to leave, as one that is told to. Then the others stop at once what its leaving takes
-    from them. A member's own lease shows it only once the member was told to leave."""
+    whether the holder is known to leave, as one that was asked to. Then the others stop at once what its leaving
+    takes from them. A member's own lease shows it only once the member was asked to leave."""
 
     node: int
     session: Session
@@ -99,7 +99,7 @@ class StoreAnswer(enum.Enum):
 
 
 class Ending(enum.Enum):
-    """Why a member ends: it was told to leave; its name isn't in the group any more; or its log has a row that isn't
+    """Why a member ends: it was asked to leave; its name isn't in the group any more; or its log has a row that isn't
     learned, or that isn't an event."""
 
     LEFT, NOT_THERE, BROKEN = 'left', 'not there', 'broken'

@@ -1,5 +1,5 @@
-"""Drives a core: what each step of its rules asks of the log and of the work, and what the core is told of what came of
-it.
+"""Drives a core: makes calls of the log, and starts and stops of work, of the steps that its rules ask for, and reports
+to it what came of them.
 
 A driver has no thread, no clock and does no IO. Whoever has a driver takes its next step, does that, and reports what
 came of it: `bully.member` over a log and a clock, and the tests in simulated time.
@@ -14,10 +14,11 @@ from typing import NamedTuple, Union
 from .adapter import Leases, awaited, core_opening_of, known_of, needs_promises, note_leaving, seen_of
 
 from .core import (
-    Activity, Ask, BackOff, Begin, Core, End, Ending, Live, Promise, Reason, Request, Seen, Stop, StoreAnswer, Until, Wait,
+    Activity, Ask, BackOff, Begin, Core, End, Ending, Live, Promise, Reason, Request, Seen, Stop, StoreAnswer, Until,
+    Wait,
 )  # fmt: skip
 from .epochs import Opening
-from .shared_log import Holder, Known, Log, Sessions, Snapshot
+from .shared_log import Holder, Log, Precondition, Sessions, Snapshot
 from .values import Owned, Status
 
 NONE: frozenset[int] = frozenset()  # no partitions
@@ -30,7 +31,7 @@ class Call(NamedTuple):
 
     ask: Ask
     call: Callable[[], Result]
-    known: Known | None = None
+    known: Precondition | None = None
 
 
 class Note(NamedTuple):
@@ -147,7 +148,7 @@ class Driver:
         return Start(owned, planner, self.working - before)
 
     def _stop(self) -> StopWork:
-        """What it may not go on with, and wasn't told to stop before."""
+        """What it may not go on with, and wasn't asked to stop before."""
         before = self.stopping
         self._look()
         return StopWork(self.stopping - before)

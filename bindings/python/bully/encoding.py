@@ -18,7 +18,7 @@ BY_HISTORY = '; history writes it as a trace, and init makes a new log'
 LARGEST = 2**24  # bytes of an append before it is compressed: the largest rebalance has some 400,000
 
 
-def see_form(where: str, form: int, wanted: int) -> None:
+def check_form(where: str, form: int, wanted: int) -> None:
     """Raises ForeignLog if the log doesn't have the form that is wanted."""
     if form != wanted:
         version, is_before = 'an older' if form < wanted else 'a newer', form == BEFORE
@@ -39,7 +39,7 @@ def log_name() -> str:
     return secrets.token_hex(8)
 
 
-def see_end(where: str, end: Promise, here: Promise) -> None:
+def check_end(where: str, end: Promise, here: Promise) -> None:
     """Raises DamagedLog if the log ends before an offset up to which it was read."""
     if here > end:
         read, ends = f'offset {here.offset} of epoch {here.epoch}', f'offset {end.offset} of epoch {end.epoch}'
@@ -98,7 +98,7 @@ def rows_of(where: str, epoch: int, offset: int, appends: Iterable[tuple[int, by
     if len(texts) < len(kept) or first > offset or end not in (None, here):
         said = f'rows of epoch {epoch} are missing after offset {offset if first > offset else here}'
         raise DamagedLog(f'{where}: {said}, or there is something else between them')
-    return plain_rows(where, epoch, first, ''.join(texts)).behind(offset - first)
+    return plain_rows(where, epoch, first, ''.join(texts)).after(offset - first)
 
 
 def append_text(where: str, epoch: int, offset: int, value: bytes) -> str:

@@ -16,6 +16,7 @@ from .values import EVENTS_MAX
 
 FIRST, LATEST = 1, 4_000_000_000  # the lowest and the highest number of a log's first epoch
 REBALANCE = 11  # rows for each node that a rebalance has at most
+EAGER, COOPERATIVE = 'eager', 'cooperative'  # what a change stops: all work, or only the work that moves
 TTL = 5.0  # seconds, unless the log or a member has another one
 LEAST = 2 * REBALANCE  # rows for each node for which an epoch must have room: two rebalances
 
@@ -96,6 +97,10 @@ class Opening:
     def settings(self) -> Settings:
         """The setup of the epoch's group, and the names of its nodes."""
         return Settings(setup_of(self.header), self.names)
+
+    @property
+    def mode(self) -> str:
+        return COOPERATIVE if self.is_cooperative else EAGER
 
     @property
     def bare(self) -> Opening:

@@ -33,22 +33,22 @@ from .clocks import SECOND, seconds_of_boot, sleep_until_ready, wall_clock
 from .core import Promise, Session, Until
 
 from .encoding import (
-    FORM, kept_of, kept_text, log_name, maintenance_of, no_epoch, opening_of, packed, requested_of, rows_of, rows_text,
-    see_end, see_form, session_of, session_text,
+    FORM, check_end, check_form, kept_of, kept_text, log_name, maintenance_of, no_epoch, opening_of, packed,
+    requested_of, rows_of, rows_text, session_of, session_text,
 )  # fmt: skip
 from .epochs import FIRST, Opening
 
 from .etcd_client import (
-    KV_RANGE, LEASE_GRANT, LEASE_KEEPALIVE, Answer, Client, Compacted, Json, Pair, Silent, Subscription, behind, coded,
-    exists, is_before, number_is, pair_of, pairs_of, put_at, put_of, range_at, range_below, range_from, ranges,
+    KV_RANGE, LEASE_GRANT, LEASE_KEEPALIVE, Answer, Client, Compacted, Json, Pair, Silent, Subscription, coded, exists,
+    is_before, number_is, pair_of, pairs_of, prefix_end, put_at, put_of, range_at, range_below, range_from, ranges,
     read_address, value_is, value_of,
 )  # fmt: skip
 from .maintenance import Maintenance
-from .repair import NOWHERE, Kept
+from .repair import NOWHERE, StoredEpoch
 
 from .shared_log import (
-    NOBODY, UNKNOWN, BadLease, DamagedLog, ForeignLog, Holder, Known, LogError, LogExists, NoLog, OtherLog, Sessions,
-    Snapshot, Unanswered, is_awaited, may_change,
+    NOBODY, UNKNOWN, BadLease, DamagedLog, ForeignLog, Holder, LogError, LogExists, NoLog, OtherLog, Precondition,
+    Sessions, Snapshot, Unanswered, is_awaited, may_change,
 )  # fmt: skip
 from .values import Rows
 
@@ -145,7 +145,7 @@ class Keys:
 
     def page(self, begin: bytes, epoch: int) -> Json:
         """The range of an epoch's appends, from one key on, that are read in one request."""
-        return range_from(begin, behind(self.rows(epoch)), limit=PAGE)
+        return range_from(begin, prefix_end(self.rows(epoch)), limit=PAGE)
 
     def standing(self, part: Part) -> list[Json]:
         """The ranges of all but rows: the end of the log, the requested settings, the maintenance, this part of the
@@ -165,7 +165,7 @@ class Keys:
         """The conditions that since this revision no promise was put, so no session either, but for those of this
         name."""
         own = self.promise(name)
-        parts = (self.promises, own), (own + b'\0', behind(self.promises))
+        parts = (self.promises, own), (own + b'\0', prefix_end(self.promises))
         return [is_before(revision + 1, begin, end) for begin, end in parts]
 
 
@@ -239,12 +239,12 @@ class EtcdLog:
         name, opening = value_of(named), value_of(older) or b''
         found = NAME.fullmatch(name or b'')
         if name is not None and found is not None:
-            see_form(self.address, int(found[1]), self.form)
+            check_form(self.address, int(found[1]), self.form)
             return name
         if not pairs_of(first):
             raise NoLog(f'{self.address}: there is no log; bully-member init makes one')
         if name is None and opening.startswith(OF_OLDEST):
-            see_form(self.address, OLDEST, self.form)
+            check_form(self.address, OLDEST, self.form)
         is_ours = pairs_of(first)[0].key.startswith((keys.failing, keys.first, keys.logs, keys.holders))
         if name is None and (opening.startswith(BEGIN.encode()) or is_ours):
             raise DamagedLog(f'{self.address}: the log has no name')
@@ -269,14 +269,14 @@ class EtcdLog:
             raise no_epoch(self.address, number, self.epochs())
         return opening_of(self.address, number, found[0].value)
 
-    def roll_over(self, epoch: int, offset: int, opening: Opening, known: Known | None = None) -> bool:
+    def roll_over(self, epoch: int, offset: int, opening: Opening, known: Precondition | None = None) -> bool:
         """Reads the requested settings first; they must be the same at the end."""
         self._client.begin()
         keys = self._keys
         read = map(range_at, (keys.opening(epoch), keys.requested, keys.offset))
         *asked, there = self._look(*read).ranges
         end, here = self._end_of(there), Promise(epoch, offset)
-        see_end(self.address, end, here)
+        check_end(self.address, end, here)
         found, at_next = map(pairs_of, asked)
         if not found or end != here:
             return False
@@ -408,10 +408,10 @@ class EtcdLog:
         answer = self._client.ask(LEASE_KEEPALIVE, {'ID': str(held.lease)}, repeats=True)
         return int(answer['header']['raft_term']) if int(answer.get('TTL', 0)) > 0 else None
 
-    def _counts(self, held: Held, before: int | None, behind: int) -> bool:
+    def _counts(self, held: Held, before: int | None, after: int) -> bool:
         """Whether a renewal counts, by etcd's terms before it and after it: the leader that granted the lease has done
         it."""
-        return held.term == before == behind
+        return held.term == before == after
 
     def _granted(self, session: Session, ttl: int, term: int) -> Held:
         """A new lease of etcd's, for this session."""
@@ -440,7 +440,7 @@ class EtcdLog:
 
     # The log.
 
-    def append(self, epoch: int, offset: int, rows: Sequence[str], known: Known | None = None) -> bool:
+    def append(self, epoch: int, offset: int, rows: Sequence[str], known: Precondition | None = None) -> bool:
         value, here = packed(rows_text(rows)), Promise(epoch, offset)
         self._client.begin()
         keys, end, row = self._keys, offset_text(Promise(epoch, offset + len(rows))), self._keys.row(epoch, offset)
@@ -453,10 +453,10 @@ class EtcdLog:
         is_end = value_is(keys.offset, offset_text(here).encode())
         answer = self._change([is_end, *conditions], done, range_at(keys.offset))
         if not answer.is_done:
-            see_end(self.address, self._end_of(answer.ranges[0]), here)
+            check_end(self.address, self._end_of(answer.ranges[0]), here)
         return answer.is_done
 
-    def _may_change(self, here: Promise, known: Known | None, is_append: bool) -> list[Json]:
+    def _may_change(self, here: Promise, known: Precondition | None, is_append: bool) -> list[Json]:
         """The conditions of leases for a change at the end of the log. All promises are in one comparison, which fails
         if there is none. If something is known all other leases than the writer's must be as they were then."""
         keys = self._keys
@@ -477,7 +477,7 @@ class EtcdLog:
         answer, rows = self._read_with(epoch, offset, lambda answer: epoch in self._there(answer), *ends)
         if rows is None:
             raise no_epoch(self.address, epoch, self.epochs())
-        see_end(self.address, self._end_of(answer.ranges[0]), Promise(epoch, offset))
+        check_end(self.address, self._end_of(answer.ranges[0]), Promise(epoch, offset))
         return rows
 
     def times(self, epoch: int, offset: int = 0) -> dict[int, int | None]:
@@ -485,7 +485,7 @@ class EtcdLog:
         times: dict[int, int | None] = {}
         while True:
             self._client.begin()
-            found = pairs_of(self._look(range_from(after, behind(begin), limit=PAGE)).ranges[0])
+            found = pairs_of(self._look(range_from(after, prefix_end(begin), limit=PAGE)).ranges[0])
             times.update({int(pair.key[-10:]): int(pair.value) if pair.value.isdigit() else None for pair in found})
             if len(found) < PAGE:
                 return times
@@ -543,20 +543,20 @@ class EtcdLog:
         self._client.begin()
         return self._client.ask(KV_RANGE, {**asked, 'revision': str(revision)}, repeats=True)
 
-    def kept(self) -> Kept:
+    def kept(self) -> StoredEpoch:
         self._client.begin()
         answer = self._look(range_at(self._keys.offset))
         end, keys = self._end_of(answer.ranges[0]), self._keys
         page = self._more(keys.page(keys.row(end.epoch, 0), end.epoch), answer.revision)
         pages = self._pages(end.epoch, page, answer.revision)
-        return Kept(end, [self._append_of(end.epoch, pair) for pair in pages])
+        return StoredEpoch(end, [self._append_of(end.epoch, pair) for pair in pages])
 
     def cut(self, end: Promise, append: int, text: str, opening: Opening) -> bool:
         self._client.begin()
         keys = self._keys
         nobody = {**range_below(keys.holders), **number_is(keys.holders, 'version', 0)}
-        begin, behind_all = keys.row(end.epoch, append), behind(keys.rows(end.epoch))
-        rest = begin + b'\0' * bool(text), behind_all
+        begin, end_of_all = keys.row(end.epoch, append), prefix_end(keys.rows(end.epoch))
+        rest = begin + b'\0' * bool(text), end_of_all
         gone = [removed(range_from(first, last)) for first, last in (rest, tuple(map(keys.time, rest)))]
         left = [put_of(begin, packed(text))] if text else []
         done = [*gone, *left, removed(range_at(keys.requested)), *keys.begin(opening)]
@@ -575,7 +575,7 @@ class EtcdLog:
         while True:
             answer, rows = self._read_with(epoch, offset, is_there, *self._keys.standing(part))
             end, maintenance = self._end_of(answer.ranges[0]), maintenance_of(self.address, value_of(answer.ranges[2]))
-            see_end(self.address, end, Promise(epoch, offset))
+            check_end(self.address, end, Promise(epoch, offset))
             if maintenance.is_paused and part.promise_of is not None:
                 part = news.newer(None)
             elif self._see_all(answer, part) or part[:2] == (0, 0):
@@ -638,8 +638,8 @@ class EtcdLog:
             self._see_all(self._look(*self._keys.standing(part)), part)
         if is_news():
             return True
-        behind_found = {'start_revision': str(self._news.revision + 1)}
-        self._watch = self._client.watch({**self._keys.watched(is_wide), **behind_found})
+        after_found = {'start_revision': str(self._news.revision + 1)}
+        self._watch = self._client.watch({**self._keys.watched(is_wide), **after_found})
         self._is_wide = is_wide
         return False
 
@@ -706,12 +706,12 @@ class News:
         self._made_of: str | None = None
         self._new: set[str] = set()  # of which names something was found since
         self._keys = keys
-        self._is_odd = False  # whether only a snapshot can tell what happened
+        self._needs_snapshot = False  # whether only a snapshot can tell what happened
 
     def newer(self, promise_of: str | None) -> Part:
         """What need be read of sessions and promises, for a snapshot with the promise of this name alone, or with
         all."""
-        return Part(0, 0, promise_of) if self._is_odd else Part(self.revision, self.promised, promise_of)
+        return Part(0, 0, promise_of) if self._needs_snapshot else Part(self.revision, self.promised, promise_of)
 
     def is_known(self, is_wide: bool) -> bool:
         """Whether all that a watch with promises or without them reports is known up to the revision of what was
@@ -733,21 +733,21 @@ class News:
         can't be found. If not, nothing changes. Raises ValueError, KeyError if a lease can't be read."""
         keys, (offset, requested, maintenance, *found) = self._keys, answer.ranges[:5]
         held = {keys.node(pair.key, keys.sessions): session_of(pair.value.decode()) for pair in pairs_of(found[0])}
-        told = {keys.node(pair.key, keys.promises): promise_of(pair.value.decode()) for pair in pairs_of(found[1])}
+        read = {keys.node(pair.key, keys.promises): promise_of(pair.value.decode()) for pair in pairs_of(found[1])}
         sessions = {**(self.sessions if part.sessions else {}), **held}
-        promises = {**(self.promises if part.promises or part.promise_of is not None else {}), **told}
+        promises = {**(self.promises if part.promises or part.promise_of is not None else {}), **read}
         are_all = part.promise_of is None
         there, expected = (sessions, promises)[: 1 + are_all], found[: 1 + are_all]
         if [len(each) for each in there] != [int(each.get('count', 0)) for each in expected]:
             return False
         for name in sessions if are_all else sessions.keys() & {part.promise_of}:
             promises[name]
-        self._new.update(held, told)
-        self.sessions, self.promises, self._is_odd = sessions, promises, False
+        self._new.update(held, read)
+        self.sessions, self.promises, self._needs_snapshot = sessions, promises, False
         self.end, self.requested, self.maintenance = value_of(offset), value_of(requested), value_of(maintenance)
         self.promised = answer.revision if are_all else self.promised
         notes = [(pair.key[len(keys.failing) :], pair.value) for pair in pairs_of(answer.ranges[5])]
-        self.failing = {name.decode(errors='replace'): told == GAVE_UP.encode() for name, told in notes}
+        self.failing = {name.decode(errors='replace'): note == GAVE_UP.encode() for name, note in notes}
         self.revision, self.is_fresh = answer.revision, True
         return True
 
@@ -760,8 +760,8 @@ class News:
         """Who holds a lease, with the promise of this name alone, or with all. If nothing is new these are the same
         objects as before: the holder, and all of them. So in a large group others see that at once."""
         names = self.sessions.keys() & self._new if self._made_of == promise_of else self.sessions.keys()
-        told = self.shown(promise_of)
-        made = {name: Holder(self.sessions[name], *told.get(name, UNKNOWN)) for name in names}
+        shown = self.shown(promise_of)
+        made = {name: Holder(self.sessions[name], *shown.get(name, UNKNOWN)) for name in names}
         new = {name: holder for name, holder in made.items() if holder != self._made.get(name)}
         if new or self._made.keys() - self.sessions.keys():
             self._made = {**{name: each for name, each in self._made.items() if name in self.sessions}, **new}
@@ -786,7 +786,7 @@ class News:
             elif key.startswith(keys.promises):
                 self._see_promise(keys.node(key, keys.promises), pair.value if is_put else None)
         except ValueError:
-            self._is_odd = True
+            self._needs_snapshot = True
 
     def _see_session(self, name: str, value: bytes | None) -> None:
         """Takes in the session of a node, or that it has gone."""
@@ -811,7 +811,7 @@ class News:
         end = offset_text(here).encode()
 
         def is_news() -> bool:
-            if self._is_odd or self.end != end or self.wanted != wanted or self.sessions != sessions:
+            if self._needs_snapshot or self.end != end or self.wanted != wanted or self.sessions != sessions:
                 return True
             return is_awaited(until, self.promises, (here, ()), before)
 

@@ -123,7 +123,7 @@ def coded(text: bytes) -> str:
     return b64encode(text).decode()
 
 
-def behind(prefix: bytes) -> bytes:
+def prefix_end(prefix: bytes) -> bytes:
     """The first key after all that have this prefix. (The last byte of a prefix is never the highest one.)"""
     return prefix[:-1] + bytes([prefix[-1] + 1])
 
@@ -140,7 +140,7 @@ def range_from(begin: bytes, end: bytes, **more: object) -> Json:
 
 def range_below(prefix: bytes, **more: object) -> Json:
     """The range of all keys with this prefix."""
-    return range_from(prefix, behind(prefix), **more)
+    return range_from(prefix, prefix_end(prefix), **more)
 
 
 def number_is(key: bytes, name: str, number: int) -> Json:
@@ -211,8 +211,8 @@ class Refusal(Exception):
     @property
     def denies(self) -> bool:
         """Whether etcd refuses this user."""
-        is_told = any(part in str(self) for part in ('permission', 'auth', 'user name'))
-        return self.is_of_etcd and self.code in OF_USERS and is_told
+        names_it = any(part in str(self) for part in ('permission', 'auth', 'user name'))
+        return self.is_of_etcd and self.code in OF_USERS and names_it
 
     @property
     def is_final(self) -> bool:

@@ -87,19 +87,19 @@ class Header:
 
     def functions(self) -> Iterator[Function]:
         """The functions in order."""
-        for told in self._text.split(';'):
-            head, bracket, behind = told.partition('(')
+        for declaration in self._text.split(';'):
+            head, bracket, rest = declaration.partition('(')
             if bracket:
-                parameters = behind.rpartition(')')[0]
+                parameters = rest.rpartition(')')[0]
                 takes = [] if parameters == 'void' else parameters.split(',')
                 yield Function(_declared(head).name, _declared(head).kind, tuple(map(_declared, takes)))
 
 
-def _declared(told: str) -> Declared:
+def _declared(text: str) -> Declared:
     """A declaration, as `const uint16_t *nodes`."""
-    found = re.fullmatch(r'(const )?(\w+ \*?)(\w+)', ' '.join(told.split()))
+    found = re.fullmatch(r'(const )?(\w+ \*?)(\w+)', ' '.join(text.split()))
     if not found:
-        raise ImportError(f'{FILE} declares what is not understood here: {" ".join(told.split())}')
+        raise ImportError(f'{FILE} declares what is not understood here: {" ".join(text.split())}')
     return Declared(bool(found.group(1)), found.group(2).rstrip(), found.group(3))
 
 

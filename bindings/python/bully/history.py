@@ -26,10 +26,10 @@ def trace(log: Log, epoch: int | None, has_times: bool = False) -> Sequence[str]
 
 def timed(rows: Sequence[str], times: Mapping[int, int | None]) -> list[str]:
     """The rows of a trace, each after the time of its append, if that is kept, and a comma."""
-    lines, told = [], ''
+    lines, time = [], ''
     for offset, row in enumerate(rows, -1):
-        told = time_text(times[offset]) if offset in times else told
-        lines.append(f'{told},{row}')
+        time = time_text(times[offset]) if offset in times else time
+        lines.append(f'{time},{row}')
     return lines
 
 

@@ -49,11 +49,11 @@ class Target:
         path, _, query = words.partition('?')
         return Target(unquote(path), query, host)
 
-    def asked_host(self, told: Sequence[str]) -> str:
+    def asked_host(self, headers: Sequence[str]) -> str:
         """The host of a request with these Host headers. Raises BadRequest."""
-        if len(told) > 1 or self.host == '':
+        if len(headers) > 1 or self.host == '':
             raise BadRequest('the request names no host, or more than one')
-        return read_host(''.join(told) if self.host is None else self.host)
+        return read_host(''.join(headers) if self.host is None else self.host)
 
 
 def read_host(words: str) -> str:
@@ -91,7 +91,7 @@ class Hosts:
     """The hosts by which a server may be asked."""
 
     def __init__(self, listens: str, bound: str, allowed: Iterable[str] = ()) -> None:
-        """The server was told to listen at the host `listens`, which is the address `bound`. Further hosts are
+        """The server listens at the host `listens`, which is the address `bound`. Further hosts are
         allowed."""
         address = address_in(bound)
         self._is_local = address is not None and address.is_loopback

@@ -14,9 +14,12 @@ from .values import Call, CallKind, Line, Owned, Rows, State, Status, Want
 
 FILE = 'libbully.so'
 UNPROVED = os.path.join('out', 'unproved', 'library')  # in the sources: what the demo builds
-WHERE = f'the wheel of a release has it, and an archive, in lib; in the sources run bin/library, which proves and builds {FILE}'
+BUILDS = f'in the sources run bin/library, which proves and builds {FILE}'
 SOONER = f'or bin/library --unproved {UNPROVED}, which builds it without proofs in minutes'
-HOW_TO_FIND = f'{WHERE}, {SOONER}, and then pip install bindings/python; or set BULLY_LIBRARY to the folder that has it'
+HOW_TO_FIND = (
+    f'the wheel of a release has it, and an archive, in lib; {BUILDS}, {SOONER}, and then pip install bindings/python; '
+    'or set BULLY_LIBRARY to the folder that has it'
+)
 ROOM_MIN = 256
 UINT16_MAX = 0xFFFF
 UINT32_MAX = 0xFFFF_FFFF

@@ -23,7 +23,7 @@ from .observer import waits_for
 from .settings import Settings
 from .shared_log import DamagedLog, Log, LogError, Snapshot, Unanswered, found_in, openings_of
 from .values import Status
-from .view import Behind
+from .view import ChangeWaits
 from .work_failures import Failures, GivingUp
 
 from .working import (
@@ -111,7 +111,7 @@ class Member:
         self.ttl, self.margin = ttl, ttl / 5
         self._other: Session | None = None  # the session of another process that was last seen for its node
         self.failure: BaseException | None = None
-        self.behind = Behind()
+        self.waits = ChangeWaits()
         self._driver = self._driver_of(opening, node)
         self.name = self._driver.name
         self._does = self._work_by((start, stop), (on_assigned, on_revoked), on_lost, work)
@@ -199,7 +199,7 @@ class Member:
 
     @property
     def is_leaving(self) -> bool:
-        """Whether it was told to end."""
+        """Whether it was asked to end."""
         return self._is_leaving
 
     def leave(self) -> None:
@@ -295,7 +295,7 @@ class Member:
 
     def _comes_back(self, ending: Ending) -> bool:
         """The member has ended. Returns whether it takes part again: if its node was drained or gave up, and that is
-        over before it is told to end."""
+        over before it is asked to end."""
         is_away = ending is Ending.LEFT and not self._is_leaving
         self.gave_up, self.is_drained = is_away and self.gave_up, is_away and not self.gave_up
         if not self.gave_up:  # that was logged before
@@ -386,12 +386,12 @@ class Member:
     def _wait(self, step: WaitForNews) -> None:
         """Waits for news in the log, or until it is woken; unless it must note something in the log."""
         if not self._notes():
-            self._see_behind(step.reason)
+            self._note_waits(step.reason)
             seconds = step.at_most / SECOND
             self._answer(lambda: self.log.wait(*step[:4], seconds, self._woken.fileno()))
         self._driver.woke()
 
-    def _see_behind(self, reason: Reason) -> None:
+    def _note_waits(self, reason: Reason) -> None:
         """Notes for whom the change waits that is under way, if one is. Without promises it isn't known for whom; what
         was noted before stays until the change is over."""
         core, found, end = self.core, self._driver.found, self._driver.end
@@ -399,7 +399,7 @@ class Member:
         if not is_over and not found.has_promises:
             return
         with suppress(OutOfMemory):  # then that isn't shown
-            self.behind.see(end, {} if is_over else waits_for(core, self.opening, found))
+            self.waits.see(end, {} if is_over else waits_for(core, self.opening, found))
 
     def _notes(self) -> bool:
         """Whether it made a call to the log to note how its work goes. Its node may have given up by that."""
@@ -465,7 +465,7 @@ class Member:
     # The callbacks, in their own thread.
 
     def _call_all(self) -> None:
-        """Makes the calls that it is told to, one after the other; at the end its work ends."""
+        """Makes the calls that it is asked for, one after the other; at the end its work ends."""
         for call in iter(self._to_call.get, None):
             self._call(call)
         self._call(self._does.end)

@@ -7,15 +7,15 @@ from typing import NamedTuple
 
 from .clocks import SECOND, nanoseconds_of_boot, sleep_until_ready, wall_clock
 from .core import Promise, Session, Until
-from .encoding import no_epoch, rows_text, see_end
+from .encoding import check_end, no_epoch, rows_text
 from .epochs import Opening
 from .maintenance import Maintenance
-from .shared_log import Holder, Known, Sessions, Snapshot, Wanted, is_awaited, may_change, promises_of, shown_in
+from .shared_log import Holder, Precondition, Sessions, Snapshot, Wanted, is_awaited, may_change, promises_of, shown_in
 
 WAKEABLE_WAIT = 0.02  # the longest wait in memory, in seconds, if something else may wake it
 
 
-class Lease(NamedTuple):
+class MemoryLease(NamedTuple):
     """A lease: its holder, and when it ends."""
 
     holder: Holder
@@ -28,7 +28,7 @@ class MemoryLog:
     def __init__(self, opening: Opening, clock: Callable[[], int] = nanoseconds_of_boot) -> None:
         """A log with this opening. Leases last by the clock, in whole nanoseconds."""
         self.clock = clock
-        self.leases: dict[str, Lease] = {}
+        self.leases: dict[str, MemoryLease] = {}
         self.requested: Opening | None = None
         self.maintenance = Maintenance()
         self.failing: dict[str, bool] = {}
@@ -100,12 +100,12 @@ class MemoryLog:
         return holder is not None and holder.session == session
 
     def _hold(self, name: str, holder: Holder, until: int) -> None:
-        self.leases[name] = Lease(holder, until)
+        self.leases[name] = MemoryLease(holder, until)
         self._changed.notify_all()
 
     # The log.
 
-    def append(self, epoch: int, offset: int, rows: Sequence[str], known: Known | None = None) -> bool:
+    def append(self, epoch: int, offset: int, rows: Sequence[str], known: Precondition | None = None) -> bool:
         rows_text(rows)
         with self._changed:
             done = self._may_change(Promise(epoch, offset), known, is_append=True)
@@ -115,7 +115,7 @@ class MemoryLog:
                 self._changed.notify_all()
             return done
 
-    def roll_over(self, epoch: int, offset: int, opening: Opening, known: Known | None = None) -> bool:
+    def roll_over(self, epoch: int, offset: int, opening: Opening, known: Precondition | None = None) -> bool:
         with self._changed:
             may_change = self._may_change(Promise(epoch, offset), known, is_append=False)
             done = may_change and opening.bare == self.opening().after(self.requested)
@@ -129,15 +129,15 @@ class MemoryLog:
         """The end of the current epoch's log."""
         return Promise(self.epoch, len(self.rows))
 
-    def _may_change(self, here: Promise, known: Known | None, is_append: bool) -> bool:
-        see_end('the log', self._end(), here)
+    def _may_change(self, here: Promise, known: Precondition | None, is_append: bool) -> bool:
+        check_end('the log', self._end(), here)
         return here == self._end() and may_change(self.holders, here, known, is_append)
 
     def read(self, epoch: int, offset: int) -> list[str]:
         with self._changed:
             if epoch not in self._rows:
                 raise no_epoch('the log', epoch, self.epochs())
-            see_end('the log', self._end(), Promise(epoch, offset))
+            check_end('the log', self._end(), Promise(epoch, offset))
             return self._rows[epoch][offset:]
 
     def times(self, epoch: int, offset: int = 0) -> dict[int, int | None]:
@@ -153,7 +153,7 @@ class MemoryLog:
 
     def snapshot(self, epoch: int, offset: int, promise_of: str | None = None) -> Snapshot:
         with self._changed:
-            see_end('the log', self._end(), Promise(epoch, offset))
+            check_end('the log', self._end(), Promise(epoch, offset))
             alone, failing = None if self.maintenance.is_paused else promise_of, dict(self.failing)
             rows, holders = self.rows[offset:] if epoch == self.epoch else [], shown_in(self.holders, alone)
             found = Snapshot(self.epoch, rows, holders, self.requested, self.maintenance, failing, 0, alone is None)

@@ -9,10 +9,9 @@ import threading
 from contextlib import suppress
 
 from .display import json_line, shown_name
-
+from .outputs import LAST_SECONDS
 
 WAITING_MAX = 1000  # messages that wait to be written; if there are more, the newest are left out
-LAST_SECONDS = 1.0  # the longest wait at the end, until all are written
 STANDARD_ERROR = 2
 
 
@@ -64,8 +63,8 @@ class Messages(logging.Handler):
     def _tell_left_out(self) -> None:
         """Says how many messages were left out, if any were. Raises queue.Full."""
         if self._left_out:
-            told = f'{self._left_out} messages were left out, because nobody read them'
-            self._lines.put_nowait(self.format(logging.makeLogRecord({'levelname': 'WARNING', 'msg': told})))
+            text = f'{self._left_out} messages were left out, because nobody read them'
+            self._lines.put_nowait(self.format(logging.makeLogRecord({'levelname': 'WARNING', 'msg': text})))
             self._left_out = 0
 
     def _write_all(self) -> None:

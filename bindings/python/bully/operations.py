@@ -19,7 +19,6 @@ from .member import node_number
 from .observer import Observer
 from .settings import Settings
 from .shared_log import Log, Snapshot, Unanswered, found_in
-from .store_options import BadWords
 
 EPOCH_WAIT = 0.5  # the longest of the waits for the end of an epoch, in seconds
 ASK_AGAIN = 0.1  # seconds before a log that didn't answer is asked again
@@ -140,8 +139,12 @@ def set_maintenance(log: Log, change: Change) -> Maintenance:
     raise Unanswered('others changed the maintenance at the same time')
 
 
+class LastNode(Exception):
+    """A drain would leave no node to work."""
+
+
 def drain(log: Log, name: str, takes_last: bool) -> Maintenance:
-    """Drains the node of this name. Raises NotInGroup; BadWords if no node would be left to work, unless
+    """Drains the node of this name. Raises NotInGroup; LastNode if no node would be left to work, unless
     `takes_last`."""
 
     def change(opening: Opening, found: Snapshot) -> Maintenance:
@@ -149,8 +152,7 @@ def drain(log: Log, name: str, takes_last: bool) -> Maintenance:
         drained, names = found.maintenance.drained | {name}, set(opening.names)
         others = (names & set(found.holders) or names) - drained
         if not others and name not in found.maintenance.drained and not takes_last:
-            why = f'{name} is the last node left that is not drained'
-            raise BadWords(f'{why}, so no node would work; use --all to drain it all the same')
+            raise LastNode(f'{name} is the last node left that is not drained, so no node would work')
         return dataclasses.replace(found.maintenance, drained=drained)
 
     return set_maintenance(log, change)

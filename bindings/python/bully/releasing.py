@@ -1,8 +1,8 @@
 """Releases the lease of a session whose process is gone, so that others need not wait for the ttl.
 
-A member says to its watchdog, before each session, how the lease of that session is released (`told_file`, or
-`told_command`). The watchdog does so (`release`) once its member is gone and nothing of a worker is left. It runs with
-this module and a few small ones alone, so this module loads what takes much memory only when it is used.
+A member says to its watchdog, before each session, how the lease of that session is released (`file_release`, or
+`command_release`). The watchdog does so (`release`) once its member is gone and nothing of a worker is left. It runs
+with this module and a few small ones alone, so this module loads what takes much memory only when it is used.
 """
 from __future__ import annotations
 
@@ -29,23 +29,23 @@ COUNTED = 'update changes set sessions = sessions + 1'
 NAME = 'select name from changes'
 
 
-def told_file(path: str, log: str, node: str, session: str) -> bytes:
+def file_release(path: str, log: str, node: str, session: str) -> bytes:
     """How the lease of this session is released from the log of that name in a file."""
     return json.dumps({'file': path, 'log': log, 'node': node, 'session': session}).encode()
 
 
-def told_command(words: Sequence[str], more: Mapping[str, str]) -> bytes:
+def command_release(words: Sequence[str], more: Mapping[str, str]) -> bytes:
     """The same by a command, with more in its environment, as a password: all users see the words."""
     return json.dumps({'command': words, 'more': dict(more)}).encode()
 
 
-def release(told: bytes, seconds: float) -> None:
+def release(message: bytes, seconds: float) -> None:
     """Releases the lease. This process ends after so many seconds, at most, or becomes the command: a lease that isn't
     released by then ends by itself."""
     signal.signal(signal.SIGALRM, signal.SIG_DFL)
     signal.setitimer(signal.ITIMER_REAL, seconds)
     try:
-        what = json.loads(told)
+        what = json.loads(message)
         if 'file' in what:
             release_from_file(what['file'], what['log'], what['node'], what['session'], seconds)
         else:
@@ -68,7 +68,7 @@ def release_from_file(path: str, log: str, node: str, session: str, seconds: flo
     file.execute('begin immediate')
     found = file.execute(BOOT, (node, session)).fetchone()
     if file.execute(NAME).fetchone()[0] == log and found is not None:
-        see_lost(file, f'{path}-wal', found[0], nanoseconds_of_boot())
+        renew_lost(file, f'{path}-wal', found[0], nanoseconds_of_boot())
         release_in(file, node, session)
     file.execute('commit')
     close(file, path)
@@ -99,7 +99,7 @@ def close(file: sqlite3.Connection, path: str) -> None:
         keeps.close()
 
 
-def see_lost(file: sqlite3.Connection, wal: str, boot: str, now: int) -> None:
+def renew_lost(file: sqlite3.Connection, wal: str, boot: str, now: int) -> None:
     """If nobody has written to this -wal yet, but leases are noted in the file itself, which has each, the one before
     was lost (`close`), with renewals and rows, and processes may still use it. So these leases last for another ttl, as
     those of another boot. In a transaction that writes."""

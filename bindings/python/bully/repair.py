@@ -20,7 +20,7 @@ from .shared_log import BadLease, DamagedLog, Log, found_in
 NOWHERE = 2**63  # after all offsets: for something that isn't an append
 
 
-class Kept(NamedTuple):
+class StoredEpoch(NamedTuple):
     """What a store keeps of the current epoch, whatever it is: the end of its log, and the appends by their offsets, as
     they are kept."""
 
@@ -31,7 +31,7 @@ class Kept(NamedTuple):
 class Repairable(Log, Protocol):
     """A log that can be repaired."""
 
-    def kept(self) -> Kept:
+    def kept(self) -> StoredEpoch:
         """What the store keeps of the current epoch."""
 
     def cut(self, end: Promise, append: int, text: str, opening: Opening) -> bool:
@@ -52,7 +52,8 @@ class Damage(NamedTuple):
     opening: Opening
 
     @property
-    def told(self) -> str:
+    def summary(self) -> str:
+        """What is wrong, and what is cut."""
         count = max(len(self.rows), self.end.offset - self.offset)  # some may not be readable
         cut = f'{count} of {self.end.offset} rows are to be cut, and then epoch {self.opening.epoch} starts'
         return f'epoch {self.end.epoch}, offset {self.offset}: {self.why}; {cut}'

@@ -4,28 +4,23 @@ from __future__ import annotations
 import argparse
 import os
 import sys
-import time
 from collections.abc import Callable
 from contextlib import suppress
 from pathlib import Path
 from typing import TYPE_CHECKING
 
-from .clocks import seconds_of_boot
 from .core import Session
 from .encoding import session_of, session_text
-from .releasing import told_command, told_file
+from .releasing import command_release, file_release
 from .shared_log import Log
-from .sqlite import SqliteLog
-from .store_options import OF_ETCD, PASSWORD, BadWords, EtcdStore, FileStore, name_of
+from .store_options import OF_ETCD, PASSWORD, BadWords, FileStore, Store, name_of
 
 if TYPE_CHECKING:
     from .worker import Workers
 
-ALONE_WAIT = 0.02  # seconds between two looks for other processes
 # Runs the command by Python's own modules and those of one folder: no file of the working directory, and no path of the
 # environment, counts.
 COMMAND = 'import sys; sys.path.append(sys.argv.pop(1)); from bully_member import main; sys.exit(main())'
-CONTROL = '.control'  # the part of a unit's control group in which systemd may start a command of its own
 
 
 class SessionNotes:
@@ -76,83 +71,18 @@ def session_in(path: str) -> Session | None:
 # ---- By the watchdog
 
 
-def releases_of(
-    options: argparse.Namespace, store: FileStore | EtcdStore, log: Log
-) -> Callable[[Session], bytes] | None:
-    """What the watchdog of a member is told of a session, to release its lease: for a file what it needs itself, and
+def releases_of(options: argparse.Namespace, store: Store, log: Log) -> Callable[[Session], bytes] | None:
+    """What the watchdog of a member hears of a session, to release its lease: for a file what it needs itself, and
     otherwise the words of a command."""
     if isinstance(store, FileStore):
+        from .sqlite import SqliteLog
+
         path, name = os.path.realpath(store.path), log.name if isinstance(log, SqliteLog) else ''
-        return lambda session: told_file(path, name, options.node, session_text(session))
+        return lambda session: file_release(path, name, options.node, session_text(session))
     python = [sys.executable, '-I', '-S', '-c', COMMAND, str(Path(__file__).resolve().parents[1])]
     words = [*python, 'release', f'--log={options.log}', f'--node={options.node}']
     for word, _, _ in OF_ETCD:
         given = getattr(options, name_of(word))
         words += [f'{word}={given}'] if given else []
     more = {PASSWORD: store.password} if store.password and not options.password_file else {}
-    return lambda session: told_command([*words, '--session', session_text(session)], more)
-
-
-# ---- Alone in a control group
-
-
-def is_alone(seconds: float) -> bool:
-    """Whether no other process is left in the control group of this one, or none is within so many seconds: a unit of
-    systemd's has one of its own, so then nothing of the unit's worker is left. Not so if that can't be seen."""
-    end = seconds_of_boot() + seconds
-    while True:
-        with suppress(OSError, ValueError):
-            if not others_in_group():
-                return True
-        if seconds_of_boot() >= end:
-            return False
-        time.sleep(ALONE_WAIT)
-
-
-def others_in_group() -> set[int]:
-    """The processes in the control group of this process and below it, but for this one and those that wait for it.
-    Raises OSError, ValueError."""
-    folder = group_folder(
-        Path('/proc/self/cgroup').read_text(encoding='utf-8'), Path('/proc/self/mountinfo').read_text(encoding='utf-8')
-    )
-    found: set[int] = set()
-    for path, _, files in os.walk(folder, onerror=raise_it):
-        if 'cgroup.procs' not in files:
-            raise ValueError(f'{path} is no control group')
-        found.update(map(int, Path(path, 'cgroup.procs').read_text(encoding='ascii').split()))
-    own = ancestors()
-    if os.getpid() not in found:
-        raise ValueError('this process is not in its control group')
-    return found - own
-
-
-def raise_it(fault: OSError) -> None:
-    raise fault
-
-
-def group_folder(groups: str, mounts: str) -> str:
-    """The folder of the control group, by these lists of this process: that of systemd's own hierarchy, or else of the
-    unified one. Raises ValueError."""
-    parts = [line.split(':', 2) for line in groups.splitlines()]
-    paths = {name: path for _, name, path in parts}
-    kind = 'name=systemd' if 'name=systemd' in paths else ''
-    path = paths[kind] if kind in paths else ''
-    for line in mounts.splitlines():
-        before, _, after = line.partition(' - ')
-        root, place, filesystem = *before.split()[3:5], after.split()[0]
-        is_it = filesystem == 'cgroup' and 'name=systemd' in after if kind else filesystem == 'cgroup2'
-        if is_it and path and (root == '/' or path == root or path.startswith(f'{root}/')):
-            below = path if root == '/' else path[len(root) :]
-            folder = f'{place}/{below.strip("/")}'.rstrip('/')
-            return os.path.dirname(folder) if os.path.basename(folder) == CONTROL else folder
-    raise ValueError('this process has no control group that can be seen')
-
-
-def ancestors() -> set[int]:
-    """This process, and those above it."""
-    found, process = set(), os.getpid()
-    while process > 0 and process not in found:
-        found.add(process)
-        status = Path(f'/proc/{process}/stat').read_text(encoding='ascii', errors='replace')
-        process = int(status.rsplit(')', 1)[1].split()[1])
-    return found
+    return lambda session: command_release([*words, '--session', session_text(session)], more)

@@ -42,10 +42,10 @@ class Settings:
 def read_settings(text: bytes) -> Settings:
     """The settings of this document. Raises ConfigFault with the first fault, as docs/FORMATS.md names it."""
     try:
-        told = Room().text(loaded().bully_configuration, text, len(text)).encode()
+        answer = Room().text(loaded().bully_configuration, text, len(text)).encode()
     except BadConfig as fault:
         raise ConfigFault(str(fault)) from None
-    header, _, names = told.partition(b'\n')
+    header, _, names = answer.partition(b'\n')
     return Settings(setup_of(header.decode()), tuple(names_in(names)))
 
 

@@ -6,7 +6,7 @@ offset 0. A process acquires the *lease* of its node, under the node's name, for
 renews it. Leases are by name, over all epochs. A lease has a promise: its session works by no plan before that offset
 of that epoch, except on the partitions that the promise keeps. In an eager group rows are appended, and an epoch is
 ended, only while all holders of leases have promised the end of its log and keep nothing; so nobody works at that time.
-In a cooperative group only the holders that a change affects are compared (`Known`).
+In a cooperative group only the holders that a change affects are compared (`Precondition`).
 
 `Log` is the interface. `bully.memory` has a log in the memory of a process, `bully.sqlite` one in a file of one
 machine, and `bully.etcd` one in etcd. `docs/REBALANCING.md` says when a store does what members ask for, and
@@ -91,8 +91,8 @@ class Holder(NamedTuple):
     kept: tuple[int, ...] = ()
 
     def after(self, promise: Promise, kept: tuple[int, ...]) -> Holder:
-        """The same after another promise of the session, which may come late: the later one of both counts; of two of
-        one offset the new one if it keeps nothing that the other one doesn't keep."""
+        """The holder after another promise of its session. A promise may come late, so the one with the higher offset
+        counts. Of two promises of one offset the new one counts if it keeps only what the other one keeps."""
         is_later = promise > self.promise or promise == self.promise and set(kept) <= set(self.kept)
         return Holder(self.session, promise, kept) if is_later else self
 
@@ -105,7 +105,7 @@ UNKNOWN: tuple[Promise, tuple[int, ...]] = Promise(), ()  # a promise that a sna
 NOBODY = ''  # the name of no node
 
 
-class Known(NamedTuple):
+class Precondition(NamedTuple):
     """What a change compares of leases, in a cooperative group: those of these nodes. Each must be as the writer knows
     it: its own with its last promise that was done, all others as its last snapshot found them; or its holder must be
     idle. The revision is that of this snapshot."""
@@ -177,13 +177,13 @@ class Log(Protocol):
         """If the session holds the lease, it has made this promise, which keeps these partitions, in rising order; or
         an earlier promise of it stays (`Holder.after`). Returns whether it holds the lease."""
 
-    def append(self, epoch: int, offset: int, rows: Sequence[str], known: Known | None = None) -> bool:
+    def append(self, epoch: int, offset: int, rows: Sequence[str], known: Precondition | None = None) -> bool:
         """Appends these rows, at least one, if the epoch is the current one, its log ends at this offset, somebody
         holds a lease, and all holders have promised that offset of that epoch and keep nothing; or, if something is
         `known`, only what that says. Otherwise nothing changes. A store may also refuse if more has changed than that
         compares. Returns whether it appended."""
 
-    def roll_over(self, epoch: int, offset: int, opening: Opening, known: Known | None = None) -> bool:
+    def roll_over(self, epoch: int, offset: int, opening: Opening, known: Precondition | None = None) -> bool:
         """Ends the epoch, and starts the next one with this opening, on the conditions of `append`, and if the opening
         is the `next` of this epoch's for the requested settings. Each holder that is compared must be idle. Leases and
         promises stay; the request to resize is done. Returns whether it did."""
@@ -248,7 +248,7 @@ def openings_of(log: Log) -> Iterator[Opening]:
             yield log.opening(epoch)
 
 
-def may_change(holders: Mapping[str, Holder], here: Promise, known: Known | None, is_append: bool) -> bool:
+def may_change(holders: Mapping[str, Holder], here: Promise, known: Precondition | None, is_append: bool) -> bool:
     """Whether these holders of leases allow a change where the log ends: an append, or the end of the epoch."""
     compared = {name: holder for name, holder in holders.items() if known is None or name in known.affected}
     seen = known.holders if known is not None and is_append else {}

@@ -18,21 +18,21 @@ from .clocks import SECOND, nanoseconds_of_boot, sleep_until_ready, wall_clock
 from .core import Promise, Session, Until
 
 from .encoding import (
-    FORM, kept_of, kept_text, log_name, maintenance_of, no_epoch, opening_of, packed, requested_of, rows_of, rows_text,
-    see_end, see_form, session_of, session_text,
+    FORM, check_end, check_form, kept_of, kept_text, log_name, maintenance_of, no_epoch, opening_of, packed,
+    requested_of, rows_of, rows_text, session_of, session_text,
 )  # fmt: skip
 from .epochs import Opening
 from .maintenance import Maintenance
-from .releasing import LOST, close, connected, release_in, see_lost
-from .repair import Kept
+from .releasing import LOST, close, connected, release_in, renew_lost
+from .repair import StoredEpoch
 
 from .shared_log import (
-    NOBODY, BadLease, DamagedLog, DiskFull, ForeignLog, Holder, Known, LogBusy, LogExists, OtherLog, ReadOnlyLog,
+    NOBODY, BadLease, DamagedLog, DiskFull, ForeignLog, Holder, LogBusy, LogExists, OtherLog, Precondition, ReadOnlyLog,
     Sessions, Snapshot, Unanswered, is_awaited, kept_same, may_change, promises_of, shown_in,
 )  # fmt: skip
 from .sqlite_file import (
-    NEW, OTHERS_BESIDE, OWNER_ALONE, Identity, are_open, beside, identity_of, keep_name, make, remove, see_alone,
-    see_disk, see_file, told_holder, told_owner,
+    NEW, OTHERS_BESIDE, OWNER_ALONE, Identity, are_open, beside, check_alone, check_disk, check_file, holder_text,
+    identity_of, keep_name, make, owner_text, remove,
 )  # fmt: skip
 from .values import Rows
 
@@ -94,8 +94,8 @@ def calls(path: str) -> Iterator[None]:
     except sqlite3.Error as error:
         said = str(error)
         meaning = next((meaning for part, meaning in MEANINGS if re.search(part, said)), Unanswered)
-        more = told_holder(f'{os.path.realpath(path)}-shm') if meaning is LogBusy else ''
-        more = told_owner(path) if meaning is ReadOnlyLog else more
+        more = holder_text(f'{os.path.realpath(path)}-shm') if meaning is LogBusy else ''
+        more = owner_text(path) if meaning is ReadOnlyLog else more
         raise meaning(f'{path}: {said}{more}') from error
 
 
@@ -108,19 +108,19 @@ def form_of(path: str, file: sqlite3.Connection) -> int:
     return int(file.execute('pragma user_version').fetchone()[0])
 
 
-class Lease(NamedTuple):
+class StoredLease(NamedTuple):
     """A lease: its holder, and when it ends."""
 
     holder: Holder
     until: int
 
 
-def lease_of(where: str, name: str, session: str, epoch: int, offset: int, kept: str, until: int) -> Lease:
+def lease_of(where: str, name: str, session: str, epoch: int, offset: int, kept: str, until: int) -> StoredLease:
     """The lease of that name, from a row of the table. Raises BadLease."""
     try:
         if not isinstance(until, int):
             raise ValueError(f'{until!r} is not a time')
-        return Lease(Holder(session_of(session), Promise(int(epoch), int(offset)), kept_of(str(kept))), until)
+        return StoredLease(Holder(session_of(session), Promise(int(epoch), int(offset)), kept_of(str(kept))), until)
     except (ValueError, TypeError) as fault:
         raise BadLease(f'{where}: the lease of {name} can not be read: {fault}') from fault
 
@@ -155,9 +155,9 @@ class SqliteLog:
 
         Raises NoLog, ForeignLog, DamagedLog, ReadOnlyLog, Unanswered."""
         self.path = os.fspath(path)
-        self._identity = identity_of(see_file(self.path))
+        self._identity = identity_of(check_file(self.path))
         self._beside: list[Identity] | None = None  # the files beside it, once the log is used
-        see_alone(self.path)
+        check_alone(self.path)
         self._boot = boot_name()
         self._sight = 0  # when it must check again which files are there
         self._name = ''  # of the log, once it is known
@@ -185,7 +185,7 @@ class SqliteLog:
         name = os.fspath(path)
         room = f'{name}.{log_name()}{NEW}'  # processes of two containers may have the same number
         try:
-            see_disk(os.path.dirname(name) or '.')
+            check_disk(os.path.dirname(name) or '.')
             make(room, mode)
             with calls(name), closing(connection(room, 1.0)) as file:
                 kind = f'pragma application_id = {APPLICATION}; pragma user_version = {FORM}'
@@ -204,7 +204,7 @@ class SqliteLog:
 
     def _open(self, kind: str) -> None:
         with calls(self.path):
-            see_form(self.path, form_of(self.path, self._file), self.form)
+            check_form(self.path, form_of(self.path, self._file), self.form)
             mode = self._file.execute('pragma journal_mode = wal').fetchone()[0]
             if mode != 'wal':
                 raise ForeignLog(f'{self.path}: SQLite keeps a journal of mode {mode} here, and can not keep a -wal')
@@ -214,7 +214,7 @@ class SqliteLog:
             if len(self._beside) < 2 or not are_open(self._beside):
                 raise OtherLog(f'{self.path}: {REMOVED}')
             if kind != 'deferred':
-                see_lost(self._file, f'{os.path.realpath(self.path)}-wal', self._boot, standing.now)
+                renew_lost(self._file, f'{os.path.realpath(self.path)}-wal', self._boot, standing.now)
 
     @property
     def name(self) -> str:
@@ -236,7 +236,7 @@ class SqliteLog:
                 raise no_epoch(self.path, number, self.epochs())
         return opening_of(self.path, number, found[0])
 
-    def roll_over(self, epoch: int, offset: int, opening: Opening, known: Known | None = None) -> bool:
+    def roll_over(self, epoch: int, offset: int, opening: Opening, known: Precondition | None = None) -> bool:
         with self._syncing() as standing:
             if not self._may_change(standing, Promise(epoch, offset), known, is_append=False):
                 return False
@@ -302,7 +302,7 @@ class SqliteLog:
             held = name, session_text(session), promise.epoch, promise.offset, '', self._boot, now, now + ttl
             self._file.execute('insert or replace into leases values (?, ?, ?, ?, ?, ?, ?, ?)', held)
             self._file.execute('update changes set sessions = sessions + 1')
-        self._write_through()  # before anybody works by it: `see_lost`
+        self._write_through()  # before anybody works by it: `renew_lost`
         return True
 
     def _enter_boot(self, standing: Standing) -> bool:
@@ -372,8 +372,8 @@ class SqliteLog:
             if holder is None:
                 return False
             after = holder.after(promise, kept)
-            told = after.promise.epoch, after.promise.offset, kept_text(after.kept)
-            self._file.execute('update leases set epoch = ?, offset = ?, kept = ? where name = ?', (*told, name))
+            values = after.promise.epoch, after.promise.offset, kept_text(after.kept)
+            self._file.execute('update leases set epoch = ?, offset = ?, kept = ? where name = ?', (*values, name))
             self._file.execute('update changes set promises = promises + 1')
         return True
 
@@ -382,17 +382,17 @@ class SqliteLog:
         found = self._leases(standing, name).get(name)
         return found.holder if found is not None and found.holder.session == session else None
 
-    def _leases(self, standing: Standing, name: str | None = None) -> dict[str, Lease]:
+    def _leases(self, standing: Standing, name: str | None = None) -> dict[str, StoredLease]:
         """The leases that are held, or the one of this name. One that ended since the moment of `standing` is there
         still, but none is missing that was renewed since."""
         asked, words = (LEASES, ()) if name is None else (f'{LEASES} and name = ?', (name,))
         found = self._file.execute(asked, (self._boot, standing.now, *words)).fetchall()
-        return {name: lease_of(self.path, name, *told) for name, *told in found}
+        return {name: lease_of(self.path, name, *values) for name, *values in found}
 
-    def _see_files(self) -> None:
+    def _check_files(self) -> None:
         """Raises OtherLog if another file is in the place of one of its own, or others may reach the file by another
         path, which has other files beside it: there may be two histories then."""
-        found = see_file(self.path)
+        found = check_file(self.path)
         if identity_of(found) != self._identity:
             raise OtherLog(f'{self.path}: there is another file in its place')
         if found.st_nlink > 1:
@@ -403,7 +403,7 @@ class SqliteLog:
 
     # The log.
 
-    def append(self, epoch: int, offset: int, rows: Sequence[str], known: Known | None = None) -> bool:
+    def append(self, epoch: int, offset: int, rows: Sequence[str], known: Precondition | None = None) -> bool:
         if offset == 0:
             self._write_through()  # so that no epoch comes again in which a member worked: `_enter_boot`
         value = packed(rows_text(rows))
@@ -414,8 +414,8 @@ class SqliteLog:
             self._file.execute('update epochs set count = ? where epoch = ?', (offset + len(rows), epoch))
         return True
 
-    def _may_change(self, standing: Standing, here: Promise, known: Known | None, is_append: bool) -> bool:
-        see_end(self.path, standing.end, here)
+    def _may_change(self, standing: Standing, here: Promise, known: Precondition | None, is_append: bool) -> bool:
+        check_end(self.path, standing.end, here)
         return here == standing.end and may_change(self._holders(standing), here, known, is_append)
 
     def _holders(self, standing: Standing) -> dict[str, Holder]:
@@ -427,7 +427,7 @@ class SqliteLog:
             found = self._file.execute('select count from epochs where epoch = ?', (epoch,)).fetchone()
             if found is None or found[0] is None:
                 raise no_epoch(self.path, epoch, self.epochs())
-            see_end(self.path, standing.end, Promise(epoch, offset))
+            check_end(self.path, standing.end, Promise(epoch, offset))
             return self._rows(epoch, offset, found[0])
 
     def times(self, epoch: int, offset: int = 0) -> dict[int, int | None]:
@@ -447,9 +447,9 @@ class SqliteLog:
         asked = 'select offset, cast(rows as blob) from log where epoch = ? and offset >= ? order by offset'
         return self._file.execute(asked, (epoch, first)).fetchall()
 
-    def kept(self) -> Kept:
+    def kept(self) -> StoredEpoch:
         with self._transaction('deferred') as standing:
-            return Kept(standing.end, self._appends(standing.end.epoch, 0))
+            return StoredEpoch(standing.end, self._appends(standing.end.epoch, 0))
 
     def cut(self, end: Promise, append: int, text: str, opening: Opening) -> bool:
         with self._syncing() as standing:
@@ -471,7 +471,7 @@ class SqliteLog:
         of these is new. Otherwise it has them from the last time."""
         with self._transaction('deferred') as standing:
             end = standing.end
-            see_end(self.path, end, Promise(epoch, offset))
+            check_end(self.path, end, Promise(epoch, offset))
             rows = self._rows(epoch, offset, end.offset) if epoch == end.epoch else Rows('')
             requested = requested_of(self.path, end.epoch, standing.requested)
             maintenance = maintenance_of(self.path, standing.maintenance)
@@ -530,7 +530,7 @@ class SqliteLog:
     def _is_news(self, here: Promise, sessions: Sessions, until: Until) -> bool:
         """Whether there is what `wait` waits for. Only a commit and the end of a lease can bring it."""
         if nanoseconds_of_boot() >= self._sight:
-            self._see_files()
+            self._check_files()
         with calls(self.path):
             version = self._one('pragma data_version')
             is_end = nanoseconds_of_boot() >= self._earliest  # a lease has ended, unless it was renewed
@@ -590,7 +590,7 @@ class SqliteLog:
     @contextmanager
     def _transaction(self, kind: str = 'immediate') -> Iterator[Standing]:
         """One transaction, with the state of the log in it. A return commits it, and an exception rolls it back."""
-        self._see_files()
+        self._check_files()
         with calls(self.path):
             self._file.execute(f'begin {kind}')
             try:

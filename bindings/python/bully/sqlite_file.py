@@ -33,7 +33,7 @@ def identity_of(found: os.stat_result) -> Identity:
     return found.st_dev, found.st_ino
 
 
-def see_file(path: str) -> os.stat_result:
+def check_file(path: str) -> os.stat_result:
     """What the system shows of this file. Raises NoLog, ForeignLog."""
     try:
         found = os.stat(path)
@@ -63,16 +63,16 @@ def are_open(files: Collection[Identity]) -> bool:
     return own.issuperset(files)
 
 
-def see_alone(path: str) -> None:
+def check_alone(path: str) -> None:
     """Raises ForeignLog if the file can be reached by another path, because a process that uses that one has other
     files beside it; or if other machines may reach it."""
     if os.stat(path).st_nlink > 1:
-        see_one_name(os.path.realpath(path))
-    see_mounts(path, os.path.realpath(path))
-    see_disk(path)
+        check_one_name(os.path.realpath(path))
+    check_mounts(path, os.path.realpath(path))
+    check_disk(path)
 
 
-def see_mounts(path: str, real: str) -> None:
+def check_mounts(path: str, real: str) -> None:
     """Raises ForeignLog if the file at this real path, or one beside it, isn't in the same mount as its folder."""
     folder = mount_of(os.path.dirname(real))
     for each in (path, *(real + end for end in BESIDE)):
@@ -81,7 +81,7 @@ def see_mounts(path: str, real: str) -> None:
                 raise ForeignLog(f'{each}: it is mounted alone, {OTHERS_BESIDE}; mount its folder')
 
 
-def see_one_name(path: str) -> None:
+def check_one_name(path: str) -> None:
     """Raises ForeignLog if the file has another name than this. An `init` that was killed may have left the name by
     which it made the file; that name is removed."""
     folder = os.path.dirname(path)
@@ -115,7 +115,7 @@ def mount_of(path: str) -> str:
         os.close(descriptor)
 
 
-def see_disk(path: str) -> None:
+def check_disk(path: str) -> None:
     """Raises ForeignLog if the path is on a file system that machines share."""
     kind = kind_of(mount_of(path), Path('/proc/self/mountinfo').read_text(encoding='utf-8', errors='replace'))
     if kind in SHARED:
@@ -160,7 +160,7 @@ def keep_name(path: str) -> None:
 # ---- Who may use it, and who uses it
 
 
-def see_group(path: str) -> None:
+def check_group(path: str) -> None:
     """Raises ReadOnlyLog unless new files in the file's folder get the folder's group."""
     folder = os.path.dirname(os.path.abspath(path))
     wanted = stat.S_ISGID | stat.S_IRWXG
@@ -169,7 +169,7 @@ def see_group(path: str) -> None:
         raise ReadOnlyLog(f'{folder}: the folder {why}; chmod g+rwxs {folder}')
 
 
-def told_readers(path: str) -> str:
+def readers_warning(path: str) -> str:
     """A warning, if users other than the owner and the group may read the file, or a file beside it."""
     real = os.path.realpath(path)
     for end in ('', *BESIDE[:2]):
@@ -181,7 +181,7 @@ def told_readers(path: str) -> str:
     return ''
 
 
-def told_owner(path: str) -> str:
+def owner_text(path: str) -> str:
     """The owner and the mode of the file, if they are why this process may not read and write it."""
     with suppress(OSError):
         found = os.stat(path)
@@ -190,17 +190,17 @@ def told_owner(path: str) -> str:
     return ''
 
 
-def told_holder(file: str) -> str:
+def holder_text(file: str) -> str:
     """The process that has the lock of this file of SQLite's, if it can be found: a writer, or a reader that keeps all
     from writing."""
     writer = lock_holder(file, WRITE)
     holder = lock_holder(file, READ) if writer is None else writer
     if holder is None:
         return ''
-    return f' by {told_process(holder)}' + (', which only reads' if writer is None else '')
+    return f' by {process_text(holder)}' + (', which only reads' if writer is None else '')
 
 
-def told_process(process: int) -> str:
+def process_text(process: int) -> str:
     """A process, its user, and whether it is stopped."""
     if process < 0:
         return 'an unknown process, because its lock is one of an open file'

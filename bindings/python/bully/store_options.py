@@ -7,17 +7,16 @@ import os
 import stat
 from collections.abc import Sequence
 from dataclasses import dataclass, field
-from typing import TYPE_CHECKING
+from typing import TYPE_CHECKING, Union
 
+from .command_options import Option
 from .display import shown_address
-from .epochs import Opening
 from .shared_log import Log, LogError, OlderLog
-from .sqlite import SqliteLog
-from .sqlite_file import ITS_GROUP, OWNER_ALONE, see_group, told_readers
 
 if TYPE_CHECKING:
     import ssl
 
+    from .epochs import Opening
     from .repair import Repairable
 
 PASSWORD = 'BULLY_ETCD_PASSWORD'  # of the environment
@@ -35,14 +34,6 @@ OF_ETCD = (
 
 class BadWords(Exception):
     """Options that a command doesn't take."""
-
-
-def add_words(command: argparse.ArgumentParser) -> None:
-    """Adds the options that name a store to a command."""
-    where = f'the log: {KINDS}; with TLS etcds://.. (default: {LOG} of the environment)'
-    command.add_argument('--log', default=os.environ.get(LOG), metavar='STORE', help=where)
-    for word, kind, told in OF_ETCD:
-        command.add_argument(word, metavar=kind, help=f'{told} (default: {variable_of(word)})')
 
 
 def name_of(word: str) -> str:
@@ -64,17 +55,24 @@ class FileStore:
 
     def create(self, opening: Opening) -> Log:
         """Makes a log."""
+        from .sqlite import SqliteLog
+        from .sqlite_file import ITS_GROUP, OWNER_ALONE, check_group
+
         if self.is_shared:
-            see_group(self.path)
+            check_group(self.path)
         return SqliteLog.create(self.path, opening, ITS_GROUP if self.is_shared else OWNER_ALONE)
 
     @property
-    def told_readers(self) -> str:
+    def readers_warning(self) -> str:
         """A warning, if other users may read the file."""
-        return told_readers(self.path)
+        from .sqlite_file import readers_warning
+
+        return readers_warning(self.path)
 
     def open(self, patience: float = 1.0, reads: bool = False) -> Repairable:
         """Opens the log."""
+        from .sqlite import SqliteLog
+
         return SqliteLog(self.path, patience, reads)
 
     def history(self, epoch: int | None = None, has_times: bool = False) -> Sequence[str]:
@@ -95,7 +93,7 @@ class EtcdStore:
     tls: ssl.SSLContext | None
     user: str
     password: str = field(repr=False)
-    told_readers = ''  # etcd has permissions of its own
+    readers_warning = ''  # etcd has permissions of its own
 
     def create(self, opening: Opening) -> Log:
         """Makes a log. Raises BadWords for a prefix below which another log may have keys."""
@@ -123,10 +121,21 @@ class EtcdStore:
             return trace(older, epoch, has_times)
 
 
-def store_of(options: argparse.Namespace) -> FileStore | EtcdStore:
+Store = Union[FileStore, EtcdStore]
+
+# The options that name a store.
+STORE_OPTIONS = (
+    Option('--log', f'the log: {KINDS}; with TLS etcds://.. (default: {LOG} of the environment)', 'STORE'),
+    *(Option(word, f'{about} (default: {variable_of(word)})', kind) for word, kind, about in OF_ETCD),
+)
+
+
+def store_of(options: argparse.Namespace) -> Store:
     """The store that the options and the environment name. The password is removed from the environment, whichever
     store it is: no worker needs it. Raises BadWords, LogError."""
     password = os.environ.pop(PASSWORD, None)
+    if options.log is None:
+        options.log = os.environ.get(LOG)
     if not options.log:
         raise BadWords(f'--log, or {LOG} of the environment, must be {KINDS}')
     kind, _, path = options.log.partition(':')
@@ -178,13 +187,13 @@ def tls_of(options: argparse.Namespace) -> ssl.SSLContext:
     return tls
 
 
-def password_of(path: str | None, told: str | None) -> str:
+def password_of(path: str | None, variable: str | None) -> str:
     """The password in this file, or else that of the environment."""
     if path is not None:
         return password_in(path)
-    if told is None:
+    if variable is None:
         raise BadWords(f'--user needs {PASSWORD} in the environment, or --password-file')
-    return told
+    return variable
 
 
 def password_in(path: str) -> str:
@@ -202,3 +211,17 @@ def password_in(path: str) -> str:
         return line.decode().rstrip('\r\n')
     except UnicodeDecodeError:
         raise BadWords(f'--password-file {path}: its first line is not UTF-8') from None
+
+
+def check_ttl(of_log: float | None, word: float | None) -> None:
+    """Raises BadWords if the log has another ttl than --ttl."""
+    if of_log and word and of_log != word:
+        raise BadWords(f'--ttl is {word:g}, and the log has {of_log:g} for all members')
+
+
+def warn_of_readers(store: Store) -> None:
+    """Warns if other users may read the file: an existing file keeps its mode, which may allow that."""
+    if store.readers_warning:
+        import logging
+
+        logging.getLogger('bully').warning('%s', store.readers_warning)

@@ -48,11 +48,11 @@ class Rows(Sequence[str]):
             self._cut = self.text.split('\n')[:-1]
         return self._cut[index]
 
-    def behind(self, count: int) -> Rows:
+    def after(self, count: int) -> Rows:
         """The rows after the first `count`."""
-        behind = Rows(self.text.split('\n', count)[-1] if count else self.text)
-        behind._count = max(len(self) - count, 0)
-        return behind
+        rest = Rows(self.text.split('\n', count)[-1] if count else self.text)
+        rest._count = max(len(self) - count, 0)
+        return rest
 
     def __repr__(self) -> str:
         return f'<{len(self)} rows>'

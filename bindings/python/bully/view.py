@@ -14,7 +14,7 @@ from typing import Any, Deque, NamedTuple
 from .clocks import seconds_of_boot
 from .core import Promise, Session
 from .display import shown_name, time_text
-from .epochs import TTL, Token
+from .epochs import COOPERATIVE, EAGER, TTL, Token
 from .observer import Observer, Owner, Table
 from .shared_log import Holder, Log, LogError, Snapshot
 from .values import Status
@@ -25,7 +25,7 @@ ADMITTED = 0.01  # of a ttl: after that an observer admits a session that it saw
 ADMITTED_MAX = 0.1  # seconds for which a view waits for that, at most
 
 
-class Behind:
+class ChangeWaits:
     """For which nodes a change waits, and since when. Threads may share it."""
 
     def __init__(self) -> None:
@@ -94,7 +94,7 @@ class NodeView:
     partitions: tuple[int, ...]
 
     @property
-    def told_live(self) -> str:
+    def live_text(self) -> str:
         """Whether it is live, drained, or gave up, and whether its worker fails, for people."""
         drained = ', drained' * self.is_drained + ', gave up' * self.gave_up
         return ('yes' if self.is_live else 'no') + drained + ', its worker fails' * self.is_failing
@@ -124,7 +124,7 @@ class GroupView:
     is_stable: bool  # whether there is nothing to do but work, among the nodes that are admitted
     is_paused: bool
     is_frozen: bool  # whether it is paused, and no change is under way that is completed first
-    behind: dict[str, float]  # the nodes for which a change waits, with the seconds of each
+    waits: dict[str, float]  # the nodes for which a change waits, with the seconds of each
     stops: dict[str, tuple[int, ...]]  # on which partitions each of these must stop, as far as that is known
     last: tuple[LastRow, ...]
 
@@ -136,7 +136,7 @@ class GroupView:
     @property
     def mode(self) -> str:
         """What its changes stop, in a word."""
-        return 'cooperative' if self.is_cooperative else 'eager'
+        return COOPERATIVE if self.is_cooperative else EAGER
 
     @property
     def is_changing(self) -> bool:
@@ -149,17 +149,17 @@ class GroupView:
         return self.is_stable and None not in self.owners and not any(node.is_failing for node in self.nodes)
 
     @property
-    def told_more(self) -> str:
+    def more_text(self) -> str:
         """Whether the group is paused, for which nodes a change waits, and how many partitions move, for people."""
         paused = '; paused: members that work continue, and nobody rebalances' if self.is_frozen else ''
         first = '; paused once the change under way is complete' if self.is_paused and not self.is_frozen else ''
-        late, moved = ', '.join(map(self._told_late, self.behind)), f'{self.moves} of {len(self.partitions)} partitions'
+        late, moved = ', '.join(map(self._late_text, self.waits)), f'{self.moves} of {len(self.partitions)} partitions'
         what = 'not stopped yet' if self.is_cooperative else 'not idle yet'
         return paused + first + (f'; {moved} move' if self.moves else '') + (f'; {what}: {late}' if late else '')
 
-    def _told_late(self, name: str) -> str:
+    def _late_text(self, name: str) -> str:
         """For how long a change has waited for that node, and in a cooperative group on which partitions it stops."""
-        seconds, stops = f'for {self.behind[name]:.1f} s', ' '.join(map(str, self.stops.get(name, ())))
+        seconds, stops = f'for {self.waits[name]:.1f} s', ' '.join(map(str, self.stops.get(name, ())))
         return (
             f'{shown_name(name)} on {stops} {seconds}'
             if self.is_cooperative and stops
@@ -175,31 +175,31 @@ class GroupView:
             'tokens': [each.token for each in self.partitions], 'coming': [each.coming for each in self.partitions],
             'moves': self.moves, 'nodes': [node.document() for node in self.nodes], 'stable': self.is_stable,
             'paused': self.is_paused, 'frozen': self.is_frozen,
-            'behind': {name: round(seconds, 3) for name, seconds in self.behind.items()},
+            'behind': {name: round(seconds, 3) for name, seconds in self.waits.items()},
             'stops': {name: list(partitions) for name, partitions in self.stops.items()},
             'last': [{'row': row.number, 'text': row.text, 'time': time_text(row.time) or None} for row in self.last],
         }  # fmt: skip
 
 
-def stops_of(behind: Iterable[str], partitions: Sequence[PartitionView]) -> dict[str, tuple[int, ...]]:
+def stops_of(waits: Iterable[str], partitions: Sequence[PartitionView]) -> dict[str, tuple[int, ...]]:
     """On which partitions each of these nodes must stop."""
-    stops: dict[str | None, list[int]] = {name: [] for name in behind}
+    stops: dict[str | None, list[int]] = {name: [] for name in waits}
     for partition, each in enumerate(partitions):
         if each.doing in (Doing.MOVING, Doing.STOPPING) and each.owner in stops:
             stops[each.owner].append(partition)
-    return {name: tuple(stops[name]) for name in behind}
+    return {name: tuple(stops[name]) for name in waits}
 
 
 class LogView:
     """Reads a log, and shows the state of its group in the current epoch. Threads may share it."""
 
-    def __init__(self, log: Log, behind: Behind | None = None, ttl: float | None = None) -> None:
+    def __init__(self, log: Log, waits: ChangeWaits | None = None, ttl: float | None = None) -> None:
         """A member in this process may report for which nodes a change waits, because it reads a snapshot at each
         change. The ttl is that of the members, if the log has none.
 
         Raises what the log raises."""
         self._log, self._ttl = log, ttl or TTL
-        self._told, self._behind = behind or Behind(), Behind()
+        self._reported, self._waits = waits or ChangeWaits(), ChangeWaits()
         self._last: Deque[LastRow] = collections.deque(maxlen=LAST_ROWS)
         self._lock = threading.Lock()
         self._enter()
@@ -210,7 +210,7 @@ class LogView:
         raises."""
         with self._lock:
             shown = self._shown(self._read())
-            if shown.is_cooperative and not all(map(shown.stops.get, shown.behind)):
+            if shown.is_cooperative and not all(map(shown.stops.get, shown.waits)):
                 time.sleep(min(ADMITTED * self._observer_ttl, ADMITTED_MAX))
                 shown = self._shown(self._read())
             return shown
@@ -256,21 +256,21 @@ class LogView:
         table, is_frozen = observer.last_table or (), found.is_frozen(observer.end)
         nodes = tuple(self._node(node, table, found) for node in range(1, observer.nodes + 1))
         coordinator = next((node.coordinator for node in nodes if node.status is Status.NORMAL), None)
-        behind, is_stable = self._late(found), observer.is_stable()
+        waits, is_stable = self._late(found), observer.is_stable()
         changes = not is_stable and not is_frozen
         coming = observer.coming() if changes else None
         partitions = self._partitions(found, coming, changes)
         return GroupView(
             opening.epoch, observer.rows, observer.events, self._token(observer.token), coordinator,
-            opening.is_cooperative, partitions, self._moves(coming), nodes, is_stable and not behind,
-            found.maintenance.is_paused, is_frozen, behind, stops_of(behind, partitions), tuple(self._last),
+            opening.is_cooperative, partitions, self._moves(coming), nodes, is_stable and not waits,
+            found.maintenance.is_paused, is_frozen, waits, stops_of(waits, partitions), tuple(self._last),
         )  # fmt: skip
 
     def _late(self, found: Snapshot) -> dict[str, float]:
         """For whom a change waits, with the seconds of each: also those that the member reports."""
         end, late = self._observer.end, self._observer.waits_for(found)
         maybe = {name: holder for name, holder in found.holders.items() if name in late or holder.promise != end}
-        return {**self._behind.see(end, late), **({} if found.is_frozen(end) else self._told.seen(end, maybe))}
+        return {**self._waits.see(end, late), **({} if found.is_frozen(end) else self._reported.seen(end, maybe))}
 
     def _partitions(self, found: Snapshot, coming: Table | None, changes: bool) -> tuple[PartitionView, ...]:
         """The partitions, while a change is under way or not."""

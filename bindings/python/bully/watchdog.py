@@ -9,7 +9,8 @@ dropped, by both sides. The member sends
     until NS                 until when its work is sure, in nanoseconds of CLOCK_BOOTTIME
     part WORDS               words before those of the next `share` or `begin`, because a message hasn't room for all
     share WORDS              words before those of each `begin` from now on
-    begin KEY SERIAL WORDS   starts that process with these words: NAME=VALUE for its environment, separated by zero bytes
+    begin KEY SERIAL WORDS   starts that process with these words: NAME=VALUE for its environment, separated by zero
+                             bytes
     stop KEY SERIAL          stops it: by SIGTERM, and after PATIENCE seconds by SIGKILL
     release WORDS            the lease that is released when the member is gone (`bully.releasing`); none without words
 
@@ -125,7 +126,7 @@ class MemberWatchdog:
             os.kill(self.member, signal.SIGKILL)
             say(f'process {self.member} was stopped in the middle of a write, and is killed')
 
-    def see_end(self) -> None:
+    def report_end(self) -> None:
         """The member is gone, and didn't leave. Says so if it touched a part of its file that isn't there any more, by
         which a process ends without a word. Another one that begins gives the file its length again."""
         with contextlib.suppress(OSError):
@@ -294,7 +295,7 @@ class Rules:
         self.patience, self.talks, self.ttl, self.words = int(patience * SECOND), talks, ttl, words
 
 
-class Watchdog:
+class Receiver:
     """What hears a member, or the watchdog of one."""
 
     def __init__(self, channel: socket.socket, rules: Rules, of_member: MemberWatchdog, until: int = 0) -> None:
@@ -325,7 +326,7 @@ class Watchdog:
         elif not message:
             self.is_alone = True
             if self.release:
-                self.of_member.see_end()
+                self.of_member.report_end()
             self.leave()
 
     def go_on(self) -> None:
@@ -348,7 +349,7 @@ class Watchdog:
         raise NotImplementedError
 
 
-class Keeper(Watchdog):
+class Keeper(Receiver):
     """Starts, stops and ends one worker at a time."""
 
     def __init__(self, channel: socket.socket, rules: Rules, of_member: MemberWatchdog, until: int = 0) -> None:
@@ -433,7 +434,7 @@ class Keeper(Watchdog):
                 self.go_on_with(self.worker, words, is_late)
 
     def go_on_with(self, worker: Worker, words: bytes, is_late: bool) -> None:
-        """The worker works from now on; or is killed at once, and isn't told of work whose time is over."""
+        """The worker works from now on; or is killed at once, and doesn't hear of work whose time is over."""
         worker.has_work = True
         if not is_late:
             worker.tell(words)
@@ -521,7 +522,7 @@ def more_descriptors() -> tuple[int, int]:
     return before
 
 
-class Kept:
+class KeeperProcess:
     """A keeper that is another process."""
 
     def __init__(self, name: bytes, channel: socket.socket, process: int) -> None:
@@ -530,14 +531,14 @@ class Kept:
         self.last = b''  # what it has reported last of its worker, which has ended
 
 
-class Hub(Watchdog):
+class Hub(Receiver):
     """Has a keeper for each worker."""
 
     def __init__(self, channel: socket.socket, rules: Rules, of_member: MemberWatchdog) -> None:
         super().__init__(channel, rules, of_member)
         self.room = more_descriptors()
-        self.keepers: dict[int, Kept] = {}  # by the descriptors of their sockets
-        self.by_key: dict[bytes, Kept] = {}
+        self.keepers: dict[int, KeeperProcess] = {}  # by the descriptors of their sockets
+        self.by_key: dict[bytes, KeeperProcess] = {}
         self.unsent: deque[bytes] = deque()  # what the member didn't take yet, as while it is stopped
         self.poll = select.poll()
         self.poll.register(channel, select.POLLIN)
@@ -556,7 +557,7 @@ class Hub(Watchdog):
         for kept in self.keepers.values():
             self.tell(kept, b'until %d' % self.until)
 
-    def tell(self, kept: Kept, message: bytes) -> None:
+    def tell(self, kept: KeeperProcess, message: bytes) -> None:
         with contextlib.suppress(OSError):  # it has ended, or is stopped: then an earlier moment applies
             kept.channel.send(message, socket.MSG_DONTWAIT)
 
@@ -575,12 +576,12 @@ class Hub(Watchdog):
         self.keepers[kept.channel.fileno()] = self.by_key[key] = kept
         self.poll.register(kept.channel, select.POLLIN)
 
-    def kept(self, name: bytes, words: bytes) -> Kept:
+    def kept(self, name: bytes, words: bytes) -> KeeperProcess:
         """A new keeper. Raises OSError if it isn't there."""
         mine, given = socket.socketpair(socket.AF_UNIX, socket.SOCK_SEQPACKET)
         with given:
             try:
-                return Kept(name, mine, fork_keeper(lambda: self.keep(given, mine, name, words)))
+                return KeeperProcess(name, mine, fork_keeper(lambda: self.keep(given, mine, name, words)))
             except OSError:
                 mine.close()
                 raise
@@ -596,7 +597,7 @@ class Hub(Watchdog):
         while keeper.worker is not None:
             keeper.turn()
 
-    def hear_keeper(self, kept: Kept) -> None:
+    def hear_keeper(self, kept: KeeperProcess) -> None:
         """Passes on what a keeper reports. Its last report waits for its end: another one may begin then."""
         message = b''
         with contextlib.suppress(ConnectionResetError):  # as of the member
@@ -651,7 +652,7 @@ class Hub(Watchdog):
             self.poll.modify(self.channel, select.POLLIN | (select.POLLOUT if self.unsent else 0))
 
 
-class Sentinel:
+class KeeperWatchdog:
     """The watchdog of a member whose one keeper hears the member itself."""
 
     def __init__(self, channel: socket.socket, rules: Rules, of_member: MemberWatchdog) -> None:
@@ -691,8 +692,8 @@ class Sentinel:
             os._exit(1)
 
 
-def release(watchdog: Watchdog) -> None:
-    """Releases the lease of a member that is gone, if it was told how."""
+def release(watchdog: Receiver) -> None:
+    """Releases the lease of a member that is gone, if it knows how."""
     if watchdog.release:
         from bully import releasing  # it takes much memory
 
@@ -717,7 +718,7 @@ def main() -> None:
         hub.go_on()
         release(hub)
     else:
-        Sentinel(channel, rules, of_member).go_on()
+        KeeperWatchdog(channel, rules, of_member).go_on()
 
 
 if __name__ == '__main__':

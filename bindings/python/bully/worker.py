@@ -17,7 +17,7 @@ from contextlib import suppress
 from pathlib import Path
 from typing import BinaryIO, Deque
 
-from .boots import see_one_clock
+from .boots import check_one_clock
 from .clocks import SECOND, seconds_of_boot, sleep_until_ready
 from .core import Session
 from .member import Member
@@ -49,7 +49,7 @@ _logger = logging.getLogger('bully')
 
 class Kind(enum.Enum):
     """Which workers a node has: one for all its partitions, which ends at changes of these; one for each partition; one
-    that stays over changes, and is told of them."""
+    that stays over changes, and hears of them."""
 
     WHOLE, EACH, TALKS = 'ends', 'each', 'talks'
 
@@ -111,7 +111,7 @@ class Workers:
         self._workers: dict[str, WorkerState] = {}  # by their keys
         self._asked: Deque[Callable[[], object]] = deque()  # what the thread has to do
         self._unsent: Deque[bytes] = deque()  # what the watchdog hasn't taken yet
-        self._shared = b''  # what the watchdog was told to share
+        self._shared = b''  # what the watchdog shares
         self._until = 0  # in nanoseconds of CLOCK_BOOTTIME
         self._silent, self._checked = 0, 0.0  # checks in a row that found the watchdog silent; when it was last checked
         self._heard = 0.0  # when the watchdog last reported something
@@ -126,7 +126,7 @@ class Workers:
         that stays stopped in the middle of a write. `releases` says how the lease of a session is released: the
         watchdog does that once this process is gone, and nothing is left of a worker. This process kills what a
         watchdog that died leaves. Raises ForeignLog and ChildrenUnlisted."""
-        see_one_clock()
+        check_one_clock()
         self._member, self._others, self._failures.ttl = member, children_listed(), member.ttl
         self._releases = releases
         adopt()
@@ -213,7 +213,7 @@ class Workers:
 
     @property
     def stopping_seconds(self) -> float:
-        """How many seconds ago a worker was told to stop, if it hasn't: the longest of these times."""
+        """How many seconds ago a worker was asked to stop, if it hasn't: the longest of these times."""
         begun = [each.stop_begun for each in list(self._workers.values())]
         return max((seconds_of_boot() - moment for moment in begun if moment is not None), default=0.0)
 
@@ -337,7 +337,7 @@ class Workers:
         return True
 
     def _line(self, assignment: Assignment) -> bytes:
-        """What a worker that talks is told of this."""
+        """What a worker that talks hears of this."""
         settings = json.loads(assignment.settings.text(self._member.ttl, self._member.margin))
         coordinator = assignment.settings.name(assignment.coordinator)
         document = {'begin': assignment.token, 'partitions': assignment.partitions, 'coordinator': coordinator}
@@ -366,7 +366,7 @@ class Workers:
 
     def report_failure(self, worker: WorkerState, status: int, backoff: float) -> None:
         said = 'the worker%s failed, with status %d, and is started again in %.1f s'
-        _logger.warning(said, told_of(worker), status, backoff)
+        _logger.warning(said, worker_text(worker), status, backoff)
 
     def _send_long(self, begin: str, words: bytes) -> None:
         """A message in parts, each of which the channel has room for."""
@@ -418,7 +418,7 @@ class Workers:
         """The watchdog killed it at that moment, in seconds of CLOCK_BOOTTIME."""
         self.killed += 1
         said = 'the watchdog killed the worker%s %.1f s ago, because the lease was not sure any more: %s'
-        _logger.warning(said, told_of(worker), seconds_of_boot() - moment, UNSURE)
+        _logger.warning(said, worker_text(worker), seconds_of_boot() - moment, UNSURE)
 
     def _see_time(self) -> None:
         """Looks after workers that back off, or don't end, and after the watchdog. A silent one is killed."""
@@ -449,8 +449,8 @@ class Workers:
         if stuck and not self._is_given_up and self._member.is_leaving and all(map(may_kill, stuck)):
             self._is_given_up = True
             seconds = f'{self.stopping_seconds:.1f} s'
-            told = f'the worker was killed, and has not ended for {seconds}; the lease of its node ends by itself'
-            self._member.get_stuck(WorkerStuck(told))
+            why = f'the worker was killed, and has not ended for {seconds}; the lease of its node ends by itself'
+            self._member.get_stuck(WorkerStuck(why))
 
     def _lose_watchdog(self) -> None:
         """The watchdog has ended, or has to."""
@@ -485,7 +485,7 @@ class Workers:
         _logger.error(SURVIVORS_TOLD, processes or 'they are not listed')
 
 
-def told_of(worker: WorkerState) -> str:
+def worker_text(worker: WorkerState) -> str:
     """Which of the node's workers it is."""
     return '' if worker.key == ALL else f' of partition {worker.key}'
 

@@ -1,4 +1,4 @@
-"""What a member knows of its workers: on which partitions each works, what it was told, and what it has to do next.
+"""What a member knows of its workers: on which partitions each works, what was asked of it, and what it does next.
 
 A *worker* is a process for all partitions of the node, or for one of them. `WorkerState` is of one that ends when what
 it works on has to stop, `TalkerState` of one that stays over changes. Times are of `clocks.seconds_of_boot`.
@@ -46,8 +46,8 @@ class WorkerState:
         self.serial = 0  # of its last process
         self.is_there = False  # whether that may be there
         self.is_unheard = False  # whether it was begun, and nothing was heard of that
-        self.begun = 0.0  # when it was told to begin
-        self.stop_begun: float | None = None  # when it was told to stop, if it hasn't
+        self.begun = 0.0  # when it was asked to begin
+        self.stop_begun: float | None = None  # when it was asked to stop, if it hasn't
         self.survivors: list[int] = []  # of its processes those that are still there, though they were killed
         self.working = NONE  # the partitions whose work was started, and whose end wasn't reported
         self.retry_at: float | None = None  # when its work is reported to have ended, if it backs off
@@ -169,14 +169,14 @@ class PartitionState(WorkerState):
 
 
 class TalkerState(WorkerState):
-    """A worker that stays over changes, and is told of them by lines."""
+    """A worker that stays over changes, and hears of them by lines."""
 
     def __init__(self, key: str, runner: Runner, failures: Failures) -> None:
         super().__init__(key, runner, failures)
         self._stops: Deque[tuple[frozenset[int], float]] = deque()  # those that it hasn't answered, each with its time
 
     def _go_on(self, now: float) -> None:
-        """It is told after each change what its node owns now."""
+        """It hears after each change what its node owns now."""
         work = self._wanted()
         if work is None:
             return

@@ -51,7 +51,7 @@ class Working(Protocol):
 
 
 class Reports(Protocol):
-    """What a member is told of its work, by any thread."""
+    """What a member hears of its work, by any thread."""
 
     def ended(self, partitions: Collection[int]) -> None:
         """The work on these partitions has ended."""

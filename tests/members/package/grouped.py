@@ -37,7 +37,7 @@ def share_out(log: Log, *names: str) -> dict[str, Session]:
 class Viewed(Threads):
     """Tests with views of a log."""
 
-    def viewed(self, log: Log, behind: view.Behind | None = None, ttl: float = 2.0) -> view.LogView:
+    def viewed(self, log: Log, behind: view.ChangeWaits | None = None, ttl: float = 2.0) -> view.LogView:
         """A view up to the end of the test."""
         shown = view.LogView(log, behind, ttl)
         self.addCleanup(shown.close)

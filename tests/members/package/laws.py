@@ -13,7 +13,7 @@ from bully.clocks import SECOND
 from bully.core import Promise, Session, Until
 from bully.maintenance import Maintenance
 from bully.memory import MemoryLog
-from bully.shared_log import DamagedLog, Holder, Known, Log, NoEpoch
+from bully.shared_log import DamagedLog, Holder, Log, NoEpoch, Precondition
 from ..calls import Calls, answer_of
 from ..steps import EMPTY, LONG, OPENING, A, B, C, Clock, add, be_idle, end_of, known_to, live, where
 from ..waiting import PATIENCE
@@ -365,7 +365,7 @@ class Laws(Tests):
         self.assertTrue(log.append(1, 0, ['recover,1']))
         return log, other
 
-    def appends(self, log: Log, known: Known) -> bool:
+    def appends(self, log: Log, known: Precondition) -> bool:
         """Whether it appends at the end of the log. Each change that isn't done changes nothing."""
         before, end = live(log), end_of(log)
         done = log.append(*where(end), ['start,1'], known)

@@ -7,7 +7,7 @@ import threading
 import unittest
 from typing import Any
 
-from bully import page, view
+from bully import server, view
 from bully.epochs import Opening
 from bully.member import Member
 from bully.worker import Workers
@@ -29,9 +29,9 @@ class Paged(unittest.TestCase):
         self.log = log or Troubled(Opening.first(HEADER, self.NAMES))
         self.member = Member(self.log, 2, ttl=ttl, **(work or {'start': lambda work: None, 'stop': lambda work: None}))
         self.workers = Workers(['true'], self.NAMES[1], 0.0)
-        self.page = page.Page(('127.0.0.1', 0), self.NAMES[1])
+        self.page = server.MemberServer(('127.0.0.1', 0), self.NAMES[1])
         self.addCleanup(self.page.close)
-        self.page.show(view.LogView(self.log, self.member.behind), self.member, self.workers)
+        self.page.show(view.LogView(self.log, self.member.waits), self.member, self.workers)
 
     def get(self, target: str, method: str = 'GET', **headers: str) -> tuple[int, str, str]:
         """The status, the kind and the text of an answer."""

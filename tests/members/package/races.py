@@ -13,7 +13,7 @@ from places import environment
 
 OPENS = '''
 import json, random, sys, time
-from bully.shared_log import Known
+from bully.shared_log import Precondition
 from bully.core import Session, Promise
 from bully.store_options import FileStore, EtcdStore
 me, kind, where = sys.argv[1:]
@@ -59,7 +59,7 @@ while True:
         continue
     made[end.offset] = found.holders[name].kept
     told = json.dumps({{each: [holder.promise.offset, *holder.kept] for each, holder in found.holders.items()}})
-    known = Known(frozenset(found.holders), found.holders, found.revision)
+    known = Precondition(frozenset(found.holders), found.holders, found.revision)
     time.sleep(chance.random() / 200)  # so that others come between
     refused += not log.append(1, end.offset, [told], known)
 log.close()

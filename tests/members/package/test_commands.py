@@ -11,7 +11,8 @@ from collections.abc import Callable
 from pathlib import Path
 from unittest import mock
 
-from bully import command, config_file, store_options
+from bully import config_file, store_options
+from bully.commands import run
 from bully.clocks import SECOND
 from bully.core import Promise, Session
 from bully.member import Member
@@ -447,7 +448,7 @@ class Commands(InFolder):
         self.assertEqual(self.of_log('resize', '--config', str(new))[0], 0)
         store = store_options.FileStore(str(self.path))
         self.assertEqual(
-            (command.ttl_of(store, None), command.ttl_of(store, 3.0), self.opened().opening().epoch), (3.0, 3.0, 2)
+            (run.ttl_of(store, None), run.ttl_of(store, 3.0), self.opened().opening().epoch), (3.0, 3.0, 2)
         )
 
     def test_old_and_new_configurations(self) -> None:

@@ -496,7 +496,7 @@ class Reports(unittest.TestCase):
             self.addCleanup(each.close)
         (member, given), (mine, keeper) = pairs
         hub = watchdog.Hub(given, watchdog.Rules(1.0, False, 4.0, ['true']), watchdog.MemberWatchdog('', 4.0))
-        kept = watchdog.Kept(b'5 1', mine, os.posix_spawnp('true', ['true'], os.environ))
+        kept = watchdog.KeeperProcess(b'5 1', mine, os.posix_spawnp('true', ['true'], os.environ))
         hub.keepers[mine.fileno()] = hub.by_key[b'5'] = kept
         hub.poll.register(mine)
         for message, heard in ((b'begun 5 1', b'begun 5 1'), (b'stopped 5 1', b''), (b'', b'stopped 5 1')):

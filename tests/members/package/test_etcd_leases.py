@@ -11,7 +11,7 @@ from bully.core import Promise, Session
 from bully.epochs import Opening
 from bully.etcd import EtcdLog
 from bully.etcd_client import Client
-from bully.shared_log import ForeignLog, Holder, Known, Unanswered
+from bully.shared_log import ForeignLog, Holder, Precondition, Unanswered
 from ..etcd_servers import Json, begin_alone
 from ..steps import EMPTY, LONG, OPENING, A, B, C, add, be_idle, end_of, known_to, live, where
 from .in_etcd import GRANT, KEEPALIVE, PUT, TXN, InEtcd
@@ -141,7 +141,7 @@ class Promises(InEtcd):
     def test_a_change_by_whom_it_does_not_know(self) -> None:
         """Only a session that acquired its lease by this handle can leave others out of what is compared."""
         end = self.log.snapshot(1, 0)
-        known = Known(frozenset(), end.holders, end.revision)
+        known = Precondition(frozenset(), end.holders, end.revision)
         self.assertFalse(self.other.append(1, 0, ['recover,1'], known))
         self.assertTrue(self.log.append(1, 0, ['recover,1'], known))
 

@@ -284,7 +284,7 @@ class GivesUp(Threads):
         self.assertEqual((self.failing(), fails.member.is_drained), ({'2': True}, False))
         group = self.shown.show()
         wanted = True, False, 'no, gave up, its worker fails'
-        self.assertEqual((group.is_stable, group.is_well, group.nodes[1].told_live), wanted)
+        self.assertEqual((group.is_stable, group.is_well, group.nodes[1].live_text), wanted)
         told = 'node 2: its worker keeps failing; it gives up what it owns, and tries again in 6.0 s'
         self.assertEqual([line for line in self.said.output if told in line], [f'WARNING:bully:{told}'])
         wait_until(lambda: fails.begun == tries + 1)

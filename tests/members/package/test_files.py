@@ -226,7 +226,7 @@ class Files(WithLogs):
                 damage = damage_of(log)
                 assert damage is not None
                 self.assertEqual((damage.offset, damage.rows), (2, []))
-                self.assertIn('1 of 3 rows are to be cut', damage.told)
+                self.assertIn('1 of 3 rows are to be cut', damage.summary)
                 self.assertTrue(repair(log, damage))
                 self.assertEqual((list(log.read(1, 0)), damage_of(log)), (['recover,1', 'recover,2'], None))
 
@@ -562,12 +562,12 @@ except LogError as fault:
                 self.path.chmod(0o640)
                 self.assertTrue(self.opened().acquire('a', A, EMPTY, LONG))
                 self.assertEqual(self.modes(), [0o640] * 3)
-        self.assertEqual(sqlite_file.told_readers(str(self.path)), '')
+        self.assertEqual(sqlite_file.readers_warning(str(self.path)), '')
         for end, mode in (('-shm', 0o644), ('', 0o602)):
             Path(f'{self.path}{end}').chmod(mode)
             why = 'so every user who can reach its folder may read it, and whoever may read it can stop the group'
             told = f'{self.path}{end}: its mode is {mode:04o}, {why}; chmod o= {self.path}*'
-            self.assertEqual(sqlite_file.told_readers(str(self.path)), told)
+            self.assertEqual(sqlite_file.readers_warning(str(self.path)), told)
 
     def modes(self) -> list[int]:
         """Those of the file, and of what is beside it."""

@@ -425,7 +425,7 @@ class Maintained(Threads):
         self.addCleanup(shown.close)
         group = shown.show()
         self.assertEqual(
-            ([node.told_live for node in group.nodes], group.is_well), (['yes', 'no, drained', 'yes'], True)
+            ([node.live_text for node in group.nodes], group.is_well), (['yes', 'no, drained', 'yes'], True)
         )
         operations.undrain(self.log, '2')
         self.become_stable(1, 2, 3)
@@ -528,10 +528,10 @@ class Maintained(Threads):
             self.log.pass_renewals(name, 5)
         self.assertEqual((self.log.rows, [len(self.members[node][1]) for node in (1, 2)]), (rows, told))
         self.assertTrue(all(self.members[node][0].assignment() for node in (1, 2)))
-        shown = view.LogView(self.log, self.members[1][0].behind)
+        shown = view.LogView(self.log, self.members[1][0].waits)
         self.addCleanup(shown.close)
         group = shown.show()
-        self.assertEqual((group.is_paused, group.is_well, group.behind), (True, False, {}))
+        self.assertEqual((group.is_paused, group.is_well, group.waits), (True, False, {}))
         self.log.cut.clear()
         wait_until(lambda: '3' in self.log.holders)
         for name in '123':
@@ -539,7 +539,7 @@ class Maintained(Threads):
         self.assertEqual(
             (self.log.rows, self.members[3][0].assignment()), (rows, None), 'it waits for the end of the pause'
         )
-        self.assertEqual((shown.show().is_well, shown.show().behind), (False, {}))
+        self.assertEqual((shown.show().is_well, shown.show().waits), (False, {}))
         operations.resume(self.log)
         self.become_stable(1, 2, 3)
         self.assertGreater(len(self.log.rows), len(rows))

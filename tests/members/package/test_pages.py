@@ -12,7 +12,7 @@ import struct
 import threading
 from unittest import mock
 
-from bully import page
+from bully import answers, metrics, server
 from bully.clocks import seconds_of_boot
 from bully.core import Promise, Session
 from bully.epochs import Token
@@ -121,10 +121,10 @@ class Pages(Paged):
 
     def test_a_silent_connection(self) -> None:
         """It is closed by itself, also one that has asked in part."""
-        with mock.patch.object(page.PageHandler, 'timeout', 0.2), self.client() as silent, self.client() as slow:
+        with mock.patch.object(server.RequestHandler, 'timeout', 0.2), self.client() as silent, self.client() as slow:
             slow.sendall(b'GET /healthz HTTP/1.1\r\nHost')
             self.assertEqual((silent.recv(1), slow.recv(1)), (b'', b''))
-        self.assertEqual(page.PageHandler.timeout, page.ASK_SECONDS)
+        self.assertEqual(server.RequestHandler.timeout, server.ASK_SECONDS)
 
     def test_silent_connections(self) -> None:
         """A thousand of them are no more than a hundred at one time, and whoever asks is answered."""
@@ -132,11 +132,11 @@ class Pages(Paged):
         resource.setrlimit(resource.RLIMIT_NOFILE, (limits[1], limits[1]))
         self.addCleanup(resource.setrlimit, resource.RLIMIT_NOFILE, limits)
         with contextlib.ExitStack() as opened:
-            opened.enter_context(mock.patch.object(page.PageHandler, 'timeout', 10 * PATIENCE))
+            opened.enter_context(mock.patch.object(server.RequestHandler, 'timeout', 10 * PATIENCE))
             clients = [opened.enter_context(self.client()) for _ in range(1000)]
             self.assertEqual(self.get('/healthz')[::2], (503, 'not live\n'))
             self.assertEqual([client.recv(1) for client in clients[:900]], [b''] * 900)
-            wait_until(lambda: threading.active_count() <= threads + page.CONNECTIONS_MAX)
+            wait_until(lambda: threading.active_count() <= threads + server.CONNECTIONS_MAX)
             self.assertEqual(self.get('/group')[0], 200)
         wait_until(lambda: threading.active_count() == threads)
 
@@ -147,12 +147,12 @@ class Pages(Paged):
         threads = threading.active_count()
         with contextlib.ExitStack() as opened:
             with mock.patch.object(self.page, 'answer', lambda *asked: big), mock.patch.object(
-                page.PageHandler, 'timeout', PATIENCE
+                server.RequestHandler, 'timeout', PATIENCE
             ):
-                taken = [self.taken(opened.enter_context(self.client())) for _ in range(page.SHOWING_MAX + 20)]
+                taken = [self.taken(opened.enter_context(self.client())) for _ in range(server.SHOWING_MAX + 20)]
                 statuses = [part.split()[1] for part in taken]
-                self.assertEqual(statuses, [b'200'] * page.SHOWING_MAX + [b'503'] * 20)
-                wait_until(lambda: threading.active_count() == threads + page.SHOWING_MAX)
+                self.assertEqual(statuses, [b'200'] * server.SHOWING_MAX + [b'503'] * 20)
+                wait_until(lambda: threading.active_count() == threads + server.SHOWING_MAX)
         wait_until(lambda: threading.active_count() == threads)
         self.assertEqual(self.get('/healthz')[0], 503)
 
@@ -169,7 +169,7 @@ class Pages(Paged):
         statuses: list[int] = []
         threads = [
             threading.Thread(target=lambda: statuses.append(self.get('/group?after=0')[0]))
-            for _ in range(page.POLLS_MAX)
+            for _ in range(answers.POLLS_MAX)
         ]
         for thread in threads:
             thread.start()
@@ -177,31 +177,31 @@ class Pages(Paged):
         self.assertEqual(self.get('/group?after=0')[0], 503)
         begun, before = seconds_of_boot(), len(offsets)
         wait_until(lambda: len(offsets) > before + 5)
-        self.assertLessEqual(len(offsets) - before, (seconds_of_boot() - begun) / page.SNAPSHOT_SECONDS + 1)
+        self.assertLessEqual(len(offsets) - before, (seconds_of_boot() - begun) / answers.SNAPSHOT_SECONDS + 1)
         self.assertEqual((self.get('/healthz')[2], self.get('/metrics')[0], statuses), ('not live\n', 200, []))
         put(self.log, 'recover,1')
         for thread in threads:
             thread.join()
-        self.assertEqual(statuses, [200] * page.POLLS_MAX)
+        self.assertEqual(statuses, [200] * answers.POLLS_MAX)
 
     def test_polls_of_a_silent_store(self) -> None:
         """They end, and count no more."""
         self.log.is_silent = True
         self.addCleanup(setattr, self.log, 'is_silent', False)
-        answers = {self.get('/group?after=0')[::2] for _ in range(page.POLLS_MAX + 1)}
-        self.assertEqual(answers, {(503, 'the store does not answer\n')})
+        given = {self.get('/group?after=0')[::2] for _ in range(answers.POLLS_MAX + 1)}
+        self.assertEqual(given, {(503, 'the store does not answer\n')})
 
     def test_a_silent_store(self) -> None:
         """Health, and what is measured of the member, are shown all the same."""
         self.make(100.0)
         self.begin()
-        wait_until(lambda: f'bully_node_live{page.labels(self.NAMES[1])} 1' in self.get('/metrics')[2])
+        wait_until(lambda: f'bully_node_live{metrics.labels(self.NAMES[1])} 1' in self.get('/metrics')[2])
         self.log.is_silent = True
         self.addCleanup(setattr, self.log, 'is_silent', False)
         wait_until(lambda: self.get('/group')[0] == 503)
         self.assertEqual(self.get('/healthz')[::2], (200, 'live\n'))
         told = dict(line.rsplit(' ', 1) for line in self.get('/metrics')[2].splitlines() if not line.startswith('#'))
-        self.assertGreater(float(told[f'bully_sure_seconds{page.labels(self.NAMES[1])}']), 60.0)
+        self.assertGreater(float(told[f'bully_sure_seconds{metrics.labels(self.NAMES[1])}']), 60.0)
 
     def test_who_is_unknown(self) -> None:
         """A process that the group doesn't know is measured, too, while all wait for it."""
@@ -209,7 +209,9 @@ class Pages(Paged):
             self.log.acquire('unknown', Session(1, 1), Promise(1, 0), LONG) and self.log.append(1, 0, ['recover,1'])
         )
         behind = {name for name in self.measured() if name.startswith('bully_idle_behind_seconds')}
-        self.assertEqual(behind, {f'bully_idle_behind_seconds{page.labels(name)}' for name in (*self.NAMES, 'unknown')})
+        self.assertEqual(
+            behind, {f'bully_idle_behind_seconds{metrics.labels(name)}' for name in (*self.NAMES, 'unknown')}
+        )
 
     def test_the_last_known(self) -> None:
         """A store that is silent before anybody asked: what was known last is measured all the same, and how old it is
@@ -218,12 +220,12 @@ class Pages(Paged):
         self.make(1000.0, self.log)
         self.log.is_silent = True
         first = self.measured()
-        named = page.labels('c')
+        named = metrics.labels('c')
         self.assertEqual([first['bully_store_up'], first[f'bully_drained{named}'], first['bully_epoch']], [0, 1, 1])
         wait_until(lambda: self.measured()['bully_group_age_seconds'] > first['bully_group_age_seconds'])
         self.log.is_silent = False
         wait_until(lambda: self.measured()['bully_store_up'] == 1)
-        with mock.patch.object(page, 'seconds_of_boot', lambda: seconds_of_boot() + 5.0):
+        with mock.patch.object(answers, 'seconds_of_boot', lambda: seconds_of_boot() + 5.0):
             self.log.is_silent = True
             self.assertGreaterEqual(self.measured()['bully_group_age_seconds'], 5.0)
 
@@ -237,7 +239,7 @@ class Pages(Paged):
             return Troubled.snapshot(self.log, epoch, offset, promise_of)
 
         self.addCleanup(goes_on.set)
-        with mock.patch.object(page, 'SNAPSHOT_MAX', 0.1):
+        with mock.patch.object(answers, 'SNAPSHOT_MAX', 0.1):
             setattr(self.log, 'snapshot', snapshot)
             first = threading.Thread(target=self.get, args=['/group'])
             first.start()
@@ -256,7 +258,7 @@ class Pages(Paged):
             (DamagedLog('/srv/group.db: no row'), 'the log can not be read\n'),
         )
         for failure, told in cases:
-            with self.subTest(failure), mock.patch.object(page, 'SNAPSHOT_SECONDS', 0.0):
+            with self.subTest(failure), mock.patch.object(answers, 'SNAPSHOT_SECONDS', 0.0):
                 with mock.patch.object(self.log, 'snapshot', side_effect=failure), self.assertLogs('bully') as logged:
                     for target in ('/', '/group', '/assignment', '/group?after=7'):
                         self.assertEqual(self.get(target), (503, 'text/plain; charset=utf-8', told))
@@ -274,12 +276,12 @@ class Pages(Paged):
         self.assertEqual(self.get('/healthz')[::2], (503, 'its worker does not stop\n'))
         self.assertRegex(self.get('/')[2], 'nodes live; its worker has not stopped for 1[0-9][.][0-9] s<')
         told = dict(line.rsplit(' ', 1) for line in self.get('/metrics')[2].splitlines() if not line.startswith('#'))
-        self.assertGreaterEqual(float(told[f'bully_stopping_seconds{page.labels(self.NAMES[1])}']), 10.0)
+        self.assertGreaterEqual(float(told[f'bully_stopping_seconds{metrics.labels(self.NAMES[1])}']), 10.0)
         state.survivors, state.stop_begun, state.is_there = [], None, True
         for message, count in ((b'lost all 0', 0), (b'lost all 0 1000', 1)):  # one that didn't start wasn't killed
             self.workers._hear(message)
             state.is_there = True
-            self.assertIn(f'bully_work_killed_total{page.labels(self.NAMES[1])} {count}\n', self.get('/metrics')[2])
+            self.assertIn(f'bully_work_killed_total{metrics.labels(self.NAMES[1])} {count}\n', self.get('/metrics')[2])
         state.is_there = False
 
     def test_an_epoch_that_is_not_told(self) -> None:
@@ -289,7 +291,7 @@ class Pages(Paged):
             self.log.acquire('unknown', session, here, LONG)
             and self.log.roll_over(1, 0, self.log.opening().next(None, ()))
         )
-        with mock.patch.object(page, 'SNAPSHOT_SECONDS', 0.0), mock.patch.object(
+        with mock.patch.object(answers, 'SNAPSHOT_SECONDS', 0.0), mock.patch.object(
             self.log, 'opening', side_effect=Unanswered('silent')
         ) as asked:
             for _ in range(2):
@@ -375,7 +377,7 @@ class Pages(Paged):
         self.begin()
         self.assertEqual(json.loads(self.get('/group')[2])['behind'], {})
         name, session = self.NAMES[0], Session(7, 1)
-        self.assertIn(f'bully_idle_behind_seconds{page.labels(name)} 0.000', self.get('/metrics')[2])
+        self.assertIn(f'bully_idle_behind_seconds{metrics.labels(name)} 0.000', self.get('/metrics')[2])
         self.assertTrue(self.log.acquire(name, session, Promise(1, len(self.log.rows)), LONG))
         with self.log._changed:  # it works
             self.log.leases[name] = self.log.leases[name]._replace(holder=Holder(session, Promise()))
@@ -474,8 +476,8 @@ class Cooperating(Paged):
             name: told[f'bully_{name}'] for name in ('cooperative', 'stable', 'partitions_moving', 'partitions_free')
         }
         self.assertEqual(group, {'cooperative': 1, 'stable': 0, 'partitions_moving': 3, 'partitions_free': 2})
-        self.assertEqual([told[f'bully_node_stops{page.labels(name)}'] for name in 'abcd'], [0, 1, 0, 0])
-        self.assertEqual([told[f'bully_idle_behind_seconds{page.labels(name)}'] for name in 'acd'], [0, 0, 0])
+        self.assertEqual([told[f'bully_node_stops{metrics.labels(name)}'] for name in 'abcd'], [0, 1, 0, 0])
+        self.assertEqual([told[f'bully_idle_behind_seconds{metrics.labels(name)}'] for name in 'acd'], [0, 0, 0])
         self.worker.may_stop.set()
         wait_until(lambda: self.measured()['bully_stable'])
         told = self.measured()

@@ -7,7 +7,7 @@ import threading
 from typing import NamedTuple
 from unittest import mock
 
-from bully import page, view
+from bully import answers, server, view
 from bully.clocks import seconds_of_boot
 from bully.core import Promise, Session
 from bully.epochs import Opening
@@ -144,7 +144,7 @@ class Probes(Paged):
         statuses: list[int] = []
         polls = [
             threading.Thread(target=lambda: statuses.append(self.status('/group?after=0')))
-            for _ in range(page.POLLS_MAX)
+            for _ in range(answers.POLLS_MAX)
         ]
         for poll in polls:
             poll.start()
@@ -161,7 +161,7 @@ class Probes(Paged):
         put(self.log, 'recover,1')
         for poll in polls:
             poll.join()
-        self.assertEqual(statuses, [200] * page.POLLS_MAX)
+        self.assertEqual(statuses, [200] * answers.POLLS_MAX)
 
     def test_among_slow_readers(self) -> None:
         """Some connections are kept for probes: of others not so many are answered at once."""
@@ -170,16 +170,16 @@ class Probes(Paged):
             with mock.patch.object(
                 self.page, '_answered', lambda told: big if told.path == target else (200, 'text/plain', 'x')
             ):
-                for number in range(2 * page.CONNECTIONS_MAX):
+                for number in range(2 * server.CONNECTIONS_MAX):
                     with contextlib.suppress(OSError):  # it was closed
                         opened.enter_context(self.client()).sendall(b'GET /group HTTP/1.1\r\nHost: localhost\r\n\r\n')
-                    wait_until(lambda: self.readers() > min(number, page.SHOWING_MAX - 1))
+                    wait_until(lambda: self.readers() > min(number, server.SHOWING_MAX - 1))
                 self.assertEqual([self.status(PROBES[0]) for _ in range(100)], [200] * 100)
                 self.assertEqual(self.status('/group'), 503)
 
     def readers(self) -> int:
         """How many connections wait for more than a status."""
-        return list(self.page._server._open.values()).count(page.Asked.OTHER)
+        return list(self.page._server._open.values()).count(server.Asked.OTHER)
 
     def test_other_methods(self) -> None:
         """They are refused with what may be asked, also if much of the request isn't read."""
@@ -224,7 +224,7 @@ class Probes(Paged):
 
     def test_before_it_takes_part(self) -> None:
         """While the store hasn't answered yet the process is alive, and knows nothing."""
-        before = page.Page(('127.0.0.1', 0), 'b')
+        before = server.MemberServer(('127.0.0.1', 0), 'b')
         self.addCleanup(before.close)
         with mock.patch.object(self, 'page', before):
             self.assertEqual([self.status(target) for target in PROBES], [200, 503, 503, 503, 503])
@@ -242,7 +242,7 @@ class Probes(Paged):
             self.assertEqual(self.status(f'/partitions/{word}'), status, word)
         other = self.other(3, log)
         wait_until(lambda: (other.assignment() and self.member.assignment()))
-        pages = [self.page, page.Page(('127.0.0.1', 0), 'c')]
+        pages = [self.page, server.MemberServer(('127.0.0.1', 0), 'c')]
         self.addCleanup(pages[1].close)
         pages[1].show(view.LogView(log), other, Workers(['true'], 'c', 0.0))
         members = [member.assignment() for member in (self.member, other)]

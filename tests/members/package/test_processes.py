@@ -380,7 +380,7 @@ os.kill(os.getpid(), signal.SIGSTOP)
         self.assertEqual(command.main([*resize, '0.1']), 1)
         wait_until(lambda: f'nothing is started here before they end: [{worker}]' in member.said)
         with contextlib.closing(LogView(self.opened())) as shown:
-            self.assertEqual(list(shown.show().behind), ['the only'])
+            self.assertEqual(list(shown.show().waits), ['the only'])
         self.assertEqual(member.end(), 1)
         told = 'the worker was killed, and has not ended for [0-9]+[.][0-9] s; the lease of its node ends by itself\n'
         self.assertRegex(member.said, told)

@@ -130,14 +130,14 @@ class PromisesRead(Grouped):
         wait_until(lambda: self.is_shared('b'))
         assert log.acquire('a', SESSION, Promise(1, len(log.rows)), LONG)
         wait_until(lambda: any('1' in row.split(',')[-1].split() for row in log.rows if row.startswith('plan')))
-        shown = self.viewed(log, self.members['b'][0].behind, TTL)
+        shown = self.viewed(log, self.members['b'][0].waits, TTL)
         log.set_maintenance(Maintenance(frozenset('a')), None)
-        wait_until(lambda: set(shown.show().behind) == {'a'})
+        wait_until(lambda: set(shown.show().waits) == {'a'})
         log.set_maintenance(Maintenance(frozenset('ac')), None)
         assert log.acquire('c', SESSION, Promise(1, len(log.rows)), LONG)
         self.read_none(log, 'b', 'ac')
         log.set_maintenance(Maintenance(frozenset('c')), None)
-        wait_until(lambda: not shown.show().behind, 5)
+        wait_until(lambda: not shown.show().waits, 5)
         self.assertTrue(shown.show().is_stable)
 
     def test_for_whom_a_change_still_waits(self) -> None:
@@ -146,7 +146,7 @@ class PromisesRead(Grouped):
         log = self.begin_log(COOPERATIVE)
         sessions = share_out(log, *'ab')
         self.come('c', TTL)
-        behind = self.members['c'][0].behind
+        behind = self.members['c'][0].waits
 
         def reported() -> set[str]:
             return set(behind.seen(Promise(1, len(log.rows)), log.holders))
@@ -165,8 +165,8 @@ class PromisesRead(Grouped):
         self.assertEqual(reported(), {'a'})
         shown, undrained = self.viewed(log, behind), seconds_of_boot()
         log.set_maintenance(Maintenance(), None)
-        wait_until(lambda: set(shown.show().behind) == {'a', 'b'})
-        waited = shown.show().behind
+        wait_until(lambda: set(shown.show().waits) == {'a', 'b'})
+        waited = shown.show().waits
         self.assertGreaterEqual(waited['a'], undrained - known)
         self.assertLessEqual(waited['b'], seconds_of_boot() - undrained)
 

@@ -14,9 +14,9 @@ import unittest
 from pathlib import Path
 from unittest import mock
 
-from bully import clocks, command, sessions
+from bully import clocks, command, control_groups, sessions
 from bully.core import Session
-from bully.releasing import release_from_file, told_command, told_file
+from bully.releasing import command_release, file_release, release_from_file
 from bully.sqlite import SqliteLog
 from bully.worker import Workers
 from places import PYTHON, ROOT, environment
@@ -203,7 +203,7 @@ class Noted(Below):
         self.addCleanup(self.log.close)
         self.assertTrue(self.log.acquire('a', A, EMPTY, LONG))
         path, name = os.path.realpath(self.log.path), self.log.name
-        self.releases = lambda session: told_file(path, name, 'a', f'{session.process}.{session.number}')
+        self.releases = lambda session: file_release(path, name, 'a', f'{session.process}.{session.number}')
 
     def holders(self) -> list[str]:
         return list(self.log.snapshot(1, 0).holders)
@@ -281,7 +281,7 @@ class Alone(InFolder):
         count = "select sessions from changes"
         with contextlib.closing(sqlite3.connect(self.path)) as file:
             before = file.execute(count).fetchone()[0]
-            told = told_file(str(self.path), self.log.name, 'a', f'{A.process}.{A.number}')
+            told = file_release(str(self.path), self.log.name, 'a', f'{A.process}.{A.number}')
             self.assertEqual(self.released(told).stderr, '')
             self.assertEqual(file.execute(count).fetchone()[0], before + 1)
             self.released(told)
@@ -289,7 +289,7 @@ class Alone(InFolder):
 
     def test_faults(self) -> None:
         """They are said, and nothing is made."""
-        ran = self.released(told_file(str(self.folder / 'no.db'), 'x', 'a', '1.1'))
+        ran = self.released(file_release(str(self.folder / 'no.db'), 'x', 'a', '1.1'))
         self.assertEqual(ran.returncode, 0)
         self.assertIn('bully: a lease is not released, and ends by itself: unable to open database file', ran.stderr)
         self.assertFalse((self.folder / 'no.db').exists())
@@ -307,12 +307,12 @@ class Alone(InFolder):
         """It has more in its environment, which nobody else sees."""
         told = 'sys.argv[1:], os.environ["SECRET"], os.environ["FIRST"]'
         says = f'import os, sys; print({told}, file=sys.stderr); print("and more")'
-        ran = self.released(told_command([sys.executable, '-c', says, 'x'], {'SECRET': 'password'}))
+        ran = self.released(command_release([sys.executable, '-c', says, 'x'], {'SECRET': 'password'}))
         self.assertEqual((ran.stderr, ran.stdout, ran.returncode), ("['x'] password 1\n", '', 0))
 
     def test_a_command_that_hangs(self) -> None:
         """It ends after that time."""
-        ran = self.released(told_command(['/bin/sleep', '1000'], {}), 0.3)
+        ran = self.released(command_release(['/bin/sleep', '1000'], {}), 0.3)
         self.assertEqual(ran.returncode, -signal.SIGALRM)
 
 
@@ -369,11 +369,13 @@ class Command(InFolder):
         """With --alone nothing is released while another process is in the control group, or if that isn't seen."""
         words = '--session', f'{A.process}.{A.number}', '--alone'
         for found in (mock.Mock(return_value={1}), mock.Mock(side_effect=OSError), mock.Mock(side_effect=ValueError)):
-            with mock.patch.object(sessions, 'others_in_group', found), mock.patch('bully.command.TTL', 0.1):
+            with mock.patch.object(control_groups, 'others_in_group', found), mock.patch(
+                'bully.commands.release.TTL', 0.1
+            ):
                 status, _, told = self.release(*words)
             self.assertEqual((status, self.holders()), (1, ['a']))
             self.assertIn('other processes are left, which may work on; the lease ends by itself', told)
-        with mock.patch.object(sessions, 'others_in_group', side_effect=[{1}, {1}, set()]):
+        with mock.patch.object(control_groups, 'others_in_group', side_effect=[{1}, {1}, set()]):
             self.assertEqual(self.release(*words)[0], 0)
         self.assertEqual(self.holders(), [])
 
@@ -416,7 +418,7 @@ def made_group(test: unittest.TestCase) -> Path:
     """A new control group, which is removed at the end. The test is skipped if this process may not make one."""
     try:
         lists = (Path(f'/proc/self/{name}').read_text() for name in ('cgroup', 'mountinfo'))
-        group = Path(sessions.group_folder(*lists)) / f'bully-test-{os.getpid()}'
+        group = Path(control_groups.group_folder(*lists)) / f'bully-test-{os.getpid()}'
         group.mkdir()
     except (OSError, ValueError) as fault:
         test.skipTest(f'no control group can be made here: {fault}')
@@ -441,9 +443,9 @@ class Groups(unittest.TestCase):
             (f'1:name=systemd:{self.UNIT}\n0::/x\n', cpu + named + second, f'/sys/fs/cgroup/systemd{self.UNIT}'),
             ('0::/docker/x/y\n', inner, '/sys/fs/cgroup/y'), ('0::/\n', unified, '/sys/fs/cgroup'),
         ):  # fmt: skip
-            self.assertEqual(sessions.group_folder(groups, mounts), folder)
+            self.assertEqual(control_groups.group_folder(groups, mounts), folder)
         for groups, mounts in (('', unified), (f'0::{self.UNIT}\n', cpu), ('0::/other\n', inner), ('3:cpu:/x\n', cpu)):
-            self.assertRaises(ValueError, sessions.group_folder, groups, mounts)
+            self.assertRaises(ValueError, control_groups.group_folder, groups, mounts)
 
 
 class Commands(unittest.TestCase):

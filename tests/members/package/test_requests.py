@@ -8,7 +8,7 @@ import socket
 import unittest
 from unittest import mock
 
-from bully import hosts, page
+from bully import answers, hosts, server
 from ..waiting import PATIENCE, wait_until
 from .member_processes import call
 from .paged import Paged
@@ -86,7 +86,7 @@ class Requests(Paged):
             'http://localhost': 200, 'http://localhost?x': 200, '/health%7a': 200, '/healthz?after=%zz': 400,
             '/%c3%28': 404, '/' + 'a' * 70_000: 414,
         }  # fmt: skip
-        with mock.patch.object(page._logger, 'exception') as failed:
+        with mock.patch.object(server._logger, 'exception') as failed:
             for target, status in cases.items():
                 with self.subTest(target=target[:50]):
                     sent = f'GET {target} HTTP/1.1\r\nHost: localhost\r\n\r\n'.encode('latin-1')
@@ -115,8 +115,8 @@ class Requests(Paged):
         wait_until(lambda: self.status('/leader') == 200)
         chance, said = random.Random(SEED), io.StringIO()
         statuses: dict[int, int] = {}
-        with mock.patch.object(page, 'POLL_SECONDS', 0.0), contextlib.redirect_stderr(said):
-            with mock.patch.object(page._logger, 'exception') as failed:
+        with mock.patch.object(answers, 'POLL_SECONDS', 0.0), contextlib.redirect_stderr(said):
+            with mock.patch.object(server._logger, 'exception') as failed:
                 for number in range(ROUNDS):
                     sent = request(chance)
                     status = self.raw_status(sent)
@@ -149,7 +149,7 @@ class Requests(Paged):
         allowed."""
         cases: list[tuple[list[str], int]] = [([], 403), (['evil.example'], 503), (['*'], 503)]
         for allowed, status in cases:
-            with contextlib.closing(page.Page(('0.0.0.0', 0), 'b', allowed)) as beyond:
+            with contextlib.closing(server.MemberServer(('0.0.0.0', 0), 'b', allowed)) as beyond:
                 hosts_taken = [
                     'localhost', '192.0.2.1', '192.0.2.1:8081', '[2001:db8::1]:8081', 'b', 'B:8081',
                     'a_1.svc.cluster.local', 'ip-10-0-0-1.ec2.internal', socket.gethostname(), None,

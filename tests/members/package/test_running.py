@@ -159,10 +159,10 @@ class Running(Threads):
         )
         shown = view.LogView(log, ttl=1.0)
         self.addCleanup(shown.close)
-        wait_until(lambda: list(shown.show().behind) == ['1'])
+        wait_until(lambda: list(shown.show().waits) == ['1'])
         is_over.set()
         wait_until(lambda: shown.show().coordinator == '3')
-        self.assertEqual(shown.show().behind, {})
+        self.assertEqual(shown.show().waits, {})
 
     def test_behind(self) -> None:
         """A member shows in a view since when others wait."""
@@ -171,12 +171,12 @@ class Running(Threads):
         wait_until(slow.assignment)
         other, _, _ = self.begin(log, 3)
         self.addCleanup(is_over.set)
-        wait_until(lambda: '3' in log.holders and other.behind._waits[1])
+        wait_until(lambda: '3' in log.holders and other.waits._waits[1])
         begun = seconds_of_boot()
         wait_until(lambda: seconds_of_boot() > begun + 0.5)
-        shown = view.LogView(log, other.behind)
+        shown = view.LogView(log, other.waits)
         self.addCleanup(shown.close)
-        behind = shown.show().behind
+        behind = shown.show().waits
         self.assertEqual(list(behind), ['1'])
         self.assertGreaterEqual(behind['1'], 0.5)
 
@@ -279,9 +279,9 @@ class Running(Threads):
         wait_until(member.assignment)
         shown = view.LogView(log)
         self.addCleanup(shown.close)
-        self.assertEqual(shown.show().behind, {})
+        self.assertEqual(shown.show().waits, {})
         self.assertTrue(log.ask(OPENING.requested(OPENING.settings), 1))
-        self.assertEqual(list(shown.show().behind), ['1'])
+        self.assertEqual(list(shown.show().waits), ['1'])
         is_over.set()
         wait_until(lambda: log.epoch == 2)
 
@@ -299,7 +299,7 @@ class Running(Threads):
             log.rows.extend(rows)
             shown = view.LogView(log)
             self.addCleanup(shown.close)
-            self.assertEqual(list(shown.show().behind), behind, room)
+            self.assertEqual(list(shown.show().waits), behind, room)
 
     def test_who_comes_again_and_again(self) -> None:
         """Its node is Down in the log, and it is admitted only once it has stayed, so that the others work on
@@ -314,7 +314,7 @@ class Running(Threads):
             fresh = view.LogView(log, ttl=DAY)
             self.addCleanup(fresh.close)
             for shown in (kept.show(), fresh.show()):
-                self.assertEqual((shown.is_well, shown.is_stable, shown.behind), (True, True, {}))
+                self.assertEqual((shown.is_well, shown.is_stable, shown.waits), (True, True, {}))
                 self.assertEqual([node.is_live for node in shown.nodes], [True] * 3)
             log.release('3', Session(8, number))
 
@@ -329,10 +329,10 @@ class Running(Threads):
         self.assertTrue(shown.show().is_well and log.acquire('3', Session(8, 1), end, LONG))
         wait_until(lambda: not shown.show().is_stable)
         group = shown.show()
-        self.assertEqual((group.is_well, list(group.behind)), (False, ['1', '2']))
+        self.assertEqual((group.is_well, list(group.waits)), (False, ['1', '2']))
         self.assertTrue(log.promise('1', Session(9, 1), end))
         group = shown.show()
-        self.assertEqual(list(group.behind), ['2'])
+        self.assertEqual(list(group.waits), ['2'])
         self.assertEqual(set(group.owners), {None, '2'}, 'the idle one may not work by that plan any more')
 
     def test_who_may_work(self) -> None:
@@ -350,7 +350,7 @@ class Running(Threads):
         self.assertEqual(group.owners.count(None), len(group.nodes[0].partitions), 'its plan stands still')
         self.assertTrue(log.acquire('1', Session(8, 1), Promise(1, len(log.rows)), LONG))
         group = shown.show()
-        self.assertEqual((set(group.owners), group.is_well, list(group.behind)), ({None, '2'}, False, ['2']))
+        self.assertEqual((set(group.owners), group.is_well, list(group.waits)), ({None, '2'}, False, ['2']))
 
     def test_a_second_process(self) -> None:
         """A member that waits until its node's lease is free doesn't know whether the group is stable, and names nobody
@@ -359,14 +359,14 @@ class Running(Threads):
         first, _, _ = self.begin(log, 1)
         wait_until(first.assignment)
         second, _, _ = self.begin(log, 1)
-        with mock.patch.object(second.behind, 'see', wraps=second.behind.see) as seen:
+        with mock.patch.object(second.waits, 'see', wraps=second.waits.see) as seen:
             wait_until(lambda: seen.call_count > 1)
-        self.assertEqual((second.assignment(), second.behind._waits[1]), (None, {}))
+        self.assertEqual((second.assignment(), second.waits._waits[1]), (None, {}))
 
     def test_how_long_behind(self) -> None:
         """It counts from when a change first waited for it, at this end of the log, for this session."""
         late, one, other = (
-            view.Behind(),
+            view.ChangeWaits(),
             {'a': Holder(Session(1, 1), Promise(1, 3))},
             {'a': Holder(Session(1, 2), Promise(1, 3))},
         )

@@ -75,8 +75,9 @@ class Signals(WithMember):
 
     def test_at_the_end(self) -> None:
         """Once a member has left, Python stops handling signals before it exits: so they are ignored then."""
-        shows = 'print(all(signal.getsignal(each) == signal.SIG_IGN for each in command.ENDS))'
-        code = f'import signal, sys\nfrom bully import command\nstatus = command.main(sys.argv[1:])\n{shows}\nsys.exit(status)'
+        shows = 'print(all(signal.getsignal(each) == signal.SIG_IGN for each in processes.ENDS))'
+        code = f'import signal, sys\nfrom bully import command, processes\nstatus = command.main(sys.argv[1:])\n'
+        code += f'{shows}\nsys.exit(status)'
         words = [sys.executable, '-c', code, 'run', '--log', f'sqlite:{self.path}', '--node', 'a', '--', 'true']
         ran = subprocess.run(words, env=environment(), stdout=subprocess.PIPE, text=True, timeout=PATIENCE)
         self.assertEqual((ran.returncode, ran.stdout), (4, 'True\n'))  # there is no log

@@ -6,7 +6,8 @@ import random
 import re
 from unittest import mock
 
-from bully import command, observer, view
+from bully import observer, view
+from bully.commands import status
 from bully.clocks import SECOND
 from bully.core import TTL_MIN, Promise, Session
 from bully.epochs import Opening, Token
@@ -44,9 +45,9 @@ class Slowly(Grouped):
         """That node is named, with the partition that it loses, and no other."""
         before = self.slowed()
         shown = self.viewed(self.log)
-        wait_until(lambda: shown.show().behind)
+        wait_until(lambda: shown.show().waits)
         group = shown.show()
-        self.assertEqual((list(group.behind), list(group.stops)), (['a'], ['a']))
+        self.assertEqual((list(group.waits), list(group.stops)), (['a'], ['a']))
         (moving,) = group.stops['a']
         self.assertIn(moving, before['a'])
         self.assertEqual(self.seen_doing(group, Doing.MOVING), {moving: ('a', 'd')})
@@ -57,11 +58,11 @@ class Slowly(Grouped):
         }
         self.assertEqual(self.seen_doing(group, Doing.WORKING), working)
         self.assertEqual((group.moves, group.is_stable, group.is_well, group.mode), (3, False, False, 'cooperative'))
-        wait_until(lambda: shown.show().behind['a'] > 0.3)
+        wait_until(lambda: shown.show().waits['a'] > 0.3)
         self.members['a'][1].may_stop.set()
         wait_until(lambda: self.is_shared('abcd'))
         group = shown.show()
-        self.assertEqual((group.behind, group.stops, group.moves, group.is_well), ({}, {}, 0, True))
+        self.assertEqual((group.waits, group.stops, group.moves, group.is_well), ({}, {}, 0, True))
         self.assertEqual({each.token for each in group.partitions}, {self.last_token()})
         self.assertEqual(set(self.seen_doing(group, Doing.WORKING)), set(range(12)))
 
@@ -70,19 +71,19 @@ class Slowly(Grouped):
         it reads the log for the first time, whether or not a member reports to it."""
         self.slowed()
         other = self.members['b'][0]
-        wait_until(lambda: [name for name, _ in other.behind._waits[1]] == ['a'])
-        for told in (None, other.behind):
+        wait_until(lambda: [name for name, _ in other.waits._waits[1]] == ['a'])
+        for told in (None, other.waits):
             group = self.viewed(self.log, told).show()
-            self.assertEqual((list(group.behind), [len(each) for each in group.stops.values()]), (['a'], [1]))
+            self.assertEqual((list(group.waits), [len(each) for each in group.stops.values()]), (['a'], [1]))
 
     def test_status(self) -> None:
         """In words of the command, which reads again until it has seen for long enough who came."""
         self.slowed()
         said: list[str] = []
-        with mock.patch.object(command, 'store_of') as store, mock.patch('builtins.print', said.append):
-            store().open.return_value, store().told_readers = self.log, ''
-            self.assertEqual(command.status_command(mock.Mock(json=False, watch=None)), 1)
-        group = self.viewed(self.log, self.members['b'][0].behind).show()
+        with mock.patch.object(status, 'store_of') as store, mock.patch('builtins.print', said.append):
+            store().open.return_value, store().readers_warning = self.log, ''
+            self.assertEqual(status.status(mock.Mock(json=False, watch=None)), 1)
+        group = self.viewed(self.log, self.members['b'][0].waits).show()
         (moving,) = group.stops['a']
         lines = said[0].splitlines()
         told = rf', coordinator c, cooperative; 3 of 12 partitions move; not stopped yet: a on {moving} for [0-9.]+ s'
@@ -101,9 +102,9 @@ class Slowly(Grouped):
         owned, works = self.works()['c'], self.works()
         self.assertTrue(self.log.set_maintenance(Maintenance(frozenset('c')), None))
         shown = self.viewed(self.log)
-        wait_until(lambda: shown.show().behind)
+        wait_until(lambda: shown.show().waits)
         group = shown.show()
-        self.assertEqual((list(group.behind), group.stops, group.moves), (['c'], {'c': owned}, 3))
+        self.assertEqual((list(group.waits), group.stops, group.moves), (['c'], {'c': owned}, 3))
         self.assertEqual(set(self.seen_doing(group, Doing.MOVING)), set(owned))
         self.assertEqual(self.works(), works)
         worker.may_stop.set()
@@ -131,7 +132,7 @@ class Stored(Viewed):
         self.log.release('c', self.sessions['c'])
         group = shown.show()
         self.assertEqual(self.owned(group), {**{name: before[name] for name in 'abd'}, None: before['c']})
-        self.assertEqual((group.behind, group.moves, group.is_stable, group.is_changing), ({}, 3, False, True))
+        self.assertEqual((group.waits, group.moves, group.is_stable, group.is_changing), ({}, 3, False, True))
         waiting = self.seen_doing(group, Doing.WAITING)
         self.assertEqual((set(waiting), {new for _, new in waiting.values()}), (set(before['c']), {'a', 'b', 'd'}))
         self.assertEqual({each.token for each in group.partitions if each.owner}, {self.token})
@@ -145,24 +146,24 @@ class Stored(Viewed):
         group = shown.show()
         self.assertEqual(self.owned(group), {**before, 'a': keeps, None: before['a'][:1]})
         self.assertEqual({group.partitions[each].token for each in keeps}, {None})
-        self.assertEqual((group.is_stable, group.behind, group.moves), (False, {}, 0), 'it gets that back')
+        self.assertEqual((group.is_stable, group.waits, group.moves), (False, {}, 0), 'it gets that back')
         self.assertEqual(self.seen_doing(group, Doing.WAITING), {before['a'][0]: (None, 'a')})
 
     def test_who_has_promised_since(self) -> None:
         """A view to which a member reports names nobody who has stopped since then; nor for another offset of the log,
         nor another session."""
-        late, owned = view.Behind(), self.owned(self.viewed(self.log).show())
+        late, owned = view.ChangeWaits(), self.owned(self.viewed(self.log).show())
         self.assertTrue(self.log.set_maintenance(Maintenance(frozenset('b')), None))
         holders = {name: self.log.holders[name] for name in 'ab'}
         late.see(self.end, holders)
-        self.assertEqual(list(self.viewed(self.log, late).show().behind), ['b', 'a'])
+        self.assertEqual(list(self.viewed(self.log, late).show().waits), ['b', 'a'])
         self.assertTrue(self.log.promise('a', self.sessions['a'], self.end, tuple(owned['a'])))
-        self.assertEqual(list(self.viewed(self.log, late).show().behind), ['b'])
+        self.assertEqual(list(self.viewed(self.log, late).show().waits), ['b'])
         for other in (Promise(1, self.end.offset + 1), Promise(2, self.end.offset)):
             late.see(other, self.log.holders)
-            self.assertEqual(list(self.viewed(self.log, late).show().behind), ['b'])
+            self.assertEqual(list(self.viewed(self.log, late).show().waits), ['b'])
         late.see(self.end, {'c': Holder(Session(7, 7), Promise())})
-        self.assertEqual(list(self.viewed(self.log, late).show().behind), ['b'])
+        self.assertEqual(list(self.viewed(self.log, late).show().waits), ['b'])
 
     def test_who_comes_again(self) -> None:
         """A view that has seen a node come again and again doesn't expect it; but once somebody has stopped for it, the
@@ -173,10 +174,10 @@ class Stored(Viewed):
             log.release('d', Session(8, number - 1))
             self.assertTrue(log.acquire('d', Session(8, number), end, LONG))
             group = shown.show()
-        self.assertEqual((group.is_stable, group.behind, group.moves), (True, {}, 0))
+        self.assertEqual((group.is_stable, group.waits, group.moves), (True, {}, 0))
         self.assertTrue(log.promise('b', sessions['b'], end))
         group = shown.show()
-        self.assertEqual((group.is_stable, list(group.behind), group.moves), (False, ['a', 'c'], 3))
+        self.assertEqual((group.is_stable, list(group.waits), group.moves), (False, ['a', 'c'], 3))
         self.assertEqual([each.coming for each in group.partitions].count('d'), 3)
 
     def test_a_request(self) -> None:
@@ -184,16 +185,16 @@ class Stored(Viewed):
         sessions, shown = self.sessions, self.viewed(self.log)
         self.assertTrue(self.log.ask(COOPERATIVE.requested(COOPERATIVE.settings), 1))
         group, owned = shown.show(), self.owned(shown.show())
-        self.assertEqual((list(group.behind), group.moves), (list('abcd'), 0))
+        self.assertEqual((list(group.waits), group.moves), (list('abcd'), 0))
         self.assertEqual({each.doing for each in group.partitions}, {Doing.STOPPING})
         self.assertEqual(group.stops, {name: tuple(owned[name]) for name in 'abcd'})
         for name in 'bcd':
             self.assertTrue(self.log.promise(name, sessions[name], self.end))
         self.assertTrue(self.log.promise('a', sessions['a'], self.end, (owned['a'][0],)))
         group = shown.show()
-        self.assertEqual((list(group.behind), group.stops), (['a'], {'a': (owned['a'][0],)}))
+        self.assertEqual((list(group.waits), group.stops), (['a'], {'a': (owned['a'][0],)}))
         self.assertTrue(self.log.promise('a', sessions['a'], self.end))
-        self.assertEqual((shown.show().behind, set(shown.show().owners)), ({}, {None}))
+        self.assertEqual((shown.show().waits, set(shown.show().owners)), ({}, {None}))
 
     def test_who_owns_nothing(self) -> None:
         """Nobody waits for such a node, whatever changes, nor for a process that the group doesn't know; in an eager
@@ -211,7 +212,7 @@ class Stored(Viewed):
             wanted = [
                 name for name in (*'abcd', 'unknown') if not (opening.is_cooperative and name in {*idle, 'unknown'})
             ]
-            self.assertEqual((len(idle), list(shown.show().behind)), (1, wanted))
+            self.assertEqual((len(idle), list(shown.show().waits)), (1, wanted))
             self.assertEqual(len(wanted), len(late))
 
     def test_a_full_log(self) -> None:
@@ -228,7 +229,7 @@ class Stored(Viewed):
             log.rows.extend(rows)
             group = self.viewed(log).show()
             has_room = room == 44
-            self.assertEqual((list(group.behind), group.is_stable), ([] if has_room else ['a', 'b'], has_room))
+            self.assertEqual((list(group.waits), group.is_stable), ([] if has_room else ['a', 'b'], has_room))
             doing = {Doing.WORKING} if has_room else {Doing.STOPPING}
             self.assertEqual(({each.doing for each in group.partitions}, group.moves), (doing, 0))
 
@@ -243,11 +244,11 @@ class Stored(Viewed):
         wait_until(lambda: not shown.show().is_stable)
         self.assertTrue(log.promise('b', sessions['b'], end))
         group = shown.show()
-        self.assertEqual((list(group.behind), group.moves), (['a', 'c'], 0))
+        self.assertEqual((list(group.waits), group.moves), (['a', 'c'], 0))
         stopping = self.seen_doing(group, Doing.STOPPING)
         self.assertEqual((len(stopping), set(stopping.values())), (8, {('a', None), ('c', None)}))
         self.assertEqual(set(self.seen_doing(group, Doing.WAITING).values()), {(None, None)})
-        self.assertRegex(group.told_more, '^; not idle yet: a for [0-9.]+ s, c for [0-9.]+ s$')
+        self.assertRegex(group.more_text, '^; not idle yet: a for [0-9.]+ s, c for [0-9.]+ s$')
 
     def test_who_is_affected(self) -> None:
         """By the proved rules those are affected, in any state, that lose something by the coming table; or all that

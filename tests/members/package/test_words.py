@@ -3,6 +3,7 @@ from __future__ import annotations
 
 import codecs
 import contextlib
+import importlib
 import json
 import os
 import re
@@ -17,7 +18,7 @@ from typing import Any
 from unittest import mock
 
 import bully
-from bully import command, store_options
+from bully import command, exit_statuses, store_options
 from bully.epochs import Opening
 from bully.shared_log import Log, LogExists
 from bully.sqlite import SqliteLog
@@ -239,6 +240,9 @@ class Configurations(WithLog):
             (f'{head}{fault}keep = true\n', ':8: UnknownKey keep'), (f'{head}{fault}[[fault]]\nat = 1\n', ': Missing node'),
             (f'{head}weights = [1,\n  1, 1\n\nkeep = true\n', ':4: Toml'), (f'{head}\nkeep = yes\n', ':5: Toml'),
             (f'{head}nodes = 3\n', ':4: Toml'), ('nodes = 3\n\ufeff', ':2: Toml'),
+            (f'{head}{"# more" * 2}\n{"# [" * 3}\n' + '\n' * 2_000 + 'keep = yes\n', ':2006: Toml'),
+            (f'{head}{fault}names = [[1],\n[2]]\n', ':8: UnknownKey names'),
+            (f'{head}{fault.replace("1", "0")}text = """\nat = 1\n"""\n', ':5: Range at'),
         ):  # fmt: skip
             self.config.write_text(text)
             with self.subTest(text=text):
@@ -389,6 +393,25 @@ class Outputs(WithLog):
         self.assertNotIn('group.toml', told)
 
 
+class Statuses(unittest.TestCase):
+    """The exceptions that end a command."""
+
+    def test_names(self) -> None:
+        """They are listed by their names, so each name must be that of one exception of the package, or of Python."""
+        package = Path(bully.__file__).parent
+        for path in (*package.glob('*.py'), *package.glob('commands/*.py')):
+            importlib.import_module('.'.join(path.relative_to(package.parent).with_suffix('').parts))
+        named = [each.__name__ for each in subclasses(Exception) if each.__module__.startswith('bully.')]
+        for name in exit_statuses.STATUSES.keys() - {'OSError'}:
+            self.assertEqual(named.count(name), 1, name)
+
+
+def subclasses(kind: type) -> set[type]:
+    """All classes below this one."""
+    below = set(kind.__subclasses__())
+    return below.union(*map(subclasses, below))
+
+
 class Units(unittest.TestCase):
     """The unit of systemd."""
 
@@ -397,7 +420,7 @@ class Units(unittest.TestCase):
         page = (ROOT / 'docs' / 'MEMBERS.md').read_text()
         rows = re.findall(r'^\| ([0-9, ]+) \|.*\| waits for a person \|$', page, re.MULTILINE)
         told = {int(number) for row in rows for number in row.split(',')}
-        self.assertIn(command.NO_RETRY, told)
+        self.assertIn(exit_statuses.NO_RETRY, told)
         unit = (ROOT / 'examples' / 'members' / 'bully-member@.service').read_text()
         [listed] = re.findall(r'^RestartPreventExitStatus=(.*)$', unit, re.MULTILINE)
         self.assertEqual(set(map(int, listed.split())), told)

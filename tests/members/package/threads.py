@@ -12,7 +12,7 @@ from bully.core import Promise, Session
 from bully.epochs import Opening, Token
 from bully.member import Member
 from bully.memory import MemoryLog
-from bully.shared_log import Known, Log, Snapshot, Unanswered
+from bully.shared_log import Log, Precondition, Snapshot, Unanswered
 from ..steps import LONG
 from ..waiting import PATIENCE
 
@@ -69,7 +69,7 @@ class Noting(MemoryLog):
         super().__init__(opening)
         self.appends: list[int] = []
 
-    def append(self, epoch: int, offset: int, rows: Sequence[str], known: Known | None = None) -> bool:
+    def append(self, epoch: int, offset: int, rows: Sequence[str], known: Precondition | None = None) -> bool:
         self.appends.append(offset)
         return super().append(epoch, offset, rows, known)
 
