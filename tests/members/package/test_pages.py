@@ -23,9 +23,8 @@ from bully.work_failures import ALL, Failures
 from bully.worker_states import WorkerState
 from ..steps import LONG
 from ..waiting import PATIENCE, wait_until
-from .grouped import COOPERATIVE
+from .grouped import COOPERATIVE, Worker
 from .paged import Paged
-from .test_cooperative import Worker
 from .threads import Troubled, put
 
 
