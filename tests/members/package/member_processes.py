@@ -228,3 +228,28 @@ class WithMember(InFolder):
             'BULLY_LOG': f'sqlite:{self.path}',
         }
         return [*words, 'sleep', '1000'], more
+
+
+class WithLog(InFolder):
+    """Commands on a log in a file, of a group whose configuration is in a file, too."""
+
+    def setUp(self) -> None:
+        super().setUp()
+        self.config, self.log = Path(self.configured('group.toml')), f'sqlite:{self.path}'
+
+    def use(self, name: object) -> None:
+        """The log is another one from now on."""
+        self.path = self.folder / f'{name}.db'
+        self.log = f'sqlite:{self.path}'
+
+    def of_log(self, *words: str) -> tuple[int, str, str]:
+        return call(*words, '--log', self.log)
+
+    def init(self, *words: str) -> tuple[int, str, str]:
+        return self.of_log('init', '--config', str(self.config), *words)
+
+    def configured(self, name: str, **more: Any) -> str:
+        """The path of a configuration."""
+        path = self.folder / name
+        path.write_bytes(toml({**TOP, **more}))
+        return str(path)
