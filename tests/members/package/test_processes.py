@@ -158,7 +158,7 @@ os.kill(os.getpid(), signal.SIGSTOP)
         for _ in range(5):
             writer = subprocess.run(
                 [sys.executable, '-c', words], env=environment(), stdout=subprocess.PIPE, stderr=subprocess.DEVNULL,
-                timeout=PATIENCE,
+                timeout=4 * PATIENCE,
             )  # fmt: skip
             ended = clocks.seconds_of_boot()
             self.assertEqual(writer.returncode, -signal.SIGKILL)
@@ -373,8 +373,8 @@ os.kill(os.getpid(), signal.SIGSTOP)
         self.assertIn('\nbully_drained{node="the only"} 1\n', asked(port, '/metrics')[1])
         self.assertIn('<td>no, drained<td>', asked(port, '/')[1])
         self.of_log('undrain', 'the only')
+        wait_until(lambda: asked(port, '/healthz') == (200, 'live\n'))
         member.next_worker()
-        self.assertEqual(asked(port, '/healthz'), (200, 'live\n'))
         self.assertIn('\nbully_drained{node="the only"} 0\n', asked(port, '/metrics')[1])
         self.of_log('drain', 'the only', '--all')
         wait_until(lambda: asked(port, '/healthz')[1] == 'drained\n')
