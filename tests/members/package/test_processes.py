@@ -144,7 +144,8 @@ from bully.working import Assignment
 file = sqlite3.connect({str(self.path)!r}, isolation_level=None, timeout=60)
 workers = Workers(['true'], 'x', 1.0)
 ended = []
-workers.begin(SimpleNamespace(ttl={ttl}, margin=1.0, ended=ended.append), {str(self.path)!r})
+member = SimpleNamespace(ttl={ttl}, margin=1.0, ended=ended.append, end_with=lambda _: os._exit(9))
+workers.begin(member, {str(self.path)!r})
 workers.start(Assignment(1, 1, (0,), SimpleNamespace(text=lambda *_: '{{}}', name=str)), frozenset([0]))
 while not ended:  # so its watchdog is there
     time.sleep(0.01)
@@ -161,6 +162,8 @@ os.kill(os.getpid(), signal.SIGSTOP)
                 timeout=4 * PATIENCE,
             )  # fmt: skip
             ended = clocks.seconds_of_boot()
+            if writer.returncode == 9:  # on a busy machine its watchdog was too late to say anything
+                continue
             self.assertEqual(writer.returncode, -signal.SIGKILL)
             until = int(writer.stdout) / SECOND
             wait_until(lambda: self.until(log) > until)  # it was renewed since
@@ -225,9 +228,8 @@ os.kill(os.getpid(), signal.SIGSTOP)
         """A worker has those of its own member, and none of another one whose worker that is."""
         names = 'NODE', 'TOKEN', 'PARTITIONS', 'PARTITION', 'COORDINATOR', 'SETTINGS', 'SETTINGS_FILE', 'ANSWERS'
         others = {f'BULLY_{name}': 'of another' for name in names}
-        kinds = {
-            (): {'NODE', 'TOKEN', 'PARTITIONS', 'COORDINATOR', 'SETTINGS', 'SETTINGS_FILE'}, ('--talk',): {'NODE', 'ANSWERS'},
-        }  # fmt: skip
+        of_work = {'NODE', 'TOKEN', 'PARTITIONS', 'COORDINATOR', 'SETTINGS', 'SETTINGS_FILE'}
+        kinds: dict[tuple[str, ...], set[str]] = {(): of_work, ('--talk',): {'NODE', 'ANSWERS'}}
         for more, has in kinds.items():
             with self.subTest(more=more):
                 self.init(*more)

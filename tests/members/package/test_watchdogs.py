@@ -433,9 +433,8 @@ class Watchdogs(Below):
                         wait_until(lambda: not is_running(self.worker))
                     workers.stop()
                 self.assertTrue(self.are_gone())
-                self.assertTrue(
-                    said.output[0].endswith('nothing is started here before they end: they are not listed'), said.output
-                )
+                told = 'nothing is started here before they end: they are not listed'
+                self.assertTrue(any(line.endswith(told) for line in said.output), said.output)
                 self.assertEqual([type(failure) for failure in self.failures], [WatchdogLost])
                 self.assertEqual(self.lost, [])
                 self.failures.clear()
