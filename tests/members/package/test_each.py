@@ -242,15 +242,15 @@ class Each(InFiles):
 
     def test_fails_alone(self) -> None:
         """One that fails backs off alone. The node's work fails as long as one of them does."""
-        workers = self.begin('mild', ttl=1.0)
-        failures = workers._failures = Failures(2, 1.0)
+        workers = self.begin('mild', ttl=8.0)
+        failures = workers._failures = Failures(2, 8.0)
         workers.start(assigned(2, 0, 5))
         first, other = self.begun(0), self.begun(5)
         with self.assertLogs('bully', 'WARNING') as said:
             self.end('5', 7)
             wait_until(lambda: self.member.ends)
             self.assertIn(
-                'the worker of partition 5 failed, with status 7, and is started again in 0.2 s', said.output[0]
+                'the worker of partition 5 failed, with status 7, and is started again in 1.6 s', said.output[0]
             )
             self.assertEqual((self.member.ends, first.is_there, other.is_gone), ([{5}], True, True))
             self.assertTrue(workers.is_failing)
