@@ -25,12 +25,33 @@ good() {
     printf '[[fault]]\nat = %s\nnode = "%s"\nkind = "%s"\n' 1 a recover 9 c crash
 }
 
-# Plays that configuration as each line of the input edits it by `sed`, and prints `Ok` where it is played.
+# Plays that configuration as each line of the input edits it: after `Ok`, or the fault that it has then, and a colon comes
+# what `sed` does. Prints what is otherwise.
 edited() {
-    local edit
-    while IFS= read -r edit; do
-        good | sed "$edit" >edited.toml
-        bully play edited.toml >played && echo Ok
+    local line wanted said
+    while IFS= read -r line; do
+        wanted=${line%%: *}
+        [ "$wanted" = Ok ] && wanted='0 ' || wanted="3 bully: config: $wanted"
+        good | sed "${line#*: }" >edited.toml
+        bully play edited.toml 2>said >played
+        said="$? $(cat said)"
+        [ "$said" = "$wanted" ] || echo "$line, and not $said"
+    done
+}
+
+# Judges a trace for each line of the input: its name, the verdict or the fault, and its rows, with slashes between them.
+# Prints what is otherwise.
+judged() {
+    local name wanted rows said
+    while IFS='|' read -r name wanted rows; do
+        rows=${rows# } wanted=${wanted# } wanted=${wanted% }
+        case $wanted in
+            refused* | differs*) wanted="1, $wanted, " ;;
+            *) wanted="3, , bully: trace $wanted" ;;
+        esac
+        printf '%s\n' "${rows// \/ /$'\n'}" | bully check >verdict 2>fault
+        said="$?, $(cat verdict), $(cat fault)"
+        [ "$said" = "$wanted" ] || echo "$name: $said, and not $wanted"
     done
 }
 

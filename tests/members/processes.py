@@ -113,6 +113,12 @@ def waits_for(process: int, number: int) -> bool:
     return any(int(mask, 16) >> number - 1 & 1 for mask in masks)
 
 
+def ignores(process: int, number: int) -> bool:
+    """Whether the process ignores the signal."""
+    status = Path(f'/proc/{process}/status').read_text()
+    return bool(int(status.partition('SigIgn:')[2].split()[0], 16) >> number - 1 & 1)
+
+
 def has_loaded(process: int, name: str) -> bool:
     """Whether the process has loaded a file whose name has these words."""
     return name in Path(f'/proc/{process}/maps').read_text()

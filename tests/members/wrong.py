@@ -12,15 +12,13 @@ The first FOLDER is what `bin/library` wrote. A bug in the rules is an edit of a
 this edit and isn't proved. It is built in the other FOLDER, in some two minutes, unless it is there, made of what the
 sources are now. Without that FOLDER it is left out.
 
-`wrong-bodies.txt` has the bugs. An entry has these lines:
+`wrong-bodies.txt` has the bugs. An entry begins with what is changed, a colon, and a sentence that says what is wrong.
+What is changed is a file of the package, an edit of a crate, or both, with a comma. Below that are indented:
 
-- `#` and a sentence that says what is wrong;
 - what must find it, once or more often: `test` and a test of the package; or `run` and the words of a program of
-  `tests/members/run`, then a bar
-  and a part of what that program says if it finds the bug;
-- `edit` and an edit of a crate; or `file` and a file of the package, with lines after `-` that are there once, and
-  after `+` what replaces them; or
-  both.
+  `tests/members/run`, then a bar and a part of what that program says if it finds the bug;
+- for a file lines after `-` that are there once, and after `+` what replaces them. Those after `file` and the name of
+  another file are of that one.
 
 `last-found.txt` has the day on which each was last found. If the list is noted and committed after each gate, all have
 been planted within four gates.
@@ -53,6 +51,7 @@ from .edited import build
 
 BUGS = Path(__file__).with_name('wrong-bodies.txt')
 LAST_FOUND = BUGS.with_name('last-found.txt')
+INDENT = '    '  # of the lines of an entry below its first one
 TURN = ROOT / 'out' / 'found-in-turn.txt'  # what the last run with --turn found
 TURNS = 4  # within so many all are planted
 TRIES = 3  # of what comes out otherwise than it must
@@ -90,15 +89,21 @@ class Bug:
     edit: str = ''
     changes: list[Change] = field(default_factory=list)
 
+    def read_head(self, line: str) -> None:
+        """Its first line."""
+        where, _, self.sentence = line.partition(': ')
+        for name in where.split(', '):
+            if name.endswith('.edit'):
+                found = [str(path.relative_to(ROOT)) for path in ROOT.glob(f'crates/*/*wrong-bodies/{name}')]
+                self.edit = found[0] if len(found) == 1 else name
+            else:
+                self.changes.append(Change(name))
+
     def read(self, line: str) -> None:
-        """One line of it."""
+        """A line below that."""
         word, _, more = line.partition(' ')
-        if word == '#':
-            self.sentence = more
-        elif word in ('test', 'run'):
+        if word in ('test', 'run'):
             self.finders.append((word, more))
-        elif word == 'edit':
-            self.edit = more
         elif word == 'file':
             self.changes.append(Change(more))
         elif word == '-' and self.changes[-1].new:
@@ -136,11 +141,13 @@ def is_test(name: str) -> bool:
 
 def bugs(words: list[str]) -> list[Bug]:
     """Those whose entries have one of these words; all, if there are none."""
-    texts = BUGS.read_text().strip().split('\n\n')
+    texts = re.split(r'\n(?=\S)', BUGS.read_text().strip())
     found = [Bug(text) for text in texts if not words or any(each in text for each in words)]
     for bug in found:
-        for line in bug.text.split('\n'):
-            bug.read(line)
+        head, *lines = bug.text.split('\n')
+        bug.read_head(head)
+        for line in lines:
+            bug.read(line[len(INDENT) :])
     return found
 
 

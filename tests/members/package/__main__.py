@@ -55,6 +55,7 @@ def main(words: list[str]) -> int:
         return 2
     os.environ['BULLY_LIBRARY'] = str(Path(words[0]).resolve())
     signal.signal(signal.SIGHUP, signal.SIG_DFL)  # members must get it, even if nohup started this, which ignores it
+    signal.signal(signal.SIGINT, signal.default_int_handler)  # so must commands, even if this runs in the background
     counts = Counts()
     if words[1:]:
         counting.run_folder(HERE, 'members.package', counts, words[1:])

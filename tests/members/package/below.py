@@ -76,7 +76,7 @@ class Timely(Workers):
         Workers.stop(self, asker.assignment and asker.assignment.left(asker.working - asker.stopping), stopped)
         return stopped
 
-    def stop(self, assignment: Assignment | None = None, *partitions: object) -> None:
+    def stop(self, *_: object) -> None:
         """All stops, and it fails if that isn't reported."""
         stopped = self.ask_to_stop()
         wait_until(lambda: not stopped & self.asker.working)

@@ -7,18 +7,48 @@ from typing import Any
 
 from bully import view
 from bully.epochs import Opening, Token
-from bully.member import Member
+from bully.member import Assignment, Member
 from bully.replica import Replica
 from bully.shared_log import Holder, Log
 from bully.core import Promise, Session
 from ..steps import LONG
-from ..waiting import wait_until
-from .test_cooperative import Worker
+from ..waiting import PATIENCE, wait_until
 from .threads import Threads, Troubled
 
 HEADER = 'bully,1,4,12'
 COOPERATIVE = Opening.first(HEADER, 'abcd', is_cooperative=True)
 EAGER = Opening.first(HEADER, 'abcd')
+Said = dict[str, list[tuple[str, tuple[int, ...]]]]  # what each worker was called with
+
+
+class Worker:
+    """What the callbacks of a member were called with, and what it works on by which token."""
+
+    def __init__(self) -> None:
+        self.said: list[tuple[str, tuple[int, ...]]] = []
+        self.works: dict[int, Token] = {}
+        self.may_stop = threading.Event()  # a callback that revokes partitions waits for it
+        self.may_stop.set()
+
+    def assigned(self, assignment: Assignment, partitions: tuple[int, ...]) -> None:
+        self.said.append(('assigned', partitions))
+        self.works.update(dict.fromkeys(assignment.partitions, assignment.token))
+
+    def revoked(self, partitions: tuple[int, ...]) -> None:
+        self.end('revoked', partitions)
+
+    def lost(self, partitions: tuple[int, ...]) -> None:
+        self.end('lost', partitions)
+
+    def end(self, words: str, partitions: tuple[int, ...]) -> None:
+        self.may_stop.wait()
+        self.said.append((words, partitions))
+        for partition in partitions:
+            del self.works[partition]
+
+    def stopped(self) -> list[int]:
+        """The partitions on which work was stopped, in rising order."""
+        return sorted(partition for words, partitions in self.said if words != 'assigned' for partition in partitions)
 
 
 def share_out(log: Log, *names: str) -> dict[str, Session]:
@@ -36,12 +66,6 @@ def share_out(log: Log, *names: str) -> dict[str, Session]:
 
 class Viewed(Threads):
     """Tests with views of a log."""
-
-    def viewed(self, log: Log, behind: view.ChangeWaits | None = None, ttl: float = 2.0) -> view.LogView:
-        """A view up to the end of the test."""
-        shown = view.LogView(log, behind, ttl)
-        self.addCleanup(shown.close)
-        return shown
 
     def seen_doing(self, group: view.GroupView, doing: view.Doing) -> dict[int, tuple[str | None, str | None]]:
         """The partitions of which that becomes, with who may work on them, and who will own them."""
@@ -85,23 +109,31 @@ class Grouped(Viewed):
         shown = {name: member.assignment() for name, (member, _, _) in self.members.items()}
         return {name: each.partitions for name, each in shown.items() if each is not None}
 
-    def is_shared(self, names: Sequence[str]) -> bool:
-        """Whether these, and no others, work on all partitions, by the last plan."""
+    def leave(self, name: str) -> Worker:
+        """Its member leaves. What its worker was."""
+        member, worker, thread = self.members.pop(name)
+        member.leave()
+        thread.join(PATIENCE)
+        return worker
+
+    def is_shared(self, names: Sequence[str] | None = None) -> bool:
+        """Whether these, or all that have come, and no others work on all partitions, by the last plan."""
         tokens = {token for _, worker, _ in self.members.values() for token in worker.works.values()}
         works, count = self.works(), self.log.opening().settings.setup.partitions
         is_whole = sorted(sum(works.values(), ())) == list(range(count)) and tokens == {self.last_token()}
-        return is_whole and works == self.owners() and sorted(works) == sorted(names)
+        wanted = sorted(self.members if names is None else names)
+        return is_whole and works == self.owners() and sorted(works) == wanted
 
     def last_token(self) -> Token | None:
         opening, rows = self.log.opening(), self.log.rows[:]
         plans = [offset for offset, row in enumerate(rows) if row.startswith('plan')]
         return Token.of(opening.epoch, 1 + plans[-1]) if plans else None
 
-    def said(self) -> dict[str, list[tuple[str, tuple[int, ...]]]]:
+    def said(self) -> Said:
         """What each worker was called with."""
         return {name: worker.said[:] for name, (_, worker, _) in self.members.items()}
 
-    def stopped_since(self, said: dict[str, list[tuple[str, tuple[int, ...]]]]) -> dict[str, list[int]]:
+    def stopped_since(self, said: Said) -> dict[str, list[int]]:
         """On which partitions the work of each was stopped since it was called with that."""
         news = {name: worker.said[len(said.get(name, ())) :] for name, (_, worker, _) in self.members.items()}
         stops = {

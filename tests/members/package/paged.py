@@ -2,6 +2,7 @@
 from __future__ import annotations
 
 import http.client
+import json
 import socket
 import threading
 import unittest
@@ -41,6 +42,10 @@ class Paged(unittest.TestCase):
         text = answer.read().decode()
         connection.close()
         return answer.status, answer.getheader('Content-Type') or '', text
+
+    def told(self, target: str = '/group') -> Any:
+        """The document of an answer."""
+        return json.loads(self.get(target)[2])
 
     def status(self, target: str, method: str = 'GET') -> int:
         """The status of an answer."""

@@ -8,7 +8,7 @@ import sys
 import threading
 import time
 from collections.abc import Callable
-from pathlib import Path
+from typing import Any
 from unittest import mock
 
 from bully import config_file, store_options
@@ -20,28 +20,19 @@ from bully.shared_log import Log
 from places import environment
 from ..steps import HEADER, LONG
 from ..waiting import wait_until
-from .configurations import TOP, toml
-from .folders import InFolder, changed
-from .member_processes import call
+from .folders import changed
+from .member_processes import WithLog, call
 from .threads import put
 
 
 REQUESTED = "update epochs set requested = json_set(opening, '$.epoch', 2,"
 
 
-class Commands(InFolder):
+class Commands(WithLog):
     """`bully-member`, but for `run`."""
 
-    def setUp(self) -> None:
-        super().setUp()
-        self.config = self.folder / 'group.toml'
-        self.config.write_bytes(toml(TOP))
-
-    def of_log(self, *words: str) -> tuple[int, str, str]:
-        return call(*words, '--log', f'sqlite:{self.path}')
-
     def test_life_of_a_log(self) -> None:
-        self.assertEqual(self.of_log('init', '--config', str(self.config)), (0, '', ''))
+        self.assertEqual(self.init(), (0, '', ''))
         put(self.opened(), 'recover,2')
         self.assertEqual(self.of_log('history'), (0, f'{HEADER}\nrecover,2\n', ''))
         status, said, _ = self.of_log('status')
@@ -52,58 +43,53 @@ class Commands(InFolder):
 
     def test_who_may_use_a_file(self) -> None:
         """Its owner alone, if the group of its folder isn't let in, too. Of a file that is there it is said who may."""
-        init = ['init', '--config', str(self.config)]
         self.folder.chmod(0o700)
-        status, _, told = self.of_log(*init, '--group-access')
+        status, _, told = self.init('--group-access')
         self.assertEqual((status, self.path.exists()), (4, False))
         self.assertIn(f'chmod g+rwxs {self.folder}', told)
         for mode, words in ((0o600, ()), (0o660, ('--group-access',))):
             self.folder.chmod(0o2770)
-            self.assertEqual(self.of_log(*init, *words), (0, '', ''))
+            self.assertEqual(self.init(*words), (0, '', ''))
             self.assertEqual(self.path.stat().st_mode & 0o7777, mode)
             self.assertEqual(self.of_log('status')[2], '')
             self.path.chmod(0o604)
             self.assertIn(f'{self.path}: its mode is 0604, so every user who can reach', self.of_log('status')[2])
             self.path.unlink()
-        etcd = ['--log', 'etcd://127.0.0.1:1/group', '--group-access']
-        self.assertEqual(call(*init, *etcd), (2, '', 'bully-member: --group-access is for a log in a file\n'))
+        self.log = 'etcd://127.0.0.1:1/group'
+        self.assertEqual(self.init('--group-access'), (2, '', 'bully-member: --group-access is for a log in a file\n'))
 
     def test_epochs(self) -> None:
         """A group is resized twice, and what is old is taken away."""
-        self.of_log('init', '--config', str(self.config))
+        self.init()
         put(self.opened(), 'recover,2')
-        new = self.folder / 'new.toml'
-        resize = ['resize', '--config', str(new)]
-        new.write_bytes(toml({**TOP, 'nodes': 2, 'names': ['c', 'd'], 'partitions': 4}))
+        resize = ['resize', '--config', self.configured('new.toml', nodes=2, names=['c', 'd'], partitions=4)]
         for _ in range(2):
             self.assertEqual(self.of_log(*resize), (0, 'epoch 2: 2 nodes, 4 partitions\n', ''))
         self.assertEqual(self.of_log('history', '--epoch', '1'), (0, f'{HEADER}\nrecover,2\n', ''))
         self.assertEqual(self.of_log('history'), (0, 'bully,1,2,4\n', ''))
         self.assertTrue(self.of_log('status')[1].startswith('epoch 2, events 0, token -, coordinator -, eager\n'))
-        new.write_bytes(toml({**TOP, 'weights': [1, 2, 3]}))
+        self.configured('new.toml', weights=[1, 2, 3])
         self.assertEqual(self.of_log(*resize)[1], 'epoch 3: 3 nodes, 6 partitions\n')
         self.assertEqual(self.of_log('prune', '--keep', '2'), (0, 'epochs 2 to 3 are left\n', ''))
-        status, said, told = self.of_log('history', '--epoch', '1')
-        self.assertEqual(
-            (status, said, told), (4, '', f'bully-member: {self.path}: there is no epoch 1, only 2 to 3\n')
-        )
+        told = f'bully-member: {self.path}: there is no epoch 1, only 2 to 3\n'
+        self.assertEqual(self.of_log('history', '--epoch', '1'), (4, '', told))
         self.assertEqual(self.of_log('prune', '--keep', '1'), (0, 'epoch 3 is left\n', ''))
         for words in (['prune', '--keep', '0'], ['prune'], ['history', '--epoch', 'x'], ['resize']):
             self.assertEqual(self.of_log(*words)[0], 2)
 
     def test_begins_later(self) -> None:
         """A log may begin with a later epoch than those of another one, so that its tokens are higher."""
-        self.assertEqual(self.of_log('init', '--config', str(self.config), '--epoch', '7'), (0, '', ''))
+        self.assertEqual(self.init('--epoch', '7'), (0, '', ''))
         self.assertTrue(self.of_log('status')[1].startswith('epoch 7, events 0, token -, coordinator -, eager\n'))
         put(self.opened(), 'recover,2')
         self.assertEqual(self.of_log('history', '--epoch', '7'), (0, f'{HEADER}\nrecover,2\n', ''))
         new = self.other_config()
-        self.assertEqual(self.of_log('resize', '--config', str(new))[1], 'epoch 8: 3 nodes, 4 partitions\n')
+        self.assertEqual(self.of_log('resize', '--config', new)[1], 'epoch 8: 3 nodes, 4 partitions\n')
         self.assertEqual(self.of_log('prune', '--keep', '1'), (0, 'epoch 8 is left\n', ''))
         with Member(self.opened(), 'b', print, print, settings=config_file.settings_in(str(self.config))) as member:
             self.assertEqual(member.node, 2)
         for epoch in ('0', 'x', '4000000001'):
-            self.assertEqual(self.of_log('init', '--config', str(self.config), '--epoch', epoch)[0], 2)
+            self.assertEqual(self.init('--epoch', epoch)[0], 2)
 
     def test_bad_rows(self) -> None:
         """What is no row, no event, no request to resize or no opening is reported with its offset, and by the status
@@ -125,14 +111,14 @@ class Commands(InFolder):
             ("update epochs set opening = json_set(opening, '$.header', 'bully,1,4,6')", '1,4,6 has 3 names'),
         )  # fmt: skip
         for number, (asked, told) in enumerate(cases):
-            self.path = self.folder / f'{number}.db'
-            self.of_log('init', '--config', str(self.config))
+            self.use(number)
+            self.init()
             put(self.opened(), 'recover,2')
             with changed(self.path) as file:
                 file.execute(asked)
                 if 'into log' in asked:
                     file.execute('update epochs set count = 2')
-            run = ['run', '--quiet', '--log', f'sqlite:{self.path}', '--node', 'a', '--', 'true']
+            run = ['run', '--quiet', '--log', self.log, '--node', 'a', '--', 'true']
             with self.subTest(asked=asked):
                 asks: list[Callable[[], tuple[int, str, str]]] = [lambda: self.of_log('status'), lambda: call(*run)]
                 for ask in asks:  # a member would go on, where `status` is well
@@ -154,8 +140,8 @@ class Commands(InFolder):
             ("insert into log values (1, 3, 'start,2' || char(10), 0)", 4, [], missing),
         )  # fmt: skip
         for number, (asked, count, rows, why) in enumerate(cases):
-            self.path = self.folder / f'{number}.db'
-            self.of_log('init', '--config', str(self.config))
+            self.use(number)
+            self.init()
             put(self.opened(), 'recover,2', 'recover,1', 'recover,3')
             with changed(self.path) as file:
                 file.execute(asked)
@@ -169,22 +155,19 @@ class Commands(InFolder):
                     self.assertIn('nothing is cut: --cut 3 cuts these rows, once', refused)
                 log = self.opened()
                 self.assertTrue(log.acquire('c', Session(1, 1), Promise(1, count), 1000 * SECOND))
-                self.assertEqual(
-                    self.of_log('repair', '--cut', '3'),
-                    (1, told, 'bully-member: nothing is cut: somebody holds a lease\n'),
-                )
+                held = 'bully-member: nothing is cut: somebody holds a lease\n'
+                self.assertEqual(self.of_log('repair', '--cut', '3'), (1, told, held))
                 log.release('c', Session(1, 1))
                 self.assertEqual(self.of_log('repair', '--cut', '3'), (0, told, ''))
-                self.assertEqual(
-                    self.of_log('history', '--epoch', '1')[1], f'{HEADER}\nrecover,2\nrecover,1\nrecover,3\n'
-                )
+                lawful = f'{HEADER}\nrecover,2\nrecover,1\nrecover,3\n'
+                self.assertEqual(self.of_log('history', '--epoch', '1')[1], lawful)
                 self.assertTrue(self.of_log('status')[1].startswith('epoch 2, events 0, token -'))
                 self.assertEqual(self.of_log('repair'), (0, 'epoch 2: nothing is damaged\n', ''))
 
     def test_repair_of_a_request(self) -> None:
         """A request to resize or maintenance that can't be read is taken back. A lease that can't be read is
         refused."""
-        self.of_log('init', '--config', str(self.config))
+        self.init()
         self.acquire(self.opened(), 'a')
         with changed(self.path) as file:
             file.execute("update leases set session = 'x'")
@@ -192,13 +175,9 @@ class Commands(InFolder):
             self.assertEqual((status, said), (3, ''))
             self.assertIn('the lease of a can not be read', why)
             file.execute('delete from leases')
-        for change in (
-            "update epochs set requested = 'x'",
-            "update changes set maintenance = 'x'",
-            "update changes set maintenance = '{}'",
-        ):
+        for change in ("epochs set requested = 'x'", "changes set maintenance = 'x'", "changes set maintenance = '{}'"):
             with changed(self.path) as file:
-                file.execute(change)
+                file.execute(f'update {change}')
             self.assertEqual(self.of_log('status')[0], 3)
             said = 'epoch 1: the requested settings or the maintenance could not be read; both are taken back\n'
             self.assertEqual(self.of_log('repair'), (0, said, ''))
@@ -206,7 +185,7 @@ class Commands(InFolder):
 
     def test_times(self) -> None:
         """Each row after the time of its append, of UTC; a trace has none."""
-        self.of_log('init', '--config', str(self.config))
+        self.init()
         with mock.patch.object(time, 'time_ns', lambda: 1_700_000_000_007_000_000):
             put(self.opened(), 'recover,2', 'start,2')
         with changed(self.path) as file:
@@ -219,7 +198,7 @@ class Commands(InFolder):
 
     def test_drain(self) -> None:
         """A drain is noted and awaited, and is refused if no node would work."""
-        self.of_log('init', '--config', str(self.config))
+        self.init()
         log = self.opened()
         sessions = self.acquire(log, 'a', 'b')
         late = (1, '', 'bully-member: b is drained, and has not left yet\n')
@@ -232,25 +211,22 @@ class Commands(InFolder):
         self.assertEqual(log.snapshot(1, 0).maintenance.drained, {'b'})
         log.release('b', sessions['b'])
         self.assertEqual(self.of_log('drain', 'b'), (0, 'b is drained\n', ''))
-        told = json.loads(self.of_log('status', '--json')[1])
-        self.assertEqual(
-            [(node['live'], node['drained']) for node in told['nodes']],
-            [(True, False), (False, True), (False, False)],
-        )
+        nodes = json.loads(self.of_log('status', '--json')[1])['nodes']
+        self.assertEqual([node['live'] for node in nodes], [True, False, False])
+        self.assertEqual([node['drained'] for node in nodes], [False, True, False])
         self.assertEqual(self.of_log('drain', 'a', '--all', '--seconds', '0.01')[0], 1)
         for done in ('is no longer drained', 'was not drained'):
             self.assertEqual(self.of_log('undrain', 'b'), (0, f'b {done}\n', ''))
         log.note('c', True)
         self.assertEqual(self.of_log('undrain', 'c'), (0, 'c had given up, and tries again\n', ''))
         self.assertEqual(log.snapshot(1, 0).maintenance.drained, {'a'})
+        told = 'bully-member: the group has no node x in epoch 1, only a, b, c\n'
         for words in (['drain', 'x'], ['undrain', 'x']):
-            self.assertEqual(
-                self.of_log(*words), (5, '', 'bully-member: the group has no node x in epoch 1, only a, b, c\n')
-            )
+            self.assertEqual(self.of_log(*words), (5, '', told))
         self.assertEqual((self.of_log('drain')[0], self.of_log('pause', 'a')[0]), (2, 2))
 
     def test_pause(self) -> None:
-        self.of_log('init', '--config', str(self.config))
+        self.init()
         log = self.opened()
         sessions = self.acquire(log, 'a', 'b')
         for done in ('is', 'was already'):
@@ -264,7 +240,7 @@ class Commands(InFolder):
         )
         new = self.other_config()
         paused = 'bully-member: the group is paused, so no epoch ends; bully-member resume ends the pause\n'
-        self.assertEqual(self.of_log('resize', '--config', str(new)), (1, '', paused))
+        self.assertEqual(self.of_log('resize', '--config', new), (1, '', paused))
         for done in ('is no longer', 'was not'):
             self.assertEqual(self.of_log('resume'), (0, f'the group {done} paused\n', ''))
         self.assertEqual((log.snapshot(1, 0).maintenance.sessions, log.snapshot(1, 0).requested), (None, None))
@@ -279,9 +255,10 @@ class Commands(InFolder):
             (f'{names}\nkeep = true', ['--ttl', '2.5'], '# epoch 1, eager, ttl 2.5\n'),
         )
         for number, (more, words, told_head) in enumerate(cases):
-            self.path, shown = self.folder / f'{number}.db', self.folder / 'shown.toml'
+            self.use(number)
+            shown = self.folder / 'shown.toml'
             self.config.write_text(head + more)
-            self.of_log('init', '--config', str(self.config), *words)
+            self.init(*words)
             status, said, told = self.of_log('show-config')
             with self.subTest(said=said):
                 self.assertEqual((status, told, said[: len(told_head)]), (0, '', told_head))
@@ -293,34 +270,23 @@ class Commands(InFolder):
 
     def test_show_config_for_programs(self) -> None:
         """It writes all settings as JSON, and says whether others are requested."""
-        self.of_log('init', '--config', str(self.config), '--ttl', '2.5', '--epoch', '7')
+        self.init('--ttl', '2.5', '--epoch', '7')
         wanted = {
             'epoch': 7, 'mode': 'eager', 'ttl': 2.5, 'requested': False, 'names': ['a', 'b', 'c'],
             'weights': [1, 1, 1], 'partitions': 6, 'keep': False,
         }  # fmt: skip
         self.assertEqual(json.loads(self.of_log('show-config', '--json')[1]), wanted)
         self.acquire(self.opened(), 'a')
-        self.of_log('resize', '--config', str(self.other_config()), '--seconds', '0.01')
+        self.of_log('resize', '--config', self.other_config(), '--seconds', '0.01')
         self.assertEqual(json.loads(self.of_log('show-config', '--json')[1]), {**wanted, 'requested': True})
         self.assertIn('\n# other settings are requested for epoch 8\n', self.of_log('show-config')[1])
 
     def test_watch(self) -> None:
         """It shows the group again when that has changed, and only then, until ^C, which is no failure."""
-        self.of_log('init', '--config', str(self.config))
-        words = [
-            sys.executable,
-            '-m',
-            'bully_member',
-            'status',
-            '--json',
-            '--watch',
-            '0.01',
-            '--log',
-            f'sqlite:{self.path}',
-        ]
-        with subprocess.Popen(
-            words, env=environment(), stdout=subprocess.PIPE, stderr=subprocess.PIPE, text=True
-        ) as shows:
+        self.init()
+        words = [sys.executable, *'-m bully_member status --json --watch 0.01 --log'.split(), self.log]
+        pipes: dict[str, Any] = {name: subprocess.PIPE for name in ('stdout', 'stderr')}
+        with subprocess.Popen(words, env=environment(), text=True, **pipes) as shows:
             self.addCleanup(shows.kill)
             assert shows.stdout is not None and shows.stderr is not None
             told = [shows.stdout.readline()]
@@ -336,25 +302,22 @@ class Commands(InFolder):
         """These nodes are live for long, and work."""
         epoch, sessions = log.epochs()[-1], {name: Session(7, number) for number, name in enumerate(names, 1)}
         offset = len(log.read(epoch, 0))
-        self.assertTrue(
-            all(log.acquire(name, session, Promise(epoch, offset), LONG) for name, session in sessions.items())
-        )
+        for name, session in sessions.items():
+            self.assertTrue(log.acquire(name, session, Promise(epoch, offset), LONG))
         return sessions
 
     def test_a_mistyped_resize(self) -> None:
         """A resize by which all live nodes would end is refused, unless it is meant."""
-        self.of_log('init', '--config', str(self.config))
-        log, new = self.opened(), self.folder / 'new.toml'
-        new.write_bytes(toml({**TOP, 'names': ['A', 'B', 'C']}))
-        resize = ['resize', '--config', str(new), '--seconds', '0.01']
+        self.init()
+        log, new = self.opened(), self.configured('new.toml', names=['A', 'B', 'C'])
+        resize = ['resize', '--config', new, '--seconds', '0.01']
         sessions = self.acquire(log, 'a', 'b')
         status, _, said = self.of_log(*resize)
         self.assertEqual((status, log.snapshot(1, 0).requested), (3, None))
         why = 'it has none of the nodes that are live (a, b), so all would end; --all-new allows it'
         self.assertEqual(said, f'bully-member: {new}: {why}\n')
-        self.assertEqual(
-            (self.of_log(*resize, '--all-new')[0], log.epochs()[-1]), (1, 1), 'these never promise anything'
-        )
+        self.assertEqual(self.of_log(*resize, '--all-new')[0], 1, 'these never promise anything')
+        self.assertEqual(log.epochs()[-1], 1)
         self.assertEqual(getattr(log.snapshot(1, 0).requested, 'names'), ('A', 'B', 'C'))
         self.assertEqual(self.of_log('resize', '--cancel'), (0, 'epoch 1: no other settings are requested\n', ''))
         self.assertIsNone(log.snapshot(1, 0).requested)
@@ -367,10 +330,9 @@ class Commands(InFolder):
 
     def test_after_a_killed_resize(self) -> None:
         """What that took to end the epoch is no member, by which the next one would be mistyped; it is waited for."""
-        self.of_log('init', '--config', str(self.config))
-        log, new = self.opened(), self.folder / 'new.toml'
-        new.write_bytes(toml({**TOP, 'names': ['A', 'B', 'C']}))
-        resize = ('resize', '--config', str(new), '--seconds')
+        self.init()
+        log = self.opened()
+        resize = 'resize', '--config', self.configured('new.toml', names=['A', 'B', 'C']), '--seconds'
         taken = self.acquire(log, 'resize 7')
         waits = 'bully-member: epoch 1 has not ended yet; it waits for resize 7\n'
         self.assertEqual(self.of_log(*resize, '0.01'), (1, '', waits))
@@ -379,12 +341,10 @@ class Commands(InFolder):
 
     def test_switchover(self) -> None:
         """Another node gets the highest number, and keeps its weight."""
-        self.config.write_bytes(toml({**TOP, 'weights': [1, 2, 3]}))
-        self.of_log('init', '--config', str(self.config))
-        log = self.opened()
-        self.assertEqual(
-            self.of_log('switchover', '--node', 'a'), (1, '', 'bully-member: a is not live, so it could not lead\n')
-        )
+        self.configured('group.toml', weights=[1, 2, 3])
+        self.init()
+        log, told = self.opened(), 'bully-member: a is not live, so it could not lead\n'
+        self.assertEqual(self.of_log('switchover', '--node', 'a'), (1, '', told))
         names = [Member(self.opened(), name, lambda work: None, lambda work: None, ttl=10.0) for name in 'abc']
         threads = [threading.Thread(target=member.run) for member in names]
         for member, thread in zip(names, threads):
@@ -396,9 +356,8 @@ class Commands(InFolder):
         self.assertEqual(status, 0)
         self.assertEqual(self.of_log('switchover', '--node', 'a'), (0, 'epoch 2: a leads\n', ''))
         wait_until(lambda: self.leaders(names) == {'a'})
-        self.assertEqual(
-            json.loads(self.of_log('status', '--json')[1])['owners'], json.loads(before)['owners'], 'none moves'
-        )
+        after = self.of_log('status', '--json')[1]
+        self.assertEqual(json.loads(after)['owners'], json.loads(before)['owners'], 'none moves')
         self.assertEqual((log.opening().names, log.opening().settings.setup.weights), (('b', 'c', 'a'), (2, 3, 1)))
         self.assertEqual(self.of_log('switchover', '--node', 'a'), (0, 'epoch 2: a leads\n', ''), 'it does already')
 
@@ -409,7 +368,7 @@ class Commands(InFolder):
 
     def test_health(self) -> None:
         """The status of `status` is 0 exactly if each partition may be worked on."""
-        self.of_log('init', '--config', str(self.config))
+        self.init()
         stops = threading.Event()
         member = Member(self.opened(), 'b', lambda work: None, lambda work: None if stops.wait() else None, ttl=10.0)
         thread = threading.Thread(target=member.run)
@@ -428,56 +387,48 @@ class Commands(InFolder):
             self.assertEqual(status, 0, said)
             self.assertRegex(said, 'coordinator b, eager\n')
             log.release('c', Session(8, number))
-        self.assertEqual(self.of_log('resize', '--config', str(self.other_config()), '--seconds', '0.01')[0], 1)
+        self.assertEqual(self.of_log('resize', '--config', self.other_config(), '--seconds', '0.01')[0], 1)
         status, said, _ = self.of_log('status')
         self.assertEqual(status, 1)
         self.assertRegex(said, 'coordinator b, eager; not idle yet: b for [0-9.]+ s\n')
 
-    def other_config(self) -> Path:
+    def other_config(self) -> str:
         """A configuration of other settings."""
-        new = self.folder / 'new.toml'
-        new.write_bytes(toml({**TOP, 'partitions': 4}))
-        return new
+        return self.configured('new.toml', partitions=4)
 
     def test_one_ttl(self) -> None:
         """That of the log is all members', over all epochs."""
-        self.of_log('init', '--config', str(self.config), '--ttl', '3')
-        words = ['run', '--log', f'sqlite:{self.path}', '--node', 'a', '--ttl', '2', '--', 'true']
+        self.init('--ttl', '3')
+        words = ['run', '--log', self.log, '--node', 'a', '--ttl', '2', '--', 'true']
         self.assertEqual(call(*words), (2, '', 'bully-member: --ttl is 2, and the log has 3 for all members\n'))
         new = self.other_config()
-        self.assertEqual(self.of_log('resize', '--config', str(new))[0], 0)
+        self.assertEqual(self.of_log('resize', '--config', new)[0], 0)
         store = store_options.FileStore(str(self.path))
-        self.assertEqual(
-            (run.ttl_of(store, None), run.ttl_of(store, 3.0), self.opened().opening().epoch), (3.0, 3.0, 2)
-        )
+        self.assertEqual([run.ttl_of(store, ttl) for ttl in (None, 3.0)], [3.0, 3.0])
+        self.assertEqual(self.opened().opening().epoch, 2)
 
     def test_old_and_new_configurations(self) -> None:
         """A member may be started by any that the group has or had. Who is in none of the current epoch is refused."""
-        self.of_log('init', '--config', str(self.config))
-        new = self.folder / 'new.toml'
-        new.write_bytes(toml({**TOP, 'nodes': 2, 'names': ['c', 'd']}))
-        log = self.opened()
-        for path, node, told in (
-            (new, 'd', 'the log belongs to another group: bully,1,3,6 of a, b, c'),
-            (None, 'd', 'the group has no node d'),
-        ):
-            words = [
-                'run', '--log', f'sqlite:{self.path}', *(['--config', str(path)] if path else []), '--node', node, '--',
-                'true',
-            ]  # fmt: skip
-            status, _, said = call(*words)
-            self.assertEqual(status, 3 if path else 5)
+        self.init()
+        log, new = self.opened(), self.configured('new.toml', nodes=2, names=['c', 'd'])
+        cases: tuple[tuple[list[str], int, str], ...] = (
+            (['--config', new], 3, 'the log belongs to another group: bully,1,3,6 of a, b, c'),
+            ([], 5, 'the group has no node d'),
+        )
+        for words, wanted, told in cases:
+            status, _, said = call('run', '--log', self.log, *words, '--node', 'd', '--', 'true')
+            self.assertEqual(status, wanted)
             self.assertIn(told, said)
-        self.of_log('resize', '--config', str(new))
+        self.of_log('resize', '--config', new)
         log.prune(2)
         for path, name in ((self.config, 'c'), (new, 'd')):
             with Member(self.opened(), name, print, print, settings=config_file.settings_in(str(path))) as member:
                 self.assertEqual(member.node, ('c', 'd').index(name) + 1)
-        words = ['run', '--log', f'sqlite:{self.path}', '--config', str(self.config), '--node', 'a', '--', 'true']
+        words = ['run', '--log', self.log, '--config', str(self.config), '--node', 'a', '--', 'true']
         self.assertEqual(call(*words), (5, '', 'bully-member: the group has no node a in epoch 2, only c, d\n'))
 
     def test_refused(self) -> None:
-        config, log = str(self.config), f'sqlite:{self.path}'
+        config, log = str(self.config), self.log
         run = ['run', '--config', config, '--log', log]
         self.assertEqual(call('status', '--log', log)[0], 4)
         self.of_log('init', '--config', config)
@@ -496,22 +447,19 @@ class Commands(InFolder):
                 status, said, told = call(*words)
                 self.assertEqual((status, said), (wanted, ''))
                 self.assertNotEqual(told, '')
-        self.config.write_bytes(toml({**TOP, 'partitions': 7}))
-        self.assertEqual(call(*run, '--node', 'a', '--', 'true')[0], 3)
+        run += ['--node', 'a', '--', 'true']
+        self.configured('group.toml', partitions=7)
+        self.assertEqual(call(*run)[0], 3)
         self.config.write_bytes(b'nodes = 1')
-        self.assertEqual(
-            call(*run, '--node', 'a', '--', 'true'), (3, '', f'bully-member: {config}: Missing partitions\n')
-        )
+        self.assertEqual(call(*run), (3, '', f'bully-member: {config}: Missing partitions\n'))
 
     def test_odd_names(self) -> None:
-        self.config.write_bytes(toml({**TOP, 'names': ['a\x1b[2J\nb', 'c\u202ed', '\u00e4 z']}))
-        self.of_log('init', '--config', str(self.config))
+        self.configured('group.toml', names=['a\x1b[2J\nb', 'c\u202ed', '\u00e4 z'])
+        self.init()
         status, said, _ = self.of_log('status')
         self.assertEqual(status, 1)
         self.assertEqual([line.split('  ')[0] for line in said.splitlines()[2:5]], ['a?[2J?b', 'c?d', '\u00e4 z'])
-        self.config.write_bytes(toml({**TOP, 'names': ['a\0', 'b', 'c']}))
-        status, _, told = call(
-            'run', '--log', f'sqlite:{self.path}', '--config', str(self.config), '--node', 'b', '--', 'true'
-        )
+        self.configured('group.toml', names=['a\0', 'b', 'c'])
+        status, _, told = call('run', '--log', self.log, '--config', str(self.config), '--node', 'b', '--', 'true')
         why = 'a name has a zero character, which no environment variable can hold'
         self.assertEqual((status, told), (3, f'bully-member: {self.config}: {why}\n'))

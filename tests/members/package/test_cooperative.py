@@ -17,82 +17,12 @@ from bully.working import Assignment, Callback, PartitionCallbacks, WholeCallbac
 from ..steps import LONG, OPENING
 from ..waiting import PATIENCE, wait_until
 from .below import assigned
-from .threads import Threads, Troubled
-
-HEADER = 'bully,1,4,12'
-COOPERATIVE = Opening.first(HEADER, 'abcd', is_cooperative=True)
+from .grouped import COOPERATIVE, HEADER, Grouped, Worker
+from .threads import Threads
 
 
-class Worker:
-    """What the callbacks of a member were called with, and what it works on by which token."""
-
-    def __init__(self) -> None:
-        self.said: list[tuple[str, tuple[int, ...]]] = []
-        self.works: dict[int, Token] = {}
-        self.may_stop = threading.Event()  # a callback that revokes partitions waits for it
-        self.may_stop.set()
-
-    def assigned(self, assignment: Assignment, partitions: tuple[int, ...]) -> None:
-        self.said.append(('assigned', partitions))
-        self.works.update(dict.fromkeys(assignment.partitions, assignment.token))
-
-    def revoked(self, partitions: tuple[int, ...]) -> None:
-        self.end('revoked', partitions)
-
-    def lost(self, partitions: tuple[int, ...]) -> None:
-        self.end('lost', partitions)
-
-    def end(self, words: str, partitions: tuple[int, ...]) -> None:
-        self.may_stop.wait()
-        self.said.append((words, partitions))
-        for partition in partitions:
-            del self.works[partition]
-
-    def stopped(self) -> list[int]:
-        """The partitions on which work was stopped, in rising order."""
-        return sorted(partition for words, partitions in self.said if words != 'assigned' for partition in partitions)
-
-
-class Cooperative(Threads):
+class Cooperative(Grouped):
     """A group of four with three partitions each, as far as its members are there."""
-
-    def setUp(self) -> None:
-        self.log = Troubled(COOPERATIVE)
-        self.members: dict[str, tuple[Member, Worker, threading.Thread]] = {}
-
-    def come(self, name: str, ttl: float = 2.0, **more: Any) -> Worker:
-        worker = Worker()
-        given = {'on_assigned': worker.assigned, 'on_revoked': worker.revoked, 'on_lost': worker.lost}
-        member, _, thread = self.begin(self.log, COOPERATIVE.names.index(name) + 1, ttl, work=given, **more)
-        self.addCleanup(worker.may_stop.set)
-        self.members[name] = member, worker, thread
-        return worker
-
-    def owners(self) -> dict[str, tuple[int, ...]]:
-        """What each member may work on."""
-        shown = {name: member.assignment() for name, (member, _, _) in self.members.items()}
-        return {name: assignment.partitions for name, assignment in shown.items() if assignment is not None}
-
-    def is_shared(self) -> bool:
-        """Whether all partitions are shared out among all members, and each works on its own by the last plan."""
-        owners, tokens = self.owners(), {self.last_token()}
-        works = {name: tuple(sorted(worker.works)) for name, (_, worker, _) in self.members.items()}
-        by = {token for _, worker, _ in self.members.values() for token in worker.works.values()}
-        return (
-            owners == works
-            and sorted(sum(owners.values(), ())) == list(range(12))
-            and all(owners.values())
-            and by == tokens
-        )
-
-    def last_token(self) -> Token:
-        plans = [offset for offset, row in enumerate(self.log.rows) if row.startswith('plan')]
-        return Token.of(1, 1 + plans[-1]) if plans else Token(0)
-
-    def all_come(self, names: str) -> None:
-        for name in names:
-            self.come(name)
-        wait_until(lambda: len(self.owners()) == len(names) and self.is_shared())
 
     def test_a_return_stops_what_moves(self) -> None:
         """Of three members with four partitions each, each loses one to the fourth, and works on the others
@@ -128,21 +58,16 @@ class Cooperative(Threads):
 
     def test_a_leave_stops_nobody_else(self) -> None:
         self.all_come('abcd')
-        stopped = {name: self.members[name][1].stopped() for name in 'abd'}
-        promised = {name: holder.promise for name, holder in self.log.holders.items()}
-        member, worker, thread = self.members.pop('c')
-        member.leave()
-        thread.join()
+        said = self.said()
+        promised = {name: self.log.holders[name].promise for name in 'abd'}
+        worker = self.leave('c')
         wait_until(self.is_shared)
         self.assertEqual(worker.works, {})
-        self.assertEqual({name: self.members[name][1].stopped() for name in 'abd'}, stopped)
-        self.assertEqual(
-            {name: self.log.holders[name].promise for name in 'abd'}, {name: promised[name] for name in 'abd'}
-        )
+        self.assertEqual(self.stopped_since(said), {})
+        self.assertEqual({name: self.log.holders[name].promise for name in 'abd'}, promised)
 
     def test_lost(self) -> None:
         """A lease that isn't sure any more: all is lost, and begun again once the log answers."""
-        self.log.is_silent = False
         worker = self.come('a', 1.0)
         wait_until(self.is_shared)
         with self.assertLogs('bully', 'WARNING'):

@@ -196,11 +196,15 @@ class Each(InFiles):
 
     kind = Kind.EACH
 
+    def begin_both(self, way: str, patience: float = PATIENCE, ttl: float = 4.0) -> tuple[Timely, tuple[Begun, Begun]]:
+        """Workers that have begun on partitions 0 and 5."""
+        workers = self.begin(way, patience, ttl=ttl)
+        workers.start(assigned(2, 0, 5))
+        return workers, (self.begun(0), self.begun(5))
+
     def test_alone(self) -> None:
         """Each is told its own, starts and ends alone, and goes on over changes that leave it."""
-        workers = self.begin('mild')
-        workers.start(assigned(2, 0, 5))
-        first, other = self.begun(0), self.begun(5)
+        workers, (first, other) = self.begin_both('mild')
         self.assertEqual((first.token, first.partition, other.partition), (40000002, '0', '5'))
         workers.start(assigned(3, 0, 4, 5), frozenset([4]))
         third = self.begun(4)
@@ -218,18 +222,14 @@ class Each(InFiles):
 
     def test_a_stubborn_one(self) -> None:
         """One that doesn't stop is killed with what it left, and what others left stays."""
-        workers = self.begin('stubborn', patience=0.3)
-        workers.start(assigned(2, 0, 5))
-        first, other = self.begun(0), self.begun(5)
+        workers, (first, other) = self.begin_both('stubborn', patience=0.3)
         workers.ask_to_stop(0)
         wait_until(lambda: self.member.ends)
         self.assertEqual((first.is_gone, other.is_there, self.member.ends), (True, True, [{0}]))
 
     def test_until(self) -> None:
         """All are killed at that moment, and begin again after that."""
-        workers = self.begin('stubborn')
-        workers.start(assigned(2, 0, 5))
-        both = self.begun(0), self.begun(5)
+        workers, both = self.begin_both('stubborn')
         workers.hear_until(clocks.seconds_of_boot() + 0.3)
         wait_until(lambda: self.member.working == frozenset())
         self.assertTrue(all(each.is_gone for each in both))
@@ -242,15 +242,15 @@ class Each(InFiles):
 
     def test_fails_alone(self) -> None:
         """One that fails backs off alone. The node's work fails as long as one of them does."""
-        workers = self.begin('mild', ttl=1.0)
-        failures = workers._failures = Failures(2, 1.0)
+        workers = self.begin('mild', ttl=8.0)
+        failures = workers._failures = Failures(2, 8.0)
         workers.start(assigned(2, 0, 5))
         first, other = self.begun(0), self.begun(5)
         with self.assertLogs('bully', 'WARNING') as said:
             self.end('5', 7)
             wait_until(lambda: self.member.ends)
             self.assertIn(
-                'the worker of partition 5 failed, with status 7, and is started again in 0.2 s', said.output[0]
+                'the worker of partition 5 failed, with status 7, and is started again in 1.6 s', said.output[0]
             )
             self.assertEqual((self.member.ends, first.is_there, other.is_gone), ([{5}], True, True))
             self.assertTrue(workers.is_failing)
@@ -285,9 +285,7 @@ class Each(InFiles):
 
     def test_a_keeper_dies(self) -> None:
         """Its worker dies, and then all that is left of any: of which worker that is, isn't known any more."""
-        workers = self.begin('stubborn')
-        workers.start(assigned(2, 0, 5))
-        both = self.begun(0), self.begun(5)
+        workers, both = self.begin_both('stubborn')
         os.kill(parent_of(both[0].process), signal.SIGKILL)
         wait_until(lambda: self.failures)
         workers.stop()
@@ -296,9 +294,8 @@ class Each(InFiles):
 
     def test_a_keeper_dies_while_its_member_is_stopped(self) -> None:
         """The watchdog itself ends all that is left, also what the workers left."""
-        workers = self.begin('stubborn')
-        workers.start(assigned(2, 0, 5))
-        both, goes_on = (self.begun(0), self.begun(5)), threading.Event()
+        workers, both = self.begin_both('stubborn')
+        goes_on = threading.Event()
         self.addCleanup(goes_on.set)
         workers._ask(goes_on.wait)
         os.kill(parent_of(both[0].process), signal.SIGKILL)
@@ -309,9 +306,7 @@ class Each(InFiles):
 
     def test_a_keeper_is_stopped_as_its_member_goes(self) -> None:
         """It continues, and ends its worker."""
-        workers = self.begin('stubborn', patience=1.0)
-        workers.start(assigned(2, 0, 5))
-        both = self.begun(0), self.begun(5)
+        workers, both = self.begin_both('stubborn', patience=1.0)
         keeper = parent_of(both[0].process)
         os.kill(keeper, signal.SIGSTOP)
         wait_until(lambda: has_stopped(keeper))
@@ -322,9 +317,7 @@ class Each(InFiles):
 
     def test_a_keeper_is_stopped(self) -> None:
         """It doesn't kill its worker in time: so its member does."""
-        workers = self.begin('stubborn', ttl=1.0)
-        workers.start(assigned(2, 0, 5))
-        both = self.begun(0), self.begun(5)
+        workers, both = self.begin_both('stubborn', ttl=1.0)
         keeper = parent_of(both[0].process)
         os.kill(keeper, signal.SIGSTOP)
         wait_until(lambda: has_stopped(keeper))
@@ -335,9 +328,7 @@ class Each(InFiles):
 
     def test_the_watchdog_dies(self) -> None:
         """All end, with their keepers."""
-        workers = self.begin('stubborn')
-        workers.start(assigned(2, 0, 5))
-        both = self.begun(0), self.begun(5)
+        workers, both = self.begin_both('stubborn')
         keepers = [parent_of(each.process) for each in both]
         workers._watchdog.kill()
         workers.stop()
@@ -346,9 +337,7 @@ class Each(InFiles):
 
     def test_a_member_that_is_gone(self) -> None:
         """All end, at the latest after what they have for a stop."""
-        workers = self.begin('stubborn', patience=1.0)
-        workers.start(assigned(2, 0, 5))
-        both = self.begun(0), self.begun(5)
+        workers, both = self.begin_both('stubborn', patience=1.0)
         workers._is_closed = True  # so that it leaves them to the watchdog
         workers._channel.shutdown(socket.SHUT_WR)
         wait_until(lambda: all(each.is_gone for each in both))
@@ -356,9 +345,7 @@ class Each(InFiles):
 
     def test_a_keeper_dies_after_its_member(self) -> None:
         """What its worker left falls to the watchdog, which ends all that is left, and then itself."""
-        workers = self.begin('stubborn', patience=1000.0)
-        workers.start(assigned(2, 0, 5))
-        both = self.begun(0), self.begun(5)
+        workers, both = self.begin_both('stubborn', patience=1000.0)
         keepers = [parent_of(each.process) for each in both]
         workers._is_closed = True
         workers._channel.shutdown(socket.SHUT_WR)
@@ -368,9 +355,7 @@ class Each(InFiles):
 
     def test_held(self) -> None:
         """One that doesn't end though it was killed is waited for; others end, and begin."""
-        workers = self.begin('stubborn', patience=0.1, ttl=1.0)
-        workers.start(assigned(2, 0, 5))
-        first, other = self.begun(0), self.begun(5)
+        workers, (first, other) = self.begin_both('stubborn', patience=0.1, ttl=1.0)
         freeze(self, first.process)
         with self.assertLogs('bully', 'ERROR') as said:
             workers.ask_to_stop(0, 5)

@@ -2,11 +2,9 @@
 from __future__ import annotations
 
 import contextlib
-import http.client
 import json
 import os
 import signal
-import socket
 import sqlite3
 import threading
 import unittest
@@ -28,13 +26,14 @@ from bully.work_failures import ALL, AWAY_MAX, BACKOFF_MAX, Failures, Health
 from bully.worker import Workers
 from bully.worker_states import WorkerState
 from .. import waiting
+from ..etcd_servers import free_ports
 from ..processes import below, children, is_running
 from ..steps import EMPTY, LONG, OPENING, A, B, C
 from ..waiting import PATIENCE
 from .below import assigned
 from .configurations import TOP, toml
 from .folders import InFolder
-from .member_processes import BEGINS, MemberProcess, call
+from .member_processes import BEGINS, MemberProcess, asked, call
 from .threads import Threads
 
 TTL = 0.5
@@ -236,8 +235,7 @@ class GivesUp(Threads):
 
     def setUp(self) -> None:
         self.log = MemoryLog(OPENING)
-        self.shown = view.LogView(self.log)
-        self.addCleanup(self.shown.close)
+        self.shown = self.viewed(self.log)
         said = self.assertLogs('bully')
         self.said = said.__enter__()
         self.addCleanup(said.__exit__, None, None, None)
@@ -453,15 +451,6 @@ class InProcesses(InFolder):
         status, text, _ = call('status', '--json', *self.log_words)
         return status, [node['name'] for node in json.loads(text)['nodes'] if node['failing']]
 
-    def get(self, target: str) -> tuple[int, str]:
-        """What the page of b answers, once it listens."""
-        connection = http.client.HTTPConnection('127.0.0.1', self.port, timeout=PATIENCE)
-        with contextlib.closing(connection), contextlib.suppress(OSError):
-            connection.request('GET', target)
-            answer = connection.getresponse()
-            return answer.status, answer.read().decode()
-        return 0, ''
-
     def partitions(self, member: MemberProcess) -> str:
         """What its worker works on."""
         with contextlib.suppress(OSError, KeyError):  # it hasn't begun, or writes just now
@@ -471,20 +460,19 @@ class InProcesses(InFolder):
     def test_a_worker_that_can_not_be_started(self) -> None:
         """Its node gives up, all say so, and the other one works on all partitions; up to the day when it can be
         started."""
-        with socket.create_server(('127.0.0.1', 0)) as free:
-            self.port = free.getsockname()[1]
+        [port] = free_ports(1)
         worker, whole = self.folder / 'worker', ' '.join(map(str, range(12)))
         well = self.begin('a', ['sh', '-c', BEGINS])
         wait_until(lambda: self.partitions(well) == whole)
-        fails = self.begin('b', [str(worker)], '--give-up', '3', '--listen', str(self.port))
-        wait_until(lambda: self.get('/healthz') == (503, 'its worker fails\n'))
+        fails = self.begin('b', [str(worker)], '--give-up', '3', '--listen', str(port))
+        wait_until(lambda: asked(port, '/healthz') == (503, 'its worker fails\n'))
         wait_until(lambda: self.status() == (1, ['b']))
-        wait_until(lambda: self.get('/healthz') == (200, 'gave up: its worker fails\n'))
+        wait_until(lambda: asked(port, '/healthz') == (200, 'gave up: its worker fails\n'))
         wait_until(lambda: self.partitions(well) == whole)
         self.assertEqual(self.status(), (1, ['b']))
         self.assertRegex(call('status', *self.log_words)[1], r'\nb +down +no, gave up, its worker fails +- +-\n')
-        self.assertIn('<td>no, gave up, its worker fails<td>', self.get('/')[1])
-        metrics = self.get('/metrics')[1].splitlines()
+        self.assertIn('<td>no, gave up, its worker fails<td>', asked(port, '/')[1])
+        metrics = asked(port, '/metrics')[1].splitlines()
         wanted = [
             'bully_worker_failing{node="a"} 0', 'bully_worker_failing{node="b"} 1', 'bully_gave_up{node="a"} 0', 'bully_gave_up{node="b"} 1',
             'bully_drained{node="b"} 0',

@@ -10,7 +10,7 @@ from dataclasses import replace
 from functools import partial
 from unittest import mock
 
-from bully import adapter, operations, settings, view
+from bully import adapter, operations, settings
 from bully.core import Ask, Lease, Promise, Request, Seen, Session, Until
 from bully.epochs import Opening, Token
 from bully.group import Setup
@@ -22,7 +22,7 @@ from bully.shared_log import Holder, Snapshot, Unanswered
 from bully.store_options import BadWords
 from ..steps import LONG, OPENING
 from ..waiting import PATIENCE, wait_until
-from .threads import Threads
+from .threads import Threads, Troubled
 
 A, B, C, D = (Session(number, 1) for number in (1, 2, 3, 4))
 END = Promise(1, 30)
@@ -329,26 +329,6 @@ class Drains(unittest.TestCase):
         self.assertEqual((self.log.epoch, self.log.requested), (1, None))
 
 
-class Silent(MemoryLog):
-    """A log that doesn't answer those processes that are cut off, and notes how often each is asked."""
-
-    def __init__(self, opening: Opening) -> None:
-        super().__init__(opening)
-        self.cut: list[str] = []
-        self.renewals: dict[str, int] = {}
-
-    def renew(self, name: str, session: Session, ttl: int) -> bool:
-        if name in self.cut:
-            raise Unanswered('silent')
-        self.renewals[name] = self.renewals.get(name, 0) + 1
-        return super().renew(name, session, ttl)
-
-    def pass_renewals(self, name: str, count: int) -> None:
-        """So often its member renews."""
-        before = self.renewals.get(name, 0)
-        wait_until(lambda: self.renewals.get(name, 0) >= before + count)
-
-
 class Maintained(Threads):
     """Members in threads, while nodes are drained, and the group is paused."""
 
@@ -356,7 +336,7 @@ class Maintained(Threads):
         patch = mock.patch.object(logging.getLogger('bully'), 'warning')  # of who isn't answered
         patch.start()
         self.addCleanup(patch.stop)
-        self.log = Silent(OPENING)
+        self.log = Troubled(OPENING)
         self.members: dict[int, tuple[Member, list[str], threading.Thread]] = {}
 
     def begin_members(self, *nodes: int, ttl: float = 2.0) -> None:
@@ -385,25 +365,6 @@ class Maintained(Threads):
     def plans(self) -> int:
         return sum(row.startswith('plan') for row in self.log.rows)
 
-    def die(self, node: int) -> None:
-        """Its member isn't heard of up to the end of its lease, and longer."""
-        self.log.cut.append(str(node))
-        wait_until(lambda: str(node) not in self.log.holders)
-
-    def snapshots(self, change: Callable[[], object]) -> int:
-        """How many snapshots all read after a change, while the first member renews four times, which is one ttl."""
-        count, snapshot = [0], self.log.snapshot
-
-        def counted(epoch: int, offset: int, promise_of: str | None = None) -> Snapshot:
-            count[0] += 1
-            return snapshot(epoch, offset, promise_of)
-
-        change()
-        setattr(self.log, 'snapshot', counted)
-        self.log.pass_renewals('1', 5)
-        setattr(self.log, 'snapshot', snapshot)
-        return count[0]
-
     # A drained node.
 
     def test_a_drained_node(self) -> None:
@@ -419,11 +380,9 @@ class Maintained(Threads):
             (self.plans(), '2' in self.log.holders, thread.is_alive(), told[-1][:4]), (plans + 1, False, True, 'stop')
         )
         rows = len(self.log.rows)
-        self.log.pass_renewals('1', 5)
+        self.log.pass_renewals('1')
         self.assertEqual((len(self.log.rows), member.assignment(), member.sure_until), (rows, None, 0.0))
-        shown = view.LogView(self.log)
-        self.addCleanup(shown.close)
-        group = shown.show()
+        group = self.viewed(self.log).show()
         self.assertEqual(
             ([node.live_text for node in group.nodes], group.is_well), (['yes', 'no, drained', 'yes'], True)
         )
@@ -465,7 +424,7 @@ class Maintained(Threads):
         told = self.members[1][1][:]
         self.members[2][0].leave()
         wait_until(lambda: '2' not in self.log.holders)
-        self.log.pass_renewals('1', 5)
+        self.log.pass_renewals('1')
         self.assertEqual((self.members[1][1], self.log.maintenance.leaving), (told, {}))
         self.assertIsNotNone(self.members[1][0].assignment())
 
@@ -516,78 +475,6 @@ class Maintained(Threads):
 
     # A pause.
 
-    def test_a_death_in_a_pause(self) -> None:
-        """The others work on by the same token, nothing is appended, and its partitions wait. After the pause the group
-        becomes stable."""
-        self.begin_members(1, 2, 3)
-        self.become_stable(1, 2, 3)
-        rows, told = self.log.rows[:], [len(self.members[node][1]) for node in (1, 2)]
-        operations.pause(self.log)
-        self.die(3)
-        for name in '12':
-            self.log.pass_renewals(name, 5)
-        self.assertEqual((self.log.rows, [len(self.members[node][1]) for node in (1, 2)]), (rows, told))
-        self.assertTrue(all(self.members[node][0].assignment() for node in (1, 2)))
-        shown = view.LogView(self.log, self.members[1][0].waits)
-        self.addCleanup(shown.close)
-        group = shown.show()
-        self.assertEqual((group.is_paused, group.is_well, group.waits), (True, False, {}))
-        self.log.cut.clear()
-        wait_until(lambda: '3' in self.log.holders)
-        for name in '123':
-            self.log.pass_renewals(name, 5)
-        self.assertEqual(
-            (self.log.rows, self.members[3][0].assignment()), (rows, None), 'it waits for the end of the pause'
-        )
-        self.assertEqual((shown.show().is_well, shown.show().waits), (False, {}))
-        operations.resume(self.log)
-        self.become_stable(1, 2, 3)
-        self.assertGreater(len(self.log.rows), len(rows))
-        self.assertTrue(shown.show().is_well)
-
-    def test_who_comes_in_a_pause(self) -> None:
-        """It waits, and asks about as often as others in a stable group, where one that doesn't wait asks without end;
-        the others don't stop for it. All is well meanwhile."""
-        self.begin_members(1, 2)
-        self.become_stable(1, 2)
-        self.log.pass_renewals('1', 2)
-        while_stable = self.snapshots(lambda: None)
-        rows = self.log.rows[:]
-        operations.pause(self.log)
-        self.begin_members(3)
-        wait_until(lambda: '3' in self.log.holders)
-        self.assertLessEqual(self.snapshots(lambda: self.log.pass_renewals('3', 2)), 5 * while_stable + 4)
-        self.assertEqual((self.log.rows, self.members[3][1], list(self.owners())), (rows, [], [1, 2]))
-        shown = view.LogView(self.log)
-        self.addCleanup(shown.close)
-        self.assertTrue(shown.show().is_well)
-        operations.resume(self.log)
-        self.become_stable(1, 2, 3)
-
-    def test_a_group_that_begins_in_a_pause(self) -> None:
-        """Nobody works before its end, also if all are there; and the same of one node alone that comes back."""
-        operations.pause(self.log)
-        self.begin_members(1, 2)
-        wait_until(lambda: set(self.log.holders) == {'1', '2'})
-        for name in '12':
-            self.log.pass_renewals(name, 5)
-        self.assertEqual((self.log.rows, self.owners()), ([], {}))
-        operations.resume(self.log)
-        self.become_stable(1, 2)
-
-    def test_the_only_node_comes_back(self) -> None:
-        self.log = Silent(Opening.first('bully,1,1,6'))
-        member, _, _ = self.begin(self.log, 1, 2.0)
-        wait_until(member.assignment)
-        operations.pause(self.log)
-        self.die(1)
-        rows = self.log.rows[:]
-        self.log.cut.clear()
-        self.log.pass_renewals('1', 5)
-        self.assertEqual((self.log.rows, member.assignment()), (rows, None))
-        operations.resume(self.log)
-        wait_until(member.assignment)
-
     def test_a_change_under_way(self) -> None:
         """A member that has promised to be idle when the pause begins can't go on, so that change is finished first,
         and the next one waits."""
@@ -606,8 +493,8 @@ class Maintained(Threads):
         self.become_stable(1, 2, 3)
         self.assertGreater(len(self.log.rows), rows)
         after = self.log.rows[:]
-        self.die(3)
-        self.log.pass_renewals('1', 5)
+        self.log.let_die('3')
+        self.log.pass_renewals('1')
         self.assertEqual(self.log.rows, after)
         operations.resume(self.log)
         self.become_stable(1, 2)
@@ -623,8 +510,7 @@ class Maintained(Threads):
         self.begin_members(3)
         wait_until(lambda: self.members[3][0].is_drained)
         rows = self.log.rows[:]
-        for name in '12':
-            self.log.pass_renewals(name, 5)
+        self.log.pass_renewals('12')
         self.assertEqual((self.log.rows, self.log.epoch, set(self.owners())), (rows, 1, {1, 2}))
         operations.resume(self.log)
         wait_until(lambda: self.log.epoch == 2 and self.members[2][0].is_drained)
@@ -649,5 +535,5 @@ class Maintained(Threads):
         member.leave()
         thread.join(PATIENCE)
         self.assertFalse(thread.is_alive())
-        self.log.pass_renewals('1', 5)
+        self.log.pass_renewals('1')
         self.assertEqual((self.log.rows, set(self.log.holders)), (rows, {'1'}))

@@ -2,94 +2,77 @@
 that."""
 from __future__ import annotations
 
-import collections
 import logging
-import threading
 from collections.abc import Callable
 from unittest import mock
 
 from bully import operations
-from bully.core import Promise, Session
+from bully.core import Promise
 from bully.epochs import Opening, Token
 from bully.memory import MemoryLog
 from bully.settings import Settings
-from bully.shared_log import Snapshot, Unanswered
 from bully.view import Doing
 from ..waiting import PATIENCE, wait_until
-from .grouped import COOPERATIVE, Grouped, Viewed, share_out
+from .grouped import COOPERATIVE, EAGER, Grouped, Said, Viewed, share_out
+from .threads import Troubled
 
 
-class Cut(MemoryLog):
-    """A log that doesn't answer those nodes that are cut off, and notes how often each renews."""
-
-    def __init__(self, opening: Opening) -> None:
-        super().__init__(opening)
-        self.is_silent = False
-        self.cut: set[str] = set()
-        self.renewals: dict[str, int] = {}
-        self.snapshots: collections.Counter[str] = collections.Counter()  # by the names of threads
-
-    def snapshot(self, epoch: int, offset: int, promise_of: str | None = None) -> Snapshot:
-        self.snapshots[threading.current_thread().name] += 1
-        return super().snapshot(epoch, offset, promise_of)
-
-    def renew(self, name: str, session: Session, ttl: int) -> bool:
-        if name in self.cut:
-            raise Unanswered('silent')
-        self.renewals[name] = self.renewals.get(name, 0) + 1
-        return super().renew(name, session, ttl)
-
-    def pass_renewals(self, names: str, count: int = 5) -> None:
-        """So often the members of these nodes renew."""
-        before = {name: self.renewals.get(name, 0) for name in names}
-        wait_until(lambda: all(self.renewals.get(name, 0) >= before[name] + count for name in names))
-
-
-class Operated(Grouped):
-    """Members of a cooperative group, which run."""
-
-    log: Cut  # type: ignore[assignment]
+class Running(Grouped):
+    """Members of a group, which run."""
 
     def setUp(self) -> None:
         super().setUp()
-        self.start_over(COOPERATIVE)
         patch = mock.patch.object(logging.getLogger('bully'), 'warning')  # of who isn't answered
         patch.start()
         self.addCleanup(patch.stop)
 
-    def start_over(self, opening: Opening) -> None:
-        self.log = Cut(opening)
+    def start_over(self, partitions: int) -> None:
+        """A group with so many partitions."""
+        is_cooperative = self.OPENING.is_cooperative
+        self.log = Troubled(Opening.first(f'bully,1,4,{partitions}', 'abcd', is_cooperative=is_cooperative))
 
-    def die(self, name: str) -> None:
-        """Its member isn't heard of up to the end of its lease, and longer."""
-        self.log.cut.add(name)
-        wait_until(lambda: name not in self.log.holders)
+    def last_token_of(self, name: str) -> Token | None:
+        """The token of the last plan that its member has learned."""
+        core = self.members[name][0].core
+        return None if core.token is None else Token.of(core.epoch, core.token)
 
-    # A pause.
 
-    def test_a_death_in_a_pause(self) -> None:
+class Pauses(Running):
+    """A pause, of a cooperative group and of an eager one. Nothing is appended before its end."""
+
+    def see_unchanged(self, said: Said, rows: list[str], names: str) -> None:
+        """Nothing was appended, and the work of these goes on by the same token."""
+        self.assertEqual(self.log.rows, rows)
+        self.assertEqual({name: self.said()[name] for name in names}, {name: said[name] for name in names})
+        self.assertLessEqual(set(names), set(self.owners()))
+
+    def test_a_death(self) -> None:
         """The others work on by the same token, and its partitions wait, also once it has come back."""
         self.all_come('abcd')
         rows, said, works = self.log.rows[:], self.said(), self.works()
         operations.pause(self.log)
-        self.die('c')
-        self.log.pass_renewals('a')
-        shown = self.viewed(self.log)
+        self.log.let_die('c')
+        self.log.pass_renewals('abd')
+        self.see_unchanged(said, rows, 'abd')
+        shown = self.viewed(self.log, self.members['a'][0].waits)
         group = shown.show()
-        self.assertEqual((group.is_frozen, group.waits, group.moves, group.is_well), (True, {}, 0, False))
+        self.assertEqual((group.is_paused, group.is_frozen, group.waits), (True, True, {}))
+        self.assertEqual((group.moves, group.is_well), (0, False))
         waiting = dict.fromkeys(works['c'], (None, None))
         self.assertEqual(self.seen_doing(group, Doing.WAITING), waiting)
         self.log.cut.clear()
         wait_until(lambda: 'c' in self.log.holders)
         self.log.pass_renewals('abcd')
-        self.assertEqual((self.log.rows, self.members['c'][0].assignment()), (rows, None), 'it waits')
-        self.assertEqual(self.seen_doing(shown.show(), Doing.WAITING), waiting)
-        self.assertEqual(set(self.stopped_since(said)), {'c'})
+        self.assertIsNone(self.members['c'][0].assignment(), 'it waits')
+        group = shown.show()
+        self.assertEqual((self.seen_doing(group, Doing.WAITING), group.is_well, group.waits), (waiting, False, {}))
+        self.see_unchanged(said, rows, 'abd')
         operations.resume(self.log)
         wait_until(lambda: self.is_shared('abcd'))
-        self.assertEqual(set(self.stopped_since(said)), {'c'})
+        self.assertEqual(set(self.stopped_since(said)), set('c' if self.OPENING.is_cooperative else 'abcd'))
+        self.assertTrue(shown.show().is_well)
 
-    def test_a_group_that_begins_in_a_pause(self) -> None:
+    def test_a_group_that_begins(self) -> None:
         """Nobody works before its end."""
         operations.pause(self.log)
         for name in 'ab':
@@ -100,10 +83,11 @@ class Operated(Grouped):
         operations.resume(self.log)
         wait_until(lambda: self.is_shared('ab'))
 
-    def test_who_comes_in_a_pause(self) -> None:
-        """It waits, whether or not it would get anything, and reads snapshots about as often as one that works."""
+    def test_who_comes(self) -> None:
+        """It waits, whether or not it would get anything, and reads snapshots about as often as one that works, where
+        one that doesn't wait reads without end. All is well meanwhile."""
         for partitions in (12, 3):
-            self.start_over(Opening.first(f'bully,1,4,{partitions}', 'abcd', is_cooperative=True))
+            self.start_over(partitions)
             self.all_come('abc')
             rows, said = self.log.rows[:], self.said()
             operations.pause(self.log)
@@ -111,40 +95,43 @@ class Operated(Grouped):
             one, new = (self.members[name][2].name for name in 'ad')
             wait_until(lambda: 'd' in self.log.holders)
             self.log.pass_renewals('abcd', 1)
-            before = self.log.snapshots.copy()
+            before = self.log.reads.copy()
             self.log.pass_renewals('abcd')
-            read = self.log.snapshots - before
-            self.assertEqual(
-                (self.log.rows, self.stopped_since(said), self.members['d'][0].assignment()), (rows, {}, None)
-            )
+            read = self.log.reads - before
+            self.see_unchanged(said, rows, 'abc')
+            self.assertIsNone(self.members['d'][0].assignment())
             self.assertLess(read[new], 3 * read[one] + 10)
             self.assertTrue(self.viewed(self.log).show().is_well)
             operations.resume(self.log)
             wait_until(lambda: self.last_token_of('d') == self.last_token())
             for name in 'abcd':
-                self.end(name)
+                self.leave(name)
 
-    def last_token_of(self, name: str) -> Token | None:
-        """The token of the last plan that its member has learned."""
-        core = self.members[name][0].core
-        return None if core.token is None else Token.of(core.epoch, core.token)
-
-    def end(self, name: str) -> None:
-        """Its member leaves."""
-        member, _, thread = self.members.pop(name)
-        member.leave()
-        thread.join(PATIENCE)
-
-    def test_the_only_node_comes_back_in_a_pause(self) -> None:
+    def test_the_only_node_comes_back(self) -> None:
         self.all_come('a')
         operations.pause(self.log)
-        self.die('a')
+        self.log.let_die('a')
         rows = self.log.rows[:]
         self.log.cut.clear()
         self.log.pass_renewals('a')
         self.assertEqual((self.log.rows, self.works()), (rows, {}))
         operations.resume(self.log)
         wait_until(lambda: self.is_shared('a'))
+
+
+class EagerPauses(Pauses):
+    """The same of an eager group."""
+
+    OPENING = EAGER
+
+
+class Operated(Running):
+    """Members of a cooperative group."""
+
+    def see_counts_of_stops(self, said: Said, names: str) -> None:
+        """Each of these, and no other one, stopped work on one partition since then."""
+        stopped = {name: len(partitions) for name, partitions in self.stopped_since(said).items()}
+        self.assertEqual(stopped, dict.fromkeys(names, 1))
 
     def test_a_pause_in_a_change(self) -> None:
         """Those that have stopped a part can't go on there, so that change is completed first. The next one waits."""
@@ -164,12 +151,10 @@ class Operated(Grouped):
         self.assertTrue(group.more_text.startswith(told), group.more_text)
         slow.may_stop.set()
         wait_until(lambda: self.is_shared('abcd'))
-        self.assertEqual(
-            {name: len(stopped) for name, stopped in self.stopped_since(said).items()}, dict.fromkeys('abc', 1)
-        )
+        self.see_counts_of_stops(said, 'abc')
         rows, said = self.log.rows[:], self.said()
         self.assertEqual((shown.show().is_frozen, shown.show().waits), (True, {}))
-        self.die('d')
+        self.log.let_die('d')
         self.log.pass_renewals('abc')
         self.assertEqual((self.log.rows, set(self.stopped_since(said))), (rows, {'d'}))
         operations.resume(self.log)
@@ -219,15 +204,13 @@ class Operated(Grouped):
         said = self.said()
         operations.undrain(self.log, 'c')
         wait_until(lambda: self.is_shared('abcd'))
-        self.assertEqual(
-            {name: len(stopped) for name, stopped in self.stopped_since(said).items()}, dict.fromkeys('abd', 1)
-        )
+        self.see_counts_of_stops(said, 'abd')
 
     # The end of an epoch.
 
     def ended_slowly(self, request: Callable[[float], Opening]) -> None:
-        """An epoch ends while node a stops slowly: all stop all, and it is named, and no other; also not one that owns
-        nothing."""
+        """An epoch of three partitions ends while a node stops slowly: all stop all, and it is named, and no other;
+        also not the one that owns nothing."""
         self.all_come('abc')
         self.come('d')
         wait_until(lambda: self.last_token_of('d') == self.last_token())
@@ -251,19 +234,15 @@ class Operated(Grouped):
         wait_until(lambda: sorted(sum(self.works().values(), ())) == list(range(3)) and shown.show().is_well)
         self.assertEqual(self.stopped_since(said), {name: list(works) for name, works in owned.items()})
 
-    def few(self) -> Settings:
-        """Three partitions of four nodes, so that one owns nothing."""
-        self.start_over(Opening.first('bully,1,4,3', 'abcd', is_cooperative=True))
-        return self.log.opening().settings
-
     def test_a_resize(self) -> None:
-        settings = self.few()
+        self.start_over(3)
+        settings = self.log.opening().settings
         names = tuple(reversed(settings.names))
         self.ended_slowly(lambda seconds: operations.resize(self.log, Settings(settings.setup, names), seconds))
 
     def test_a_switchover(self) -> None:
         """No partition moves, and that node leads."""
-        self.few()
+        self.start_over(3)
         before: dict[str, tuple[int, ...]] = {}
 
         def lead(seconds: float) -> Opening:

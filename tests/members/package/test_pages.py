@@ -4,7 +4,6 @@ from __future__ import annotations
 import contextlib
 import html
 import io
-import json
 import os
 import resource
 import socket
@@ -23,9 +22,8 @@ from bully.work_failures import ALL, Failures
 from bully.worker_states import WorkerState
 from ..steps import LONG
 from ..waiting import PATIENCE, wait_until
-from .grouped import COOPERATIVE
+from .grouped import COOPERATIVE, Worker
 from .paged import Paged
-from .test_cooperative import Worker
 from .threads import Troubled, put
 
 
@@ -34,28 +32,24 @@ class Pages(Paged):
 
     def test_before(self) -> None:
         self.assertEqual(self.get('/healthz')[0], 503)
-        status, kind, text = self.get('/group')
-        self.assertEqual((status, kind), (200, 'application/json; charset=utf-8'))
-        told = json.loads(text)
+        self.assertEqual(self.get('/group')[:2], (200, 'application/json; charset=utf-8'))
+        told = self.told()
         self.assertEqual((told['epoch'], told['events'], told['token'], told['coordinator']), (1, 0, None, None))
         self.assertEqual((told['owners'], told['states'], told['mode']), ([None] * 6, ['waiting'] * 6, 'eager'))
-        self.assertEqual(json.loads(self.get('/assignment')[2])['partitions'], [])
+        self.assertEqual(self.told('/assignment')['partitions'], [])
 
     def test_group(self) -> None:
         self.begin()
-        told = json.loads(self.get('/group')[2])
+        told = self.told()
         self.assertEqual((told['coordinator'], set(told['owners'])), (self.NAMES[1], {self.NAMES[1]}))
         self.assertEqual([node['live'] for node in told['nodes']], [False, True, False])
-        self.assertEqual(
-            (told['states'], told['tokens'], told['coming']), (['working'] * 6, [told['token']] * 6, [None] * 6)
-        )
+        self.assertEqual((told['states'], told['coming']), (['working'] * 6, [None] * 6))
+        self.assertEqual(told['tokens'], [told['token']] * 6)
         self.assertEqual((told['moves'], told['stops'], told['stable'], told['frozen']), (0, {}, True, False))
         self.assertEqual([(row['row'], row['text']) for row in told['last']], list(enumerate(self.log.rows, 2))[-20:])
-        assigned = json.loads(self.get('/assignment')[2])
-        self.assertEqual(
-            (assigned['node'], assigned['partitions'], assigned['token']),
-            (self.NAMES[1], list(range(6)), told['token']),
-        )
+        assigned = self.told('/assignment')
+        self.assertEqual((assigned['node'], assigned['token']), (self.NAMES[1], told['token']))
+        self.assertEqual(assigned['partitions'], list(range(6)))
         self.assertTrue(0 < assigned['sure_seconds'] <= 1.6)
         self.assertEqual(self.get('/healthz')[::2], (200, 'live\n'))
 
@@ -64,21 +58,17 @@ class Pages(Paged):
         self.begin()
         for maintenance, paused, drained in ((Maintenance(), 0, 0), (Maintenance(frozenset('c'), {}), 1, 1)):
             self.assertTrue(self.log.set_maintenance(maintenance, None))
-            wait_until(lambda: json.loads(self.get('/group')[2])['paused'] == bool(paused))
-            self.assertEqual(
-                [node['drained'] for node in json.loads(self.get('/group')[2])['nodes']], [False, False, bool(drained)]
-            )
-            text, shown = self.get('/metrics')[2], self.get('/')[2]
-            self.assertEqual(
-                (f'\nbully_paused {paused}\n' in text, f'\nbully_drained{{node="c"}} {drained}\n' in text), (True, True)
-            )
+            wait_until(lambda: self.told()['paused'] == bool(paused))
+            self.assertEqual([node['drained'] for node in self.told()['nodes']], [False, False, bool(drained)])
+            measured, shown = self.measured(), self.get('/')[2]
+            self.assertEqual((measured['bully_paused'], measured['bully_drained{node="c"}']), (paused, drained))
             is_told = '; paused: members that work continue' in shown, '<td>no, drained<td>' in shown
             self.assertEqual(is_told, (bool(paused), bool(drained)))
         self.assertEqual(self.get('/healthz')[2], 'live\n')
 
     def test_long_poll(self) -> None:
         answers: list[int] = []
-        thread = threading.Thread(target=lambda: answers.append(json.loads(self.get('/group?after=0')[2])['events']))
+        thread = threading.Thread(target=lambda: answers.append(self.told('/group?after=0')['events']))
         thread.start()
         self.assertEqual(self.get('/group')[0], 200)
         put(self.log, 'recover,1')
@@ -96,12 +86,19 @@ class Pages(Paged):
         setattr(self.log, 'snapshot', snapshot)
         return offsets
 
+    def roll_over(self, offset: int) -> None:
+        """The first epoch ends there."""
+        session = Session(1, 1)
+        self.assertTrue(self.log.acquire('unknown', session, Promise(1, offset), LONG))
+        self.assertTrue(self.log.roll_over(1, offset, self.log.opening().next(None, ())))
+        self.log.release('unknown', session)
+
     def test_long_poll_over_epochs(self) -> None:
         """Events of another epoch are more, also if they are fewer."""
         answers: list[tuple[int, int]] = []
 
         def poll() -> None:
-            told = json.loads(self.get('/group?after=2')[2])
+            told = self.told('/group?after=2')
             answers.append((told['epoch'], told['events']))
 
         put(self.log, 'recover,1', 'crash,1')
@@ -109,15 +106,10 @@ class Pages(Paged):
         thread = threading.Thread(target=poll)
         thread.start()
         wait_until(lambda: len(offsets) > 1)  # so it waits
-        session, here = Session(1, 1), Promise(1, 2)
-        self.assertTrue(
-            self.log.acquire('unknown', session, here, LONG)
-            and self.log.roll_over(1, 2, self.log.opening().next(None, ()))
-        )
-        self.log.release('unknown', session)
+        self.roll_over(2)
         thread.join()
         self.assertEqual(answers, [(2, 0)])
-        self.assertEqual(json.loads(self.get('/group?after=2&epoch=1')[2])['epoch'], 2)
+        self.assertEqual(self.told('/group?after=2&epoch=1')['epoch'], 2)
 
     def test_a_silent_connection(self) -> None:
         """It is closed by itself, also one that has asked in part."""
@@ -200,8 +192,7 @@ class Pages(Paged):
         self.addCleanup(setattr, self.log, 'is_silent', False)
         wait_until(lambda: self.get('/group')[0] == 503)
         self.assertEqual(self.get('/healthz')[::2], (200, 'live\n'))
-        told = dict(line.rsplit(' ', 1) for line in self.get('/metrics')[2].splitlines() if not line.startswith('#'))
-        self.assertGreater(float(told[f'bully_sure_seconds{metrics.labels(self.NAMES[1])}']), 60.0)
+        self.assertGreater(self.measured()[f'bully_sure_seconds{metrics.labels(self.NAMES[1])}'], 60.0)
 
     def test_who_is_unknown(self) -> None:
         """A process that the group doesn't know is measured, too, while all wait for it."""
@@ -275,30 +266,25 @@ class Pages(Paged):
         state.survivors, state.stop_begun = [os.getpid()], seconds_of_boot() - 10.0
         self.assertEqual(self.get('/healthz')[::2], (503, 'its worker does not stop\n'))
         self.assertRegex(self.get('/')[2], 'nodes live; its worker has not stopped for 1[0-9][.][0-9] s<')
-        told = dict(line.rsplit(' ', 1) for line in self.get('/metrics')[2].splitlines() if not line.startswith('#'))
-        self.assertGreaterEqual(float(told[f'bully_stopping_seconds{metrics.labels(self.NAMES[1])}']), 10.0)
+        label = metrics.labels(self.NAMES[1])
+        self.assertGreaterEqual(self.measured()[f'bully_stopping_seconds{label}'], 10.0)
         state.survivors, state.stop_begun, state.is_there = [], None, True
         for message, count in ((b'lost all 0', 0), (b'lost all 0 1000', 1)):  # one that didn't start wasn't killed
             self.workers._hear(message)
             state.is_there = True
-            self.assertIn(f'bully_work_killed_total{metrics.labels(self.NAMES[1])} {count}\n', self.get('/metrics')[2])
+            self.assertEqual(self.measured()[f'bully_work_killed_total{label}'], count)
         state.is_there = False
 
     def test_an_epoch_that_is_not_told(self) -> None:
         """Where the log doesn't answer with what the next epoch began with, the page goes on once it does."""
-        session, here = Session(1, 1), Promise(1, 0)
-        self.assertTrue(
-            self.log.acquire('unknown', session, here, LONG)
-            and self.log.roll_over(1, 0, self.log.opening().next(None, ()))
-        )
+        self.roll_over(0)
         with mock.patch.object(answers, 'SNAPSHOT_SECONDS', 0.0), mock.patch.object(
             self.log, 'opening', side_effect=Unanswered('silent')
         ) as asked:
             for _ in range(2):
-                told = 503, 'the store does not answer\n'
-                self.assertEqual((self.get('/group')[0], self.get('/group')[2]), told)
-        self.assertEqual(asked.call_count, 4)
-        self.assertEqual(json.loads(self.get('/group')[2])['epoch'], 2)
+                self.assertEqual(self.get('/group')[::2], (503, 'the store does not answer\n'))
+        self.assertEqual(asked.call_count, 2)
+        self.assertEqual(self.told()['epoch'], 2)
 
     def test_gone(self) -> None:
         """Who asked is gone before the answer."""
@@ -328,7 +314,7 @@ class Pages(Paged):
         with mock.patch.object(
             self.log, 'snapshot', lambda *asked: Troubled.snapshot(self.log, *asked)._replace(holders={})
         ):
-            wait_until(lambda: json.loads(self.get('/group')[2])['nodes'][1]['live'] is False)
+            wait_until(lambda: self.told()['nodes'][1]['live'] is False)
             shown = self.get('/')[2]
         self.assertIn('<span class="dot down"></span>not live, normal before<td>no<td>', shown)
         self.assertIn('<td>0 1 2 3 4 5 (nobody works on these)</tr>', shown)
@@ -339,7 +325,7 @@ class Pages(Paged):
         put(self.log, 'recover,1', 'crash,1')
         with mock.patch('bully.memory.wall_clock', lambda: 1_000_000_000_123):
             self.begin()
-        last = json.loads(self.get('/group')[2])['last']
+        last = self.told()['last']
         self.assertEqual([row['row'] for row in last[:2]], [2, 3])
         self.assertEqual({row['time'] for row in last[2:]}, {'2001-09-09T01:46:40.123Z'})
         self.assertGreater(min(row['time'] for row in last[:2]), '2020')
@@ -375,19 +361,19 @@ class Pages(Paged):
     def test_behind(self) -> None:
         """Who isn't idle is named, with how long the others have waited."""
         self.begin()
-        self.assertEqual(json.loads(self.get('/group')[2])['behind'], {})
+        self.assertEqual(self.told()['behind'], {})
         name, session = self.NAMES[0], Session(7, 1)
         self.assertIn(f'bully_idle_behind_seconds{metrics.labels(name)} 0.000', self.get('/metrics')[2])
         self.assertTrue(self.log.acquire(name, session, Promise(1, len(self.log.rows)), LONG))
         with self.log._changed:  # it works
             self.log.leases[name] = self.log.leases[name]._replace(holder=Holder(session, Promise()))
-        wait_until(lambda: json.loads(self.get('/group')[2])['behind'].get(name, 0) > 0.3)
-        behind = json.loads(self.get('/group')[2])['behind']
+        wait_until(lambda: self.told()['behind'].get(name, 0) > 0.3)
+        behind = self.told()['behind']
         self.assertEqual(list(behind), [name])
         self.assertRegex(self.get('/')[2], 'nodes live; not idle yet: a&quot;[^<]* for [0-9.]+ s<')
-        told = [line for line in self.get('/metrics')[2].splitlines() if line.startswith('bully_idle_behind_seconds{')]
+        told = {key: value for key, value in self.measured().items() if key.startswith('bully_idle_behind_seconds{')}
         self.assertEqual(len(told), 3)
-        self.assertGreaterEqual(float(told[0].split()[1]), behind[name])
+        self.assertGreaterEqual(told[f'bully_idle_behind_seconds{metrics.labels(name)}'], behind[name])
 
     def test_refused(self) -> None:
         for method in ('POST', 'PUT', 'DELETE', 'PATCH', 'TRACE', 'PROPFIND'):
@@ -440,31 +426,28 @@ class Cooperating(Paged):
     def test_a_change(self) -> None:
         """By partition: who works on it, and to whom it moves. The slow node alone is named."""
         goes_on, moving = self.begin_change()
-        wait_until(lambda: json.loads(self.get('/group')[2])['moves'] == 3)
-        wait_until(lambda: list(json.loads(self.get('/group')[2])['behind']) == ['b'])
-        told = json.loads(self.get('/group')[2])
+        wait_until(lambda: self.told()['moves'] == 3)
+        wait_until(lambda: list(self.told()['behind']) == ['b'])
+        told = self.told()
         self.assertEqual((told['mode'], told['stable'], told['stops']), ('cooperative', False, {'b': [moving]}))
         by_state = {state: [each for each in range(12) if told['states'][each] == state] for state in told['states']}
         self.assertEqual(by_state['moving'], [moving])
         self.assertEqual((told['owners'][moving], told['coming'][moving]), ('b', 'd'))
-        self.assertEqual(
-            [(told['owners'][each], told['coming'][each]) for each in by_state['waiting']], [(None, 'd')] * 2
-        )
-        self.assertEqual({each for each in by_state['working'] if told['owners'][each] == 'b'}, goes_on)
-        self.assertEqual(
-            [told['coming'][each] for each in by_state['working']],
-            [told['owners'][each] for each in by_state['working']],
-        )
+        owned = list(zip(told['owners'], told['coming']))  # now and then
+        self.assertEqual([owned[each] for each in by_state['waiting']], [(None, 'd')] * 2)
+        self.assertEqual({each for each in by_state['working'] if owned[each][0] == 'b'}, goes_on)
+        self.assertTrue(all(owned[each][0] == owned[each][1] for each in by_state['working']))
         shown = self.get('/')[2]
-        self.assertIn('cooperative, 4 of 4 nodes live; 3 of 12 partitions move; not stopped yet: b on', shown)
-        self.assertRegex(shown, f'; not stopped yet: b on {moving} for [0-9.]+ s<')
-        self.assertIn(
-            f'<span class="cell moving" title="token {told["tokens"][moving]}">{moving} <b>b</b> to d</span>', shown
+        waits = (
+            f'cooperative, 4 of 4 nodes live; 3 of 12 partitions move; not stopped yet: b on {moving} for [0-9.]+ s<'
         )
+        self.assertRegex(shown, waits)
+        cell = f'<span class="cell moving" title="token {told["tokens"][moving]}">{moving} <b>b</b> to d</span>'
+        self.assertIn(cell, shown)
         self.assertIn(f'<span class="cell waiting">{by_state["waiting"][0]} <b>-</b> to d</span>', shown)
         self.worker.may_stop.set()
-        wait_until(lambda: self.counts() == [3] * 4 and json.loads(self.get('/group')[2])['stable'])
-        told = json.loads(self.get('/group')[2])
+        wait_until(lambda: self.counts() == [3] * 4 and self.told()['stable'])
+        told = self.told()
         self.assertEqual((told['moves'], told['stops'], told['behind'], set(told['states'])), (0, {}, {}, {'working'}))
 
     def test_metrics_of_a_change(self) -> None:
@@ -472,29 +455,24 @@ class Cooperating(Paged):
         _, _ = self.begin_change()
         wait_until(lambda: self.measured()['bully_idle_behind_seconds{node="b"}'] > 0.3)
         told = self.measured()
-        group = {
-            name: told[f'bully_{name}'] for name in ('cooperative', 'stable', 'partitions_moving', 'partitions_free')
-        }
-        self.assertEqual(group, {'cooperative': 1, 'stable': 0, 'partitions_moving': 3, 'partitions_free': 2})
+        names = [f'bully_{name}' for name in ('cooperative', 'stable', 'partitions_moving', 'partitions_free')]
+        self.assertEqual([told[name] for name in names], [1, 0, 3, 2])
         self.assertEqual([told[f'bully_node_stops{metrics.labels(name)}'] for name in 'abcd'], [0, 1, 0, 0])
         self.assertEqual([told[f'bully_idle_behind_seconds{metrics.labels(name)}'] for name in 'acd'], [0, 0, 0])
         self.worker.may_stop.set()
         wait_until(lambda: self.measured()['bully_stable'])
         told = self.measured()
-        self.assertEqual(
-            (told['bully_partitions_moving'], told['bully_node_stops{node="b"}'], told['bully_partitions_free']),
-            (0, 0, 0),
-        )
+        self.assertEqual([told[name] for name in (*names[2:], 'bully_node_stops{node="b"}')], [0, 0, 0])
 
     def test_what_a_member_may_work_on(self) -> None:
         """That is what goes on, and not what has to stop, though the work there hasn't ended."""
         goes_on, moving = self.begin_change()
         token = self.worker.works[moving]
-        told = json.loads(self.get('/assignment')[2])
+        told = self.told('/assignment')
         self.assertEqual((told['partitions'], told['token']), (sorted(goes_on), token))
         self.assertEqual({each for each in range(12) if self.status(f'/partitions/{each}') == 200}, goes_on)
         self.assertEqual([self.status(each) for each in ('/livez', '/readyz', '/leader')], [200, 200, 503])
         self.worker.may_stop.set()
-        wait_until(lambda: self.counts() == [3] * 4 and json.loads(self.get('/assignment')[2])['token'] > token)
-        self.assertEqual(json.loads(self.get('/assignment')[2])['partitions'], sorted(goes_on))
+        wait_until(lambda: self.counts() == [3] * 4 and self.told('/assignment')['token'] > token)
+        self.assertEqual(self.told('/assignment')['partitions'], sorted(goes_on))
         self.assertEqual({each for each in range(12) if self.status(f'/partitions/{each}') == 200}, goes_on)

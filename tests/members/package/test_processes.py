@@ -11,11 +11,8 @@ import sqlite3
 import subprocess
 import sys
 import time
-import urllib.error
-import urllib.request
-from collections.abc import Sequence
 from pathlib import Path
-from typing import BinaryIO
+from typing import Any, BinaryIO
 from unittest import mock
 
 from bully import clocks, command
@@ -24,13 +21,15 @@ from bully.epochs import Token
 from bully.sqlite import SqliteLog
 from bully.view import LogView
 from places import environment
-from ..processes import children, ender, freeze, full_pipe, has_stopped, is_running, parent_of, thaw
+from ..etcd_servers import free_ports
+from ..processes import children, ender, freeze, full_pipe, has_stopped, ignores, is_running, parent_of, thaw
 from ..waiting import PATIENCE, wait_until
-from .configurations import TOP, toml
-from .member_processes import BEGINS, STARTS, TALKS, MemberProcess, WithMember, started
+from .member_processes import BEGINS, STARTS, TALKS, WithMember, asked, manager_in, started
 from .unlisted import unlisted_from
 
+OF_WORK = 'BULLY_NODE', 'BULLY_COORDINATOR', 'BULLY_PARTITIONS'
 UNTIL = 'select max(until) from leases'
+OTHER: dict[str, Any] = {'nodes': 2, 'names': ['another', 'the only'], 'partitions': 3}  # settings
 # A command that can start no more than so many threads.
 FEW_THREADS = """
 import sys, threading
@@ -54,10 +53,7 @@ class Processes(WithMember):
         member = self.begin(BEGINS)
         worker = member.worker()
         told = member.environment()
-        self.assertEqual(
-            [told[f'BULLY_{name}'] for name in ('NODE', 'COORDINATOR', 'PARTITIONS')],
-            ['the only', 'the only', '0 1 2 3 4 5'],
-        )
+        self.assertEqual([told[name] for name in OF_WORK], ['the only', 'the only', '0 1 2 3 4 5'])
         log = self.opened()
         rows, token = list(log.read(1, 0)), Token(int(told['BULLY_TOKEN']))
         self.assertEqual(token.epoch, 1)
@@ -73,18 +69,13 @@ class Processes(WithMember):
     def test_resized(self) -> None:
         """Its node gets another number, and the worker other settings. What is old is taken away."""
         member = self.begin(BEGINS)
-        worker = member.worker()
-        (self.folder / 'begun').unlink()
-        new = self.folder / 'new.toml'
-        new.write_bytes(toml({**TOP, 'nodes': 2, 'names': ['another', 'the only'], 'partitions': 3}))
-        self.assertEqual(command.main(['resize', '--config', str(new), '--log', f'sqlite:{self.path}']), 0)
-        self.assertEqual(command.main(['prune', '--keep', '1', '--log', f'sqlite:{self.path}']), 0)
-        self.assertNotEqual(member.worker(), worker)
+        worker = member.next_worker()
+        self.resize(**OTHER)
+        self.of_log('prune', '--keep', '1')
+        member.next_worker()
         self.assertFalse(is_running(worker))
         told = member.environment()
-        self.assertEqual(
-            [told[f'BULLY_{name}'] for name in ('NODE', 'COORDINATOR', 'PARTITIONS')], ['the only', 'the only', '0 1 2']
-        )
+        self.assertEqual([told[name] for name in OF_WORK], ['the only', 'the only', '0 1 2'])
         self.assertEqual(json.loads(told['BULLY_SETTINGS'])['names'], ['another', 'the only'])
         self.assertEqual(Token(int(told['BULLY_TOKEN'])).epoch, 2)
         self.assertEqual(member.end(), 0)
@@ -92,43 +83,34 @@ class Processes(WithMember):
 
     def test_its_node_is_gone(self) -> None:
         """Then it ends by a status by which it is begun again, and it comes back once its node does."""
-        member, config = self.begin(BEGINS), self.folder / 'group.toml'
-        member.worker()
-        new = self.folder / 'new.toml'
-        new.write_bytes(toml({**TOP, 'nodes': 1, 'names': ['teh only']}))
-        resize = ['resize', '--log', f'sqlite:{self.path}', '--all-new', '--config']
-        self.assertEqual(command.main([*resize, str(new)]), 0)
+        member = self.begin(BEGINS)
+        member.next_worker()
+        self.resize('--all-new', nodes=1, names=['teh only'])
         self.assertEqual(member.wait(), 5)
         self.assertIn('bully-member: the group has no node the only any more\n', member.said)
         member.begin_again()
         self.assertEqual(member.wait(), 5)
-        self.assertEqual(command.main([*resize, str(config)]), 0)
-        (self.folder / 'begun').unlink()
+        self.resize('--all-new', nodes=1, names=['the only'], weights=[3])
         member.begin_again()
-        member.worker()
+        member.next_worker()
         self.assertEqual(member.end(), 0)
 
     def test_told_to_end_before_it_takes_part(self) -> None:
         """It waits for a store, and ends in order all the same: as the first process of a container no signal ends it
         by itself."""
         with socket.create_server(('127.0.0.1', 0)) as silent:
-            words = ['--log', f'etcd://127.0.0.1:{silent.getsockname()[1]}/x', '--node', 'a']
-            member = MemberProcess(self.folder, words, ['true'])
-            self.addCleanup(member.kill)
+            self.options = ['--log', f'etcd://127.0.0.1:{silent.getsockname()[1]}/x', '--node', 'a']
+            member = self.begin_as(['true'])
             wait_until(lambda: 'did not answer in time' in member.said)
             self.assertEqual(member.end(), 0)
 
     def test_a_busy_log(self) -> None:
         """It waits for the lock, also before it takes part."""
-        others = contextlib.ExitStack()
-
-        def lock() -> None:
-            file = others.enter_context(contextlib.closing(sqlite3.connect(self.path, isolation_level=None)))
+        self.init()
+        with contextlib.closing(sqlite3.connect(self.path, isolation_level=None)) as file:
             file.execute('begin immediate')
-
-        member = self.begin(BEGINS, lock)
-        wait_until(lambda: 'database is locked' in member.said)
-        others.close()
+            member = self.begin_as(['sh', '-c', BEGINS])
+            wait_until(lambda: 'database is locked' in member.said)
         member.worker()
         self.assertEqual(member.end(), 0)
 
@@ -136,16 +118,13 @@ class Processes(WithMember):
         """A process that uses a `-shm` which is truncated ends by a bus error. Its watchdog says so, and ends the
         worker; and another process can begin."""
         for more in ((), ('--each',)):
-            self.path.unlink(missing_ok=True)
-            (self.folder / 'begun').unlink(missing_ok=True)
-            member = self.begin(BEGINS, None, *more)
-            worker = member.worker()
+            member = self.begin(BEGINS, *more)
+            worker = member.next_worker()
             os.truncate(f'{self.path}-shm', 0)
             self.assertEqual(member.wait(), -signal.SIGBUS)
             wait_until(lambda: not is_running(worker))
             told = f'bully: process {member.process.pid} ended by a bus error, as if {self.path}-shm was truncated\n'
             wait_until(lambda: told in member.said)
-            (self.folder / 'begun').unlink()
             member.begin_again()
             wait_until(lambda: 'starts work' in member.said)  # the file may be of a worker of before that began late
             self.assertEqual(member.end(), 0)
@@ -155,7 +134,7 @@ class Processes(WithMember):
         """While one is stopped in the middle of a write no other renews. It is killed before the work of the others is
         over."""
         ttl = 8.0
-        member = self.begin(BEGINS, None, '--ttl', str(ttl))
+        member = self.begin(BEGINS, '--ttl', str(ttl))
         worker, log = member.worker(), self.opened()
         words = f'''
 import os, signal, sqlite3, time
@@ -165,7 +144,8 @@ from bully.working import Assignment
 file = sqlite3.connect({str(self.path)!r}, isolation_level=None, timeout=60)
 workers = Workers(['true'], 'x', 1.0)
 ended = []
-workers.begin(SimpleNamespace(ttl={ttl}, margin=1.0, ended=ended.append), {str(self.path)!r})
+member = SimpleNamespace(ttl={ttl}, margin=1.0, ended=ended.append, end_with=lambda _: os._exit(9))
+workers.begin(member, {str(self.path)!r})
 workers.start(Assignment(1, 1, (0,), SimpleNamespace(text=lambda *_: '{{}}', name=str)), frozenset([0]))
 while not ended:  # so its watchdog is there
     time.sleep(0.01)
@@ -179,9 +159,11 @@ os.kill(os.getpid(), signal.SIGSTOP)
         for _ in range(5):
             writer = subprocess.run(
                 [sys.executable, '-c', words], env=environment(), stdout=subprocess.PIPE, stderr=subprocess.DEVNULL,
-                timeout=PATIENCE,
+                timeout=4 * PATIENCE,
             )  # fmt: skip
             ended = clocks.seconds_of_boot()
+            if writer.returncode == 9:  # on a busy machine its watchdog was too late to say anything
+                continue
             self.assertEqual(writer.returncode, -signal.SIGKILL)
             until = int(writer.stdout) / SECOND
             wait_until(lambda: self.until(log) > until)  # it was renewed since
@@ -217,80 +199,60 @@ os.kill(os.getpid(), signal.SIGSTOP)
 
     def test_nobody_reads_what_goes_wrong(self) -> None:
         """A quiet member says that, and doesn't wait for a reader either."""
-        member = self.begin('echo begun >> $FOLDER/begins; exit 5', None, '--quiet', said=self.full())
+        member = self.begin('echo begun >> $FOLDER/begins; exit 5', '--quiet', said=self.full())
         begins = self.folder / 'begins'
         wait_until(lambda: begins.exists() and begins.read_text().count('begun') > 1)
         self.assertEqual(member.end(), 0)
-
-    def worded(self, *worker: str) -> list[str]:
-        """The words of the member that was begun, with those of another worker."""
-        return [*self.words[: self.words.index('--') + 1], *worker]
-
-    def begin_as(self, words: Sequence[str], said: BinaryIO | None = None, /, **more: str) -> subprocess.Popen[bytes]:
-        """A member by these words."""
-        (self.folder / 'begun').unlink(missing_ok=True)
-        member = started(self.folder, words, said, **more)
-        self.addCleanup(member.wait, PATIENCE)
-        self.addCleanup(member.kill)
-        return member
 
     def test_nobody_reads_why_no_worker_starts(self) -> None:
         """A program that is not there is a failure all the same."""
         for more in ((), ('--each',)):
             with self.subTest(more=more):
-                self.path.unlink(missing_ok=True)
-                self.begin(BEGINS, None, *more).kill()
-                member, log = self.begin_as(self.worded('/nowhere/worker'), self.full()), self.opened()
+                self.init(*more)
+                member, log = self.begin_as(['/nowhere/worker'], self.full()), self.opened()
                 wait_until(lambda: 'the only' in log.snapshot(1, 0).failing)
-                member.terminate()
-                self.assertEqual(member.wait(PATIENCE), 0)
+                self.assertEqual(member.end(), 0)
 
     def test_signals_that_are_ignored(self) -> None:
         """Whoever starts it may ignore the ends of children: a worker that fails has failed all the same."""
         for more in ((), ('--each',)):
             with self.subTest(more=more):
-                self.path.unlink(missing_ok=True)
-                self.begin(BEGINS, None, *more).kill()
-                member = self.begin_as(['env', '--ignore-signal=CHLD', *self.worded('sh', '-c', 'exit 7')])
-                wait_until(lambda: (self.folder / 'said').read_text().count('failed, with status 7') > 1)
-                ignored = int(Path(f'/proc/{member.pid}/status').read_text().partition('SigIgn:')[2].split()[0], 16)
-                self.assertEqual(ignored >> signal.SIGCHLD - 1 & 1, 0)
-                member.terminate()
-                self.assertEqual(member.wait(PATIENCE), 0)
-                self.assertNotIn('Traceback', (self.folder / 'said').read_text())
+                self.init(*more)
+                member = self.begin_as(['sh', '-c', 'exit 7'], within=['env', '--ignore-signal=CHLD'])
+                wait_until(lambda: member.said.count('failed, with status 7') > 1)
+                self.assertFalse(ignores(member.process.pid, signal.SIGCHLD))
+                self.assertEqual(member.end(), 0)
+                self.assertNotIn('Traceback', member.said)
 
     def test_variables_of_another_member(self) -> None:
         """A worker has those of its own member, and none of another one whose worker that is."""
         names = 'NODE', 'TOKEN', 'PARTITIONS', 'PARTITION', 'COORDINATOR', 'SETTINGS', 'SETTINGS_FILE', 'ANSWERS'
         others = {f'BULLY_{name}': 'of another' for name in names}
-        kinds = {
-            (): {'NODE', 'TOKEN', 'PARTITIONS', 'COORDINATOR', 'SETTINGS', 'SETTINGS_FILE'}, ('--talk',): {'NODE', 'ANSWERS'},
-        }  # fmt: skip
+        of_work = {'NODE', 'TOKEN', 'PARTITIONS', 'COORDINATOR', 'SETTINGS', 'SETTINGS_FILE'}
+        kinds: dict[tuple[str, ...], set[str]] = {(): of_work, ('--talk',): {'NODE', 'ANSWERS'}}
         for more, has in kinds.items():
             with self.subTest(more=more):
-                self.path.unlink(missing_ok=True)
-                self.begin(BEGINS, None, *more).kill()
-                self.begin_as(self.words, None, BULLY_LOG='sqlite:/its own', **others)
-                wait_until((self.folder / 'begun').exists)
-                lines = (self.folder / 'env').read_text().splitlines()
-                told = dict(line.split('=', 1) for line in lines if line.startswith('BULLY_'))
+                self.init(*more)
+                member = self.begin_as(['sh', '-c', BEGINS], BULLY_LOG='sqlite:/its own', **others)
+                member.next_worker()
+                told = {name: value for name, value in member.environment().items() if name.startswith('BULLY_')}
                 self.assertEqual({name for name in names if f'BULLY_{name}' in told}, has)
                 self.assertNotIn('of another', told.values())
                 self.assertEqual(told['BULLY_LOG'], 'sqlite:/its own')
 
     def test_no_more_threads(self) -> None:
         """That may pass: it says so, and can be started again."""
-        self.begin(BEGINS).kill()
+        self.init()
         for count in range(4):
             with self.subTest(threads=count):
-                words = [sys.executable, '-c', FEW_THREADS, str(count), *self.words[self.words.index('run') :]]
+                words = [sys.executable, '-c', FEW_THREADS, str(count), 'run', *self.options, '--', 'true']
                 ran = subprocess.run(words, env=environment(), stderr=subprocess.PIPE, text=True, timeout=PATIENCE)
                 self.assertEqual(ran.returncode, 4, ran.stderr)
                 self.assertIn('bully-member: no thread can be started now', ran.stderr)
                 self.assertNotIn('Traceback', ran.stderr)
 
     def test_quiet(self) -> None:
-        member = self.begin('exit 5', None, '--quiet')
+        member = self.begin('exit 5', '--quiet')
         wait_until(lambda: member.said)
         self.assertEqual(member.end(), 0)
         for line in member.said.splitlines():
@@ -298,7 +260,7 @@ os.kill(os.getpid(), signal.SIGSTOP)
 
     def test_messages_for_programs(self) -> None:
         """Each is a line of JSON."""
-        member = self.begin(BEGINS, None, '--log-format', 'json')
+        member = self.begin(BEGINS, '--log-format', 'json')
         member.worker()
         self.assertEqual(member.end(), 0)
         told = [json.loads(line) for line in member.said.splitlines()]
@@ -310,30 +272,25 @@ os.kill(os.getpid(), signal.SIGSTOP)
 
     def test_why_it_ends_for_programs(self) -> None:
         """So is the last message."""
-        member = self.begin('exit 0', None, '--log-format', 'json')
+        member = self.begin('exit 0', '--log-format', 'json')
         self.assertEqual(member.wait(), 1)
         last = [json.loads(line) for line in member.said.splitlines()][-1]
         self.assertEqual((last['level'], last['message']), ('error', 'the worker ended by itself, with status 0'))
 
     def test_what_its_watchdog_says_for_programs(self) -> None:
         """So is what the watchdog says, for example of a worker that isn't there."""
-        self.begin('exit 0', None, '--log-format', 'json').wait()
-        words = self.words[self.words.index('run') + 1 : self.words.index('--')]
-        member = MemberProcess(self.folder, words, ['/no/such/worker'])
-        self.addCleanup(member.kill)
+        self.init('--log-format', 'json')
+        member = self.begin_as(['/no/such/worker'])
         wait_until(lambda: 'No such file' in member.said)
         self.assertEqual(member.end(), 0)
-        told = [json.loads(line) for line in member.said.splitlines()]
-        self.assertIn(
-            ('error', '/no/such/worker: No such file or directory'), [(each['level'], each['message']) for each in told]
-        )
+        told = [(each['level'], each['message']) for each in map(json.loads, member.said.splitlines())]
+        self.assertIn(('error', '/no/such/worker: No such file or directory'), told)
 
     def test_a_late_renewal(self) -> None:
         """A worker that its watchdog has killed, because it heard of renewals too late, is begun again."""
         member = self.begin(BEGINS)
         for _ in range(3):
-            worker = member.worker()
-            (self.folder / 'begun').unlink()
+            worker = member.next_worker()
             watchdog = parent_of(worker)
             os.kill(watchdog, signal.SIGSTOP)  # it hears of no renewal
             begun = clocks.seconds_of_boot()
@@ -371,13 +328,10 @@ os.kill(os.getpid(), signal.SIGSTOP)
     def test_a_worker_that_does_not_end(self) -> None:
         """All wait for it, and are told so, until SIGTERM ends its member. That gives nothing back: its lease ends
         by itself."""
-        member = self.begin(BEGINS, None, '--stop-seconds', '0.1')
+        member = self.begin(BEGINS, '--stop-seconds', '0.1')
         worker, log = member.worker(), self.opened()
         freeze(self, worker)
-        new = self.folder / 'new.toml'
-        new.write_bytes(toml({**TOP, 'nodes': 2, 'names': ['another', 'the only'], 'partitions': 3}))
-        resize = ['resize', '--config', str(new), '--log', f'sqlite:{self.path}', '--seconds']
-        self.assertEqual(command.main([*resize, '0.1']), 1)
+        self.resize('--seconds', '0.1', status=1, **OTHER)
         wait_until(lambda: f'nothing is started here before they end: [{worker}]' in member.said)
         with contextlib.closing(LogView(self.opened())) as shown:
             self.assertEqual(list(shown.show().waits), ['the only'])
@@ -385,7 +339,7 @@ os.kill(os.getpid(), signal.SIGSTOP)
         told = 'the worker was killed, and has not ended for [0-9]+[.][0-9] s; the lease of its node ends by itself\n'
         self.assertRegex(member.said, told)
         self.assertEqual(list(log.snapshot(1, 0).holders), ['the only'], 'nothing is given back')
-        self.assertEqual(command.main([*resize, str(PATIENCE)]), 0)
+        self.resize('--seconds', str(PATIENCE), **OTHER)
         self.assertEqual(log.epochs()[-1], 2)
         thaw(worker)
         wait_until(lambda: not is_running(worker))
@@ -393,18 +347,13 @@ os.kill(os.getpid(), signal.SIGSTOP)
     def test_a_service(self) -> None:
         """What started it hears that it is ready, what it does, and that it goes on. Its worker has no part in
         that."""
-        with socket.socket(socket.AF_UNIX, socket.SOCK_DGRAM) as manager:
-            manager.bind(str(self.folder / 'manager'))
-            manager.settimeout(PATIENCE)
-            with mock.patch.dict(os.environ, NOTIFY_SOCKET=str(self.folder / 'manager'), WATCHDOG_USEC='300000'):
-                member = self.begin(BEGINS)
+        with manager_in(self.folder) as manager:
+            member = self.begin(BEGINS)
             self.assertEqual(manager.recv(1000), b'READY=1')
             member.worker()
-            token = re.search('BULLY_TOKEN=([0-9]+)', (self.folder / 'env').read_text())
-            assert token is not None
-            names = {line.partition('=')[0] for line in (self.folder / 'env').read_text().splitlines()}
-            self.assertEqual(names & {'NOTIFY_SOCKET', 'WATCHDOG_USEC'}, set())
-            wanted = f'STATUS=works on 6 partitions by token {token[1]}\nWATCHDOG=1'.encode()
+            told = member.environment()
+            self.assertEqual(told.keys() & {'NOTIFY_SOCKET', 'WATCHDOG_USEC'}, set())
+            wanted = f'STATUS=works on 6 partitions by token {told["BULLY_TOKEN"]}\nWATCHDOG=1'.encode()
             wait_until(lambda: manager.recv(1000) == wanted)
             member.process.terminate()
             wait_until(lambda: b'STOPPING=1' in manager.recv(1000))
@@ -413,37 +362,24 @@ os.kill(os.getpid(), signal.SIGSTOP)
     def test_drained(self) -> None:
         """Its worker ends and its process stays, is well, and says so to all that ask. It works again once that is
         over, and ends in order."""
-        with socket.create_server(('127.0.0.1', 0)) as free:
-            port = free.getsockname()[1]
-
-        def get(target: str) -> str:
-            with contextlib.suppress(OSError), urllib.request.urlopen(
-                f'http://127.0.0.1:{port}{target}', timeout=PATIENCE
-            ) as answer:
-                return str(answer.read(), 'utf-8')
-            return ''
-
-        with socket.socket(socket.AF_UNIX, socket.SOCK_DGRAM) as manager:
-            manager.bind(str(self.folder / 'manager'))
-            manager.settimeout(PATIENCE)
-            with mock.patch.dict(os.environ, NOTIFY_SOCKET=str(self.folder / 'manager'), WATCHDOG_USEC='300000'):
-                member = self.begin(BEGINS, None, '--listen', str(port))
-            worker = member.worker()
-            (self.folder / 'begun').unlink()
-            self.assertEqual(command.main(['drain', 'the only', '--all', '--log', f'sqlite:{self.path}']), 0)
+        [port] = free_ports(1)
+        with manager_in(self.folder) as manager:
+            member = self.begin(BEGINS, '--listen', str(port))
+            worker = member.next_worker()
+            self.of_log('drain', 'the only', '--all')
             self.assertFalse(is_running(worker))
             self.assertEqual(self.left(), ('crash,1', {}))
             for _ in range(3):  # so it goes on
                 wait_until(lambda: manager.recv(1000) == b'STATUS=drained\nWATCHDOG=1')
-        self.assertEqual(get('/healthz'), 'drained\n')
-        self.assertIn('\nbully_drained{node="the only"} 1\n', get('/metrics'))
-        self.assertIn('<td>no, drained<td>', get('/'))
-        self.assertEqual(command.main(['undrain', 'the only', '--log', f'sqlite:{self.path}']), 0)
-        self.assertNotEqual(member.worker(), worker)
-        self.assertEqual(get('/healthz'), 'live\n')
-        self.assertIn('\nbully_drained{node="the only"} 0\n', get('/metrics'))
-        self.assertEqual(command.main(['drain', 'the only', '--all', '--log', f'sqlite:{self.path}']), 0)
-        wait_until(lambda: get('/healthz') == 'drained\n')
+        self.assertEqual(asked(port, '/healthz'), (200, 'drained\n'))
+        self.assertIn('\nbully_drained{node="the only"} 1\n', asked(port, '/metrics')[1])
+        self.assertIn('<td>no, drained<td>', asked(port, '/')[1])
+        self.of_log('undrain', 'the only')
+        wait_until(lambda: asked(port, '/healthz') == (200, 'live\n'))
+        member.next_worker()
+        self.assertIn('\nbully_drained{node="the only"} 0\n', asked(port, '/metrics')[1])
+        self.of_log('drain', 'the only', '--all')
+        wait_until(lambda: asked(port, '/healthz')[1] == 'drained\n')
         self.assertEqual(member.end(), 0)
         self.assertIn('node the only: it is drained, and does nothing\n', member.said)
 
@@ -463,70 +399,37 @@ os.kill(os.getpid(), signal.SIGSTOP)
 
     def test_keeps_epochs(self) -> None:
         """It takes old ones away by itself."""
-        member, log = self.begin(BEGINS, None, '--keep', '2'), self.opened()
+        member, log = self.begin(BEGINS, '--keep', '2'), self.opened()
         for partitions in (3, 4, 5):
-            member.worker()
-            new = self.folder / 'new.toml'
-            new.write_bytes(toml({**TOP, 'nodes': 1, 'names': ['the only'], 'partitions': partitions}))
-            (self.folder / 'begun').unlink()
-            self.assertEqual(command.main(['resize', '--config', str(new), '--log', f'sqlite:{self.path}']), 0)
+            member.next_worker()
+            self.resize(nodes=1, names=['the only'], partitions=partitions)
         wait_until(lambda: log.epochs() == range(3, 5))
         self.assertEqual(member.end(), 0)
         self.assertEqual(log.epochs(), range(3, 5))
 
     def test_a_store_that_is_silent_at_first(self) -> None:
         """The process is alive before it has heard of its store, and isn't ready. It ends in order."""
-        with socket.create_server(('127.0.0.1', 0)) as free:
-            port = free.getsockname()[1]
-
-        def status(target: str) -> int:
-            try:
-                with urllib.request.urlopen(f'http://127.0.0.1:{port}{target}', timeout=PATIENCE) as answer:
-                    return int(answer.status)
-            except urllib.error.HTTPError as refused:
-                return refused.code
-            except OSError:
-                return 0
-
+        [port] = free_ports(1)
         with socket.create_server(('127.0.0.1', 0)) as silent:  # which answers nothing
             server = f'127.0.0.1:{silent.getsockname()[1]}'
-            words = ['--log', f'etcd://{server}/group', '--node', 'b', '--listen', str(port)]
-            member = MemberProcess(self.folder, words, ['sh', '-c', BEGINS])
-            self.addCleanup(member.kill)
+            self.options = ['--log', f'etcd://{server}/group', '--node', 'b', '--listen', str(port)]
+            member = self.begin_as(['true'])
             silent.accept()[0].close()
-            wait_until(lambda: status('/livez') == 200)
-            self.assertEqual(
-                [status(target) for target in ('/readyz', '/healthz', '/leader', '/partitions/0', '/', '/metrics')],
-                [503] * 5 + [200],
-            )
+            wait_until(lambda: asked(port, '/livez')[0] == 200)
+            targets = '/readyz', '/healthz', '/leader', '/partitions/0', '/', '/metrics'
+            self.assertEqual([asked(port, target)[0] for target in targets], [503] * 5 + [200])
             wait_until(lambda: server in member.said)
-            self.assertEqual((member.end(), status('/livez')), (0, 0))
+            self.assertEqual((member.end(), asked(port, '/livez')), (0, (0, '')))
 
     def test_a_container(self) -> None:
         """What a container begins listens on all its addresses."""
-        with socket.create_server(('127.0.0.1', 0)) as free:
-            port = free.getsockname()[1]
+        [port] = free_ports(1)
         words, more = self.container(port)
         member = started(self.folder, words, None, **more)
         self.addCleanup(member.kill)
-
-        def is_well() -> bool:
-            with contextlib.suppress(OSError), urllib.request.urlopen(
-                f'http://127.0.0.2:{port}/healthz', timeout=PATIENCE
-            ) as answer:
-                return bool(answer.read() == b'live\n')
-            return False
-
-        wait_until(is_well)
+        wait_until(lambda: asked(port, '/healthz', '127.0.0.2') == (200, 'live\n'))
         member.terminate()
         self.assertEqual(member.wait(PATIENCE), 0)
-
-    def test_killed(self) -> None:
-        """The worker ends with its member."""
-        member = self.begin(BEGINS)
-        worker = member.worker()
-        member.kill()
-        self.assertFalse(is_running(worker))
 
     def kill_at_once(self, *processes: int) -> None:
         """At one moment: none does anything after the end of another one. A stopped one below another goes on if that
@@ -539,24 +442,20 @@ os.kill(os.getpid(), signal.SIGSTOP)
 
     def test_killed_with_its_watchdog(self) -> None:
         """The keeper ends the worker with what that began, and then releases the lease."""
-        member = self.begin(STARTS, None, '--ttl', '100')
-        worker = member.worker()
-        keeper, child = parent_of(worker), int((self.folder / 'child').read_text())
-        self.addCleanup(ender(child))
-        self.kill_at_once(member.process.pid, parent_of(keeper))
+        member = self.begin(STARTS, '--ttl', '100')
+        line = self.line(member)
+        self.kill_at_once(line.member, line.watchdog)
         self.assertEqual(member.wait(), -signal.SIGKILL)
-        wait_until(lambda: not any(map(is_running, (worker, child, keeper))))
+        wait_until(lambda: not any(map(is_running, line)))
         self.assertEqual(self.opened().snapshot(1, 0).holders, {})
 
     def test_its_watchdog_is_killed_while_it_is_stopped(self) -> None:
         """The keeper ends the worker with what that began, and the lease stays."""
-        member = self.begin(STARTS, None, '--ttl', '100', '--stop-seconds', '0.1')
-        worker = member.worker()
-        keeper, child = parent_of(worker), int((self.folder / 'child').read_text())
-        self.addCleanup(ender(child))
+        member = self.begin(STARTS, '--ttl', '100', '--stop-seconds', '0.1')
+        line = self.line(member)
         member.process.send_signal(signal.SIGSTOP)
-        os.kill(parent_of(keeper), signal.SIGKILL)
-        wait_until(lambda: not any(map(is_running, (worker, child, keeper))))
+        os.kill(line.watchdog, signal.SIGKILL)
+        wait_until(lambda: not any(map(is_running, line[2:])))
         self.assertEqual(list(self.opened().snapshot(1, 0).holders), ['the only'])
         member.process.send_signal(signal.SIGCONT)
         self.assertEqual(member.wait(), 1)
@@ -565,33 +464,29 @@ os.kill(os.getpid(), signal.SIGSTOP)
     def test_killed_with_all_guards(self) -> None:
         """The worker dies, and what that began lives, as nobody knows of it. Another member begins all the same."""
         member = self.begin(STARTS)
-        worker = member.worker()
-        keeper, child = parent_of(worker), int((self.folder / 'child').read_text())
-        self.addCleanup(ender(child))
-        self.kill_at_once(member.process.pid, parent_of(keeper), keeper)
-        wait_until(lambda: not is_running(worker))
+        line = self.line(member)
+        self.kill_at_once(line.member, line.watchdog, line.keeper)
+        wait_until(lambda: not is_running(line.worker))
         self.assertEqual(member.wait(), -signal.SIGKILL)
-        self.assertEqual((is_running(keeper), is_running(child)), (False, True))
-        (self.folder / 'begun').unlink()
+        self.assertEqual((is_running(line.keeper), is_running(line.child)), (False, True))
         member.begin_again()
-        self.assertNotEqual(member.worker(), worker)
+        member.next_worker()
         self.assertEqual(member.end(), 0)
-        self.assertTrue(is_running(child))
+        self.assertTrue(is_running(line.child))
 
     def test_killed_with_all_guards_as_another_user(self) -> None:
         """A worker that has become another user doesn't die then: Linux forgets what it was to die of."""
         if os.getuid() != 0:
             self.skipTest('only root becomes another user')
         member = self.begin(BEGINS.replace('exec', 'exec setpriv --reuid 65534 --regid 65534 --clear-groups'))
-        worker = member.worker()
+        worker = member.next_worker()
         self.addCleanup(ender(worker))
         wait_until(lambda: os.stat(f'/proc/{worker}').st_uid == 65534)
         keeper = parent_of(worker)
         self.kill_at_once(member.process.pid, parent_of(keeper), keeper)
         self.assertEqual(member.wait(), -signal.SIGKILL)
-        (self.folder / 'begun').unlink()
         member.begin_again()
-        self.assertNotEqual(member.worker(), worker)
+        member.next_worker()
         self.assertTrue(is_running(worker))
         self.assertEqual(member.end(), 0)
 
@@ -600,37 +495,29 @@ os.kill(os.getpid(), signal.SIGSTOP)
         end."""
         if os.getuid() != 0:
             self.skipTest('only root can have processes of its own numbers')
-        begun = self.begin(STARTS)
-        begun.kill()
-        (self.folder / 'begun').unlink(missing_ok=True)
+        self.init()
         within = ['unshare', '--pid', '--fork', '--kill-child', '--mount-proc', 'sh', '-c', '"$@"; exit 7', 'sh']
-        container = started(self.folder, [*within, *begun.words])
-        self.addCleanup(container.wait, PATIENCE)
-        self.addCleanup(container.kill)
-        wait_until((self.folder / 'begun').exists)
-        line = [container.pid]
+        container = self.begin_as(['sh', '-c', STARTS], within=within)
+        container.next_worker()
+        line = [container.process.pid]
         for _ in range(6):  # the first process, the member, its watchdog, its keeper, the worker, and what that began
             wait_until(lambda: len(children(line[-1])) == 1)  # what told that the worker has begun may be there still
             line += children(line[-1])
         _, first, member, watchdog, keeper, worker, child = line
         self.kill_at_once(member, watchdog, keeper)
         wait_until(lambda: not any(map(is_running, (first, worker, child))))
-        self.assertEqual(container.wait(PATIENCE), 7)
+        self.assertEqual(container.wait(), 7)
 
     def test_killed_while_its_watchdog_is_stopped(self) -> None:
         """The watchdog and the keeper go on at the member's end, and end the worker, also if nobody continues them."""
         member = self.begin(STARTS)
-        worker = member.worker()
-        keeper, child = parent_of(worker), int((self.folder / 'child').read_text())
-        watchdog = parent_of(keeper)
-        for process in (child, worker, keeper, watchdog):
-            self.addCleanup(ender(process))
-        for process in (watchdog, keeper):
+        line = self.line(member)
+        for process in (line.watchdog, line.keeper):
             os.kill(process, signal.SIGSTOP)
             wait_until(lambda: has_stopped(process))
         member.process.kill()
         self.assertEqual(member.wait(), -signal.SIGKILL)
-        wait_until(lambda: not any(map(is_running, (watchdog, keeper, worker, child))))
+        wait_until(lambda: not any(map(is_running, line)))
 
     def test_children_that_the_kernel_does_not_list(self) -> None:
         """Nothing could end all that a worker begins: so its member says so at once, and takes no part."""
@@ -644,43 +531,39 @@ os.kill(os.getpid(), signal.SIGSTOP)
         self.assertEqual(self.opened().snapshot(1, 0).holders, {})
 
     def test_stopped(self) -> None:
-        """The worker is killed while its member is stopped, and another one begins once that goes on, which says and
-        counts that."""
-        member = self.begin(BEGINS)
-        worker = member.worker()
-        member.process.send_signal(signal.SIGSTOP)
-        wait_until(lambda: not is_running(worker))
-        (self.folder / 'begun').unlink()
-        member.process.send_signal(signal.SIGCONT)
-        self.assertNotEqual(member.worker(), worker)
-        said = [line for line in member.said.splitlines() if 'watchdog' in line]
-        self.assertEqual(len(said), 1, member.said)
-        self.assertRegex(
-            said[0], 'the watchdog killed the worker [0-9.]+ s ago, because the lease was not sure any more'
-        )
-        self.assertEqual(member.end(), 0)
+        """The worker, also one that stays, is killed while its member is stopped, and another one begins once that goes
+        on, which says that."""
+        for worker, more in ((BEGINS, ()), (TALKS, ('--talk',))):
+            with self.subTest(more=more):
+                member = self.begin(worker, *more)
+                first = member.next_worker()
+                wait_until(lambda: 'starts work' in member.said)
+                member.process.send_signal(signal.SIGSTOP)
+                wait_until(lambda: not is_running(first))
+                member.process.send_signal(signal.SIGCONT)
+                member.next_worker()
+                said = [line for line in member.said.splitlines() if 'watchdog' in line]
+                self.assertEqual(len(said), 1, member.said)
+                why = 'the watchdog killed the worker [0-9.]+ s ago, because the lease was not sure any more'
+                self.assertRegex(said[0], why)
+                self.assertEqual(member.end(), 0)
 
     def test_processes(self) -> None:
-        """The member, its watchdog, the keeper and its worker are all, and no guard stays."""
-        member = self.begin(BEGINS)
-        worker = member.worker()
-        keeper = parent_of(worker)
-        watchdog = parent_of(keeper)
-        line = [member.process.pid, watchdog, keeper, worker]
-        self.assertEqual([children(each) for each in line[:3]], [[each] for each in line[1:]])
+        """The member, its watchdog, the keeper, its worker and what that began are all, and none stays."""
+        member = self.begin(STARTS)
+        line = self.line(member)
+        self.assertEqual([children(each) for each in line], [*([each] for each in line[1:]), []])
         self.assertEqual(member.end(), 0)
-        self.assertFalse(is_running(watchdog) or is_running(keeper))
+        self.assertFalse(any(map(is_running, line)))
 
     def test_talks(self) -> None:
         """A worker stays over a change of the group, and hears of it."""
-        member = self.begin(TALKS, None, '--talk')
+        member = self.begin(TALKS, '--talk')
         worker, (begun,) = member.worker(), member.told(1)
         self.assertEqual(
             (begun['partitions'], begun['coordinator'], begun['settings']['ttl']), ([0, 1, 2, 3, 4, 5], 'the only', 2.0)
         )
-        new = self.folder / 'new.toml'
-        new.write_bytes(toml({**TOP, 'nodes': 2, 'names': ['another', 'the only'], 'partitions': 3}))
-        self.assertEqual(command.main(['resize', '--config', str(new), '--log', f'sqlite:{self.path}']), 0)
+        self.resize(**OTHER)
         _, stopped, again = member.told(3)
         self.assertEqual((stopped, again['partitions'], Token(again['begin']).epoch), ({'stop': True}, [0, 1, 2], 2))
         self.assertEqual(member.worker(), worker)
@@ -688,16 +571,3 @@ os.kill(os.getpid(), signal.SIGSTOP)
         self.assertEqual(member.end(), 0)
         self.assertFalse(is_running(worker))
         self.assertEqual(len(member.told(4)), 4)
-
-    def test_talks_while_stopped(self) -> None:
-        """It is killed at the moment until which its work is sure, and another one begins."""
-        member = self.begin(TALKS, None, '--talk')
-        worker = member.worker()
-        member.told(1)
-        member.process.send_signal(signal.SIGSTOP)
-        wait_until(lambda: not is_running(worker))
-        (self.folder / 'begun').unlink()
-        member.process.send_signal(signal.SIGCONT)
-        self.assertNotEqual(member.worker(), worker)
-        member.kill()
-        self.assertFalse(is_running(member.worker()))

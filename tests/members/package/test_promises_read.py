@@ -82,13 +82,7 @@ class PromisesRead(Grouped):
             self.come(name, 0.5)
         low, high = {False}, {True}
         self.assertEqual(self.reads(log), {'a': low, 'b': low, 'c': low, 'd': high})
-
-        def leave() -> None:
-            member, _, thread = self.members.pop('d')
-            member.leave()
-            thread.join()
-
-        self.assertEqual(self.reads(log, leave), {'a': low, 'b': low, 'c': high})
+        self.assertEqual(self.reads(log, lambda: self.leave('d')), {'a': low, 'b': low, 'c': high})
 
     def test_which_sessions_are_known(self) -> None:
         """A wait is begun by the sessions that the last snapshot showed, also if the same nodes held leases before:

@@ -43,7 +43,7 @@ class ByTheWatchdog(WithMember):
 
     def killed(self, worker: str, *more: str) -> tuple[int, int]:
         """The worker, and the watchdog, of a member that was killed."""
-        member = self.begin(worker, None, '--ttl', TTL, *more)
+        member = self.begin(worker, '--ttl', TTL, *more)
         worked = member.worker()
         watchdog = parent_of(worked)
         self.assertEqual(len(self.sessions()), 1)
@@ -70,13 +70,12 @@ class ByTheWatchdog(WithMember):
 
     def test_another_node_takes_over(self) -> None:
         """It sees that at once, and so does a process that comes for the same node."""
-        member = self.begin(BEGINS, None, '--ttl', TTL)
-        worker = member.worker()
+        member = self.begin(BEGINS, '--ttl', TTL)
+        member.next_worker()
         member.kill()
-        (self.folder / 'begun').unlink()
         begun = clocks.seconds_of_boot()
         member.begin_again()
-        self.assertNotEqual(member.worker(), worker)
+        member.next_worker()
         self.assertLess(clocks.seconds_of_boot() - begun, float(TTL) / 2)
         self.assertEqual(member.end(), 0)
 
@@ -84,8 +83,6 @@ class ByTheWatchdog(WithMember):
         """One that takes a second to stop, and one that has to be killed: never before they are gone."""
         for worker, more in ((SLOW, ()), (STUBBORN, ('--stop-seconds', '0.5'))):
             with self.subTest(worker=worker):
-                self.path.unlink(missing_ok=True)
-                (self.folder / 'begun').unlink(missing_ok=True)
                 process, watchdog = self.killed(worker, *more)
                 held = 0
                 while self.sessions():
@@ -97,17 +94,16 @@ class ByTheWatchdog(WithMember):
 
     def test_a_worker_that_can_not_be_killed(self) -> None:
         """The lease stays until it has ended; and then the lease of a session that has come is let be."""
-        member = self.begin(BEGINS, None, '--ttl', '1', '--stop-seconds', '0.1')
-        worker = member.worker()
+        member = self.begin(BEGINS, '--ttl', '1', '--stop-seconds', '0.1')
+        worker = member.next_worker()
         watchdog, (before,) = parent_of(worker), self.sessions()
         freeze(self, worker)
         member.process.kill()
         member.wait()
         wait_until(lambda: not is_running(worker))  # it was killed, and hasn't ended
         self.assertEqual(self.sessions(), [before])
-        (self.folder / 'begun').unlink()
         member.begin_again()
-        member.worker()
+        member.next_worker()
         (after,) = self.sessions()
         self.assertNotEqual(after, before)
         self.assertTrue(is_running(watchdog))
@@ -118,7 +114,7 @@ class ByTheWatchdog(WithMember):
 
     def test_frozen(self) -> None:
         """While it can't be killed nothing is released, however long that lasts."""
-        member = self.begin(BEGINS, None, '--ttl', TTL, '--stop-seconds', '0.1')
+        member = self.begin(BEGINS, '--ttl', TTL, '--stop-seconds', '0.1')
         worker = member.worker()
         watchdog = parent_of(worker)
         freeze(self, worker)
@@ -133,7 +129,7 @@ class ByTheWatchdog(WithMember):
 
     def test_stopped(self) -> None:
         """A member that is only stopped keeps its lease, though its worker is killed; until it is killed, too."""
-        member = self.begin(BEGINS, None, '--ttl', '1')
+        member = self.begin(BEGINS, '--ttl', '1')
         worker = member.worker()
         (session,) = self.sessions()
         member.process.send_signal(signal.SIGSTOP)
@@ -146,8 +142,7 @@ class ByTheWatchdog(WithMember):
         """Once nothing is left of any worker; also if a keeper dies after its member."""
         for kills in (False, True):
             with self.subTest(kills=kills):
-                self.path.unlink(missing_ok=True)
-                member = self.begin(EACH, None, '--ttl', TTL, '--each', '--stop-seconds', '1000' if kills else '0.5')
+                member = self.begin(EACH, '--ttl', TTL, '--each', '--stop-seconds', '1000' if kills else '0.5')
                 files = [self.folder / str(each) for each in range(6)]
                 wait_until(lambda: all(file.exists() for file in files))
                 workers = [int(file.read_text()) for file in files]
@@ -167,7 +162,7 @@ class ByTheWatchdog(WithMember):
 
     def test_a_busy_file(self) -> None:
         """It gives that up within a ttl, and the lease ends by itself."""
-        member = self.begin(BEGINS, None, '--ttl', '1')
+        member = self.begin(BEGINS, '--ttl', '1')
         worker = member.worker()
         watchdog = parent_of(worker)
         with contextlib.closing(sqlite3.connect(self.path, isolation_level=None)) as file:
@@ -182,7 +177,7 @@ class ByTheWatchdog(WithMember):
         """It has the session before that holds the lease, for its user alone, until the member has left in order: then
         it is empty."""
         notes = self.folder / 'session'
-        member = self.begin(BEGINS, None, '--ttl', TTL, '--session-file', str(notes))
+        member = self.begin(BEGINS, '--ttl', TTL, '--session-file', str(notes))
         member.worker()
         self.assertEqual([notes.read_text()], [f'{session}\n' for session in self.sessions()])
         self.assertEqual(notes.stat().st_mode & 0o7777, 0o600)

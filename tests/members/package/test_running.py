@@ -15,7 +15,7 @@ from bully.memory import MemoryLog
 from bully.shared_log import Holder, LogError
 from ..steps import HEADER, LONG, OPENING
 from ..waiting import PATIENCE, wait_until
-from .threads import Noting, Slow, Threads, Troubled
+from .threads import Slow, Threads, Troubled
 
 
 DAY = 86_400.0
@@ -157,8 +157,7 @@ class Running(Threads):
         self.assertTrue(
             member.sure_until > seconds_of_boot() and member.assignment() is None, 'it is live, and may not work'
         )
-        shown = view.LogView(log, ttl=1.0)
-        self.addCleanup(shown.close)
+        shown = self.viewed(log, ttl=1.0)
         wait_until(lambda: list(shown.show().waits) == ['1'])
         is_over.set()
         wait_until(lambda: shown.show().coordinator == '3')
@@ -174,8 +173,7 @@ class Running(Threads):
         wait_until(lambda: '3' in log.holders and other.waits._waits[1])
         begun = seconds_of_boot()
         wait_until(lambda: seconds_of_boot() > begun + 0.5)
-        shown = view.LogView(log, other.waits)
-        self.addCleanup(shown.close)
+        shown = self.viewed(log, other.waits)
         behind = shown.show().waits
         self.assertEqual(list(behind), ['1'])
         self.assertGreaterEqual(behind['1'], 0.5)
@@ -248,7 +246,7 @@ class Running(Threads):
 
     def test_an_unknown_process(self) -> None:
         """While a process holds a lease that isn't of the group, and may work, nobody asks to append anything."""
-        log, sure = Noting(OPENING), cast(list[float], [])
+        log, sure = Troubled(OPENING), cast(list[float], [])
         self.assertTrue(log.acquire('unknown', Session(9, 1), Promise(1, 0), LONG))
         with log._changed:
             log.leases['unknown'] = log.leases['unknown']._replace(holder=Holder(Session(9, 1), Promise()))
@@ -277,8 +275,7 @@ class Running(Threads):
         member, _, _ = self.begin(log, 1, stop=lambda work: is_over.wait())
         self.addCleanup(is_over.set)
         wait_until(member.assignment)
-        shown = view.LogView(log)
-        self.addCleanup(shown.close)
+        shown = self.viewed(log)
         self.assertEqual(shown.show().waits, {})
         self.assertTrue(log.ask(OPENING.requested(OPENING.settings), 1))
         self.assertEqual(list(shown.show().waits), ['1'])
@@ -297,8 +294,7 @@ class Running(Threads):
             log = MemoryLog(Opening(1, HEADER, OPENING.names, len(rows) + room))
             self.assertTrue(log.acquire('1', Session(9, 1), Promise(1, 0), LONG))
             log.rows.extend(rows)
-            shown = view.LogView(log)
-            self.addCleanup(shown.close)
+            shown = self.viewed(log)
             self.assertEqual(list(shown.show().waits), behind, room)
 
     def test_who_comes_again_and_again(self) -> None:
@@ -307,12 +303,10 @@ class Running(Threads):
         doesn't."""
         log = MemoryLog(OPENING)
         rebalanced_without(log, '3')
-        kept = view.LogView(log, ttl=DAY)
-        self.addCleanup(kept.close)
+        kept = self.viewed(log, ttl=DAY)
         for number in range(1, 8):
             self.assertTrue(log.acquire('3', Session(8, number), Promise(1, len(log.rows)), LONG))
-            fresh = view.LogView(log, ttl=DAY)
-            self.addCleanup(fresh.close)
+            fresh = self.viewed(log, ttl=DAY)
             for shown in (kept.show(), fresh.show()):
                 self.assertEqual((shown.is_well, shown.is_stable, shown.waits), (True, True, {}))
                 self.assertEqual([node.is_live for node in shown.nodes], [True] * 3)
@@ -323,8 +317,7 @@ class Running(Threads):
         idle."""
         log = MemoryLog(OPENING)
         rebalanced_without(log, '3')
-        shown = view.LogView(log, ttl=TTL_MIN / SECOND)
-        self.addCleanup(shown.close)
+        shown = self.viewed(log, ttl=TTL_MIN / SECOND)
         end = Promise(1, len(log.rows))
         self.assertTrue(shown.show().is_well and log.acquire('3', Session(8, 1), end, LONG))
         wait_until(lambda: not shown.show().is_stable)
@@ -340,8 +333,7 @@ class Running(Threads):
         plan."""
         log = MemoryLog(OPENING)
         rebalanced_without(log, '3')
-        shown = view.LogView(log)
-        self.addCleanup(shown.close)
+        shown = self.viewed(log)
         group = shown.show()
         self.assertEqual((set(group.owners), group.is_well), ({'1', '2'}, True))
         log.release('1', Session(9, 1))

@@ -21,6 +21,7 @@ from ..processes import full_pipe
 from ..steps import OPENING
 from ..waiting import PATIENCE, wait_until
 from .folders import InFolder
+from .member_processes import manager_in
 
 LEFT_OUT = r' bully-member: (\d+) messages were left out, because nobody read them$'
 
@@ -109,11 +110,8 @@ class Services(InFolder):
     @contextlib.contextmanager
     def begun(self, member: Member) -> Iterator[Callable[[], bytes]]:
         """The member runs, with a manager: a function that says what that hears next."""
-        with socket.socket(socket.AF_UNIX, socket.SOCK_DGRAM) as manager:
-            manager.bind(str(self.folder / 'manager'))
-            manager.settimeout(PATIENCE)
-            with mock.patch.dict(os.environ, NOTIFY_SOCKET=str(self.folder / 'manager'), WATCHDOG_USEC='30000'):
-                told = systemd.Service(member, Workers(['true'], '1', 0.0))
+        with manager_in(self.folder, 30_000) as manager:
+            told = systemd.Service(member, Workers(['true'], '1', 0.0))
             thread = threading.Thread(target=member.run)
             thread.start()
             self.addCleanup(thread.join)

@@ -3,7 +3,6 @@ from __future__ import annotations
 
 import os
 import signal
-import socket
 import subprocess
 import sys
 import time
@@ -15,9 +14,10 @@ from bully.processes import ENDS
 from bully.pruning import Pruning
 from bully.systemd import Service
 from places import environment
+from ..etcd_servers import free_ports
 from ..processes import children, has_loaded, is_running, name_of, parent_of, waits_for
 from ..waiting import PATIENCE, wait_until
-from .member_processes import BEGINS, WithMember, started
+from .member_processes import BEGINS, WithMember, member_words, started
 
 MOMENTS = (0.0, 0.01, 0.03, 0.06, 0.1, 0.2, 0.4, 0.8)  # seconds, at which a signal comes
 WITHIN = ('unshare', '--pid', '--fork', '--kill-child', '--mount-proc')  # where the member is the first process
@@ -33,8 +33,7 @@ class Signals(WithMember):
             with self.subTest(signal=number.name):
                 if count:
                     member.begin_again()
-                worker = member.worker()
-                (self.folder / 'begun').unlink()
+                worker = member.next_worker()
                 watchdog = parent_of(worker)
                 wait_until(lambda: name_of(worker) == 'sleep')
                 self.assertFalse(waits_for(worker, number), 'a worker begins as any process')
@@ -47,17 +46,14 @@ class Signals(WithMember):
 
     def test_a_hangup_that_is_ignored(self) -> None:
         """What was begun by nohup stays at the end of its terminal."""
-        self.begin(BEGINS).kill()
-        member = self.begin_as('sh', '-c', 'trap "" HUP; exec "$@"', 'sh')
-        self.addCleanup(member.wait, PATIENCE)
-        self.addCleanup(member.kill)
-        wait_until((self.folder / 'begun').exists)
+        self.init()
+        member = self.begin_as(['sh', '-c', BEGINS], within=['sh', '-c', 'trap "" HUP; exec "$@"', 'sh'])
+        member.next_worker()
         before = self.until()
-        member.send_signal(signal.SIGHUP)
+        member.process.send_signal(signal.SIGHUP)
         wait_until(lambda: self.until() > before)
-        member.terminate()
-        self.assertEqual(member.wait(PATIENCE), 0)
-        self.assertNotIn('SIGHUP', (self.folder / 'said').read_text())
+        self.assertEqual(member.end(), 0)
+        self.assertNotIn('SIGHUP', member.said)
 
     def test_a_storm(self) -> None:
         """It leaves in order, with status 0, however many signals come up to its end."""
@@ -65,8 +61,7 @@ class Signals(WithMember):
         for count in range(3):
             if count:
                 member.begin_again()
-            member.worker()
-            (self.folder / 'begun').unlink()
+            member.next_worker()
             while member.process.poll() is None:
                 for number in ENDS:
                     member.process.send_signal(number)
@@ -82,24 +77,18 @@ class Signals(WithMember):
         ran = subprocess.run(words, env=environment(), stdout=subprocess.PIPE, text=True, timeout=PATIENCE)
         self.assertEqual((ran.returncode, ran.stdout), (4, 'True\n'))  # there is no log
 
-    def begin_as(self, *within: str) -> subprocess.Popen[bytes]:
-        """The same member again, begun by these words."""
-        (self.folder / 'begun').unlink(missing_ok=True)
-        return started(self.folder, [*within, *self.words])
-
     def until(self) -> int:
         """Up to when the lease is held."""
         return int(self.opened()._one('select max(until) from leases'))
 
     def test_as_it_begins(self) -> None:
         """At whichever moment: it has acquired nothing yet, or releases it."""
-        self.begin(BEGINS).kill()
+        self.init()
         for moment in MOMENTS:
             with self.subTest(moment=moment):
-                member = self.begin_as()
+                member = self.begin_as(['sh', '-c', BEGINS])
                 time.sleep(moment)
-                member.terminate()
-                self.assertIn(member.wait(PATIENCE), (0, -signal.SIGTERM), (self.folder / 'said').read_text())
+                self.assertIn(member.end(), (0, -signal.SIGTERM), member.said)
                 self.assertEqual(self.opened().snapshot(1, 0).holders, {})
 
     def test_what_has_not_begun(self) -> None:
@@ -112,14 +101,12 @@ class Signals(WithMember):
 
     def test_the_first_process(self) -> None:
         """As that of a container it hears signals since its first line: others of its kind lose what isn't heard."""
-        self.begin(BEGINS).kill()
-        self.see_first(self.words, {}, has_loaded_package)
+        self.init()
+        self.see_first(member_words(self.options, ['sh', '-c', BEGINS]), {}, has_loaded_package)
 
     def test_a_container(self) -> None:
         """The first program of the container holds them back, so that none is lost since that has begun."""
-        with socket.create_server(('127.0.0.1', 0)) as free:
-            port = free.getsockname()[1]
-        words, more = self.container(port)
+        words, more = self.container(*free_ports(1))
         # (unshare holds it back for a moment, too, and lets it by before it becomes that program)
         self.see_first(words, more, lambda first: name_of(first) != WITHIN[0] and waits_for(first, signal.SIGTERM))
 

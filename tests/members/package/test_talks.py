@@ -5,7 +5,6 @@ import json
 import socket
 import subprocess
 import sys
-import threading
 from functools import partial
 from pathlib import Path
 from typing import Any
@@ -107,18 +106,17 @@ class Talks(Below):
         """It is one process, and is told all."""
         workers = self.begin('talks')
         for events in range(3, 6):
-            workers.stop(assigned(0))
+            workers.stop()
             workers.start(assigned(events, 1))
-        workers.stop(assigned(0))
+        workers.stop()
         lines = [line.partition(' ') for line in self.heard(8)]
         self.assertEqual(len({process for process, _, _ in lines}), 1)
         told = [json.loads(line) for _, _, line in lines]
         settings = told[0].pop('settings')
         self.assertEqual(told[0], {'begin': 40000002, 'partitions': [0, 5], 'coordinator': 'c'})
         self.assertEqual((settings['names'], settings['ttl']), (['a', 'b', 'c'], 4.0))
-        self.assertEqual(
-            [each.get('begin') for each in told], [40000002, None, 40000003, None, 40000004, None, 40000005, None]
-        )
+        wanted = [40000002, None, 40000003, None, 40000004, None, 40000005, None]
+        self.assertEqual([each.get('begin') for each in told], wanted)
         worker = self.worker()
         workers.close()
         self.assertFalse(is_running(worker))
@@ -127,16 +125,14 @@ class Talks(Below):
     def test_long_lines(self) -> None:
         """A line may be longer than a pipe holds, and is read slowly."""
         workers = self.begin('talks')
-        workers.stop(assigned(0))
+        workers.stop()
         names = tuple(f'{number:0300}' for number in range(1000))  # more than a message to the watchdog has room for
         for events in (3, 4):
             workers.start(Assignment(Token.of(4, events), 3, tuple(range(4096)), Settings(Setup(1000, 4096), names)))
             told = json.loads(self.heard(2 * events - 3)[-1].partition(' ')[2])
-            self.assertEqual(
-                (told['begin'], told['partitions'], told['settings']['names']),
-                (Token.of(4, events), list(range(4096)), list(names)),
-            )
-            workers.stop(assigned(0))
+            self.assertEqual((told['begin'], told['partitions']), (Token.of(4, events), list(range(4096))))
+            self.assertEqual(told['settings']['names'], list(names))
+            workers.stop()
         self.assertEqual((self.failures, self.lost), ([], []))
 
     def test_no_room(self) -> None:
@@ -148,15 +144,15 @@ class Talks(Below):
             wait_until(lambda: self.lost)
         self.assertIn('the worker failed, with status -9', said.output[0])
         self.assertEqual(self.failures, [])
-        workers.stop(assigned(0))
+        workers.stop()
 
     def test_until(self) -> None:
         """It is killed at that moment if it is at work, otherwise it stays."""
         workers = self.begin('talks')
         worker = self.worker()
-        workers.stop(assigned(0))
+        workers.stop()
         workers.hear_until(clocks.seconds_of_boot() - 1)
-        workers.stop(assigned(0))
+        workers.stop()
         self.assertTrue(is_running(worker))
         workers.hear_until(clocks.seconds_of_boot() + 1000)
         workers.start(assigned(3, 1))
@@ -164,18 +160,18 @@ class Talks(Below):
         workers.hear_until(clocks.seconds_of_boot())
         wait_until(lambda: self.lost)
         self.assertFalse(is_running(worker))
-        workers.stop(assigned(0))
+        workers.stop()
         workers.hear_until(clocks.seconds_of_boot() + 1000)
         workers.start(assigned(3, 1))
         wait_until(lambda: self.worker() != worker)
-        workers.stop(assigned(0))
+        workers.stop()
         self.assertEqual((self.failures, self.lost), ([], [assigned(3, 1)]))
 
     def test_too_late(self) -> None:
         """One that is idle isn't told of work whose time is over: it is killed, and another one begins after that."""
         workers = self.begin('talks')
         worker = self.worker()
-        workers.stop(assigned(0))
+        workers.stop()
         workers.hear_until(clocks.seconds_of_boot() - 1)
         workers.start(assigned(3, 1))
         wait_until(lambda: self.lost)
@@ -184,7 +180,7 @@ class Talks(Below):
         workers.hear_until(clocks.seconds_of_boot() + 1000)
         workers.start(assigned(4, 1))
         self.assertIn('40000004', self.heard(3)[-1])
-        workers.stop(assigned(0))
+        workers.stop()
         self.assertEqual(self.failures, [])
 
     def test_no_answer(self) -> None:
@@ -196,7 +192,7 @@ class Talks(Below):
                 workers = self.begin(way, patience)
                 worker = self.worker()
                 workers.hear_until(clocks.seconds_of_boot() + seconds)
-                workers.stop(assigned(0))
+                workers.stop()
                 self.assertFalse(is_running(worker))
         self.assertEqual((self.failures, self.lost), ([], []))
 
@@ -204,10 +200,10 @@ class Talks(Below):
         """What it answered before it was told to stop is no answer."""
         workers = self.begin('early', patience=0.3)
         worker = self.worker()
-        workers.stop(assigned(0))
+        workers.stop()
         workers.start(assigned(3, 1))
         self.heard(3)
-        workers.stop(assigned(0))  # it doesn't answer this one
+        workers.stop()  # it doesn't answer this one
         self.assertFalse(is_running(worker))
         self.assertEqual(self.failures, [])
 
@@ -217,11 +213,11 @@ class Talks(Below):
         counts = []
         for events in range(3, 7):
             counts.append(descriptors_of(workers._watchdog.pid))
-            workers.stop(assigned(0))
+            workers.stop()
             workers.start(assigned(events, 1))
             self.heard(2 * events - 3)
         self.assertEqual(len(set(counts)), 1, counts)
-        workers.stop(assigned(0))
+        workers.stop()
 
     def test_a_member_that_is_gone(self) -> None:
         """Then it is not enough that a worker answers: it is killed if it doesn't end."""
@@ -272,28 +268,27 @@ class Talks(Below):
                 wait_until(begun.exists)
                 (worker,) = below(workers._watchdog.pid)
                 workers.hear_until(clocks.seconds_of_boot() + seconds)
-                thread = threading.Thread(target=workers.stop, args=[assigned(0)], daemon=True)
-                thread.start()
-                wait_until(lambda: not is_running(worker) and not thread.is_alive())
+                workers.stop()
+                self.assertFalse(is_running(worker))
         self.assertEqual(self.failures, [])
 
     def test_ends(self) -> None:
         """To end is an answer, too. By itself it may not."""
         workers = self.begin('ends')
-        workers.stop(assigned(0))
+        workers.stop()
         workers.start(assigned(3, 1))
-        workers.stop(assigned(0))
+        workers.stop()
         lines = self.heard(4)
         self.assertEqual(len({line.split()[0] for line in lines}), 2)
         self.assertEqual(self.failures, [])
         workers = self.begin('fails')
-        workers.stop(assigned(0))
+        workers.stop()
         with self.assertLogs('bully', 'WARNING') as said:
             workers.start(assigned(3, 1))
             wait_until(lambda: self.lost)
         self.assertIn('with status 9', said.output[0])
         self.assertEqual((self.failures, self.lost), ([], [assigned(3, 1)]))
-        workers.stop(assigned(0))
+        workers.stop()
 
     # In a cooperative group.
 
@@ -441,7 +436,7 @@ class Talks(Below):
                     files = [folder / str(each) for each in partitions]
                     wait_until(lambda: all(file.exists() and file.read_text().count(wanted) > 1 for file in files))
                     processes.add(below(workers._watchdog.pid)[0])
-                    workers.stop(assigned(0))
+                    workers.stop()
                     before, sizes = sizes, {file: file.stat().st_size for file in folder.iterdir()}
                     self.assertEqual(
                         [file for file, size in before.items() if sizes[file] != size and file not in files], []

@@ -23,7 +23,7 @@ from bully.worker import ChildrenUnlisted, WatchdogLost, WorkerEnded, WorkerStuc
 from places import environment
 
 from ..processes import (
-    below, children, descriptors_of, freeze, halt_by_debugger, halt_by_group, has_stopped, is_running, keepers, name_of, parent_of, thaw,
+    below, children, descriptors_of, freeze, halt_by_debugger, halt_by_group, has_stopped, ignores, is_running, keepers, name_of, parent_of, thaw,
 )  # fmt: skip
 from ..waiting import PATIENCE, wait_until
 from .below import Below, Timely, assigned
@@ -147,7 +147,7 @@ class Watchdogs(Below):
                 workers = self.begin(way, patience)
                 for _ in range(3):
                     self.assertEqual((self.folder / 'begun').read_text().split()[2:], ['40000002', '0', '5'])
-                    workers.stop(assigned(0))
+                    workers.stop()
                     self.assertTrue(self.are_gone())
                     (self.folder / 'begun').unlink()
                     self.begin_again(workers)
@@ -177,7 +177,7 @@ class Watchdogs(Below):
                 told = dict(line.split('=', 1) for line in (self.folder / 'env').read_text().splitlines())
                 self.assertEqual(told.get('BULLY_SETTINGS'), text if is_there else None)
                 self.assertEqual(len(told['BULLY_PARTITIONS'].split()), settings.setup.partitions)
-                workers.stop(assigned(0))
+                workers.stop()
                 (self.folder / 'settings').unlink()
         self.assertEqual((self.failures, self.lost), ([], []))
 
@@ -186,9 +186,7 @@ class Watchdogs(Below):
         workers = self.made(['sleep', '1000'], 3600.0, 3600.0)
         for _ in range(10):
             workers.start(self.assignment)
-            thread = threading.Thread(target=workers.stop, args=[self.assignment], daemon=True)
-            thread.start()
-            wait_until(lambda: not thread.is_alive())
+            workers.stop()
 
     def test_until(self) -> None:
         """It is killed at that moment, also while it is stopped, and with what it started. Its member hears of that
@@ -201,7 +199,7 @@ class Watchdogs(Below):
         wait_until(self.are_gone)
         self.assertGreaterEqual(clocks.seconds_of_boot(), until)
         wait_until(lambda: self.lost)
-        workers.stop(assigned(0))
+        workers.stop()
         self.assertEqual((self.failures, self.lost), ([], [self.assignment]))
 
     def test_another_group(self) -> None:
@@ -213,7 +211,7 @@ class Watchdogs(Below):
         for _ in range(2):
             workers.start(self.assignment)
             wait_until((self.folder / 'begun').exists)
-            workers.stop(assigned(0))
+            workers.stop()
             for name in ('told', 'begun'):
                 (self.folder / name).unlink()
         self.assertEqual((self.failures, self.lost), ([], []))
@@ -224,7 +222,7 @@ class Watchdogs(Below):
         self.keeper(workers)
         workers.start(self.assignment)
         wait_until(lambda: self.lost or self.failures)
-        workers.stop(assigned(0))
+        workers.stop()
         self.assertFalse((self.folder / 'begun').exists())
 
     def test_unread(self) -> None:
@@ -249,7 +247,7 @@ class Watchdogs(Below):
         (failure,) = self.failures
         self.assertIsInstance(failure, WorkerEnded)
         self.assertEqual(getattr(failure, 'status'), 0)
-        workers.stop(assigned(0))
+        workers.stop()
         self.assertEqual(self.lost, [])
 
     def test_fails_late(self) -> None:
@@ -263,7 +261,7 @@ class Watchdogs(Below):
                 wait_until(lambda: len(said.output) == count)
                 self.assertIn(f'failed, with status 7, and is started again in {backoff:.1f} s', said.output[-1])
                 wait_until(lambda: len(self.lost) == count)
-                workers.stop(assigned(0))
+                workers.stop()
         self.assertEqual(self.failures, [])
 
     def test_fails_at_once(self) -> None:
@@ -277,12 +275,12 @@ class Watchdogs(Below):
                 wait_until(lambda: len(said.output) == count)
                 failed = clocks.seconds_of_boot()
                 self.assertIn(f'failed, with status 7, and is started again in {backoff:.1f} s', said.output[-1])
-                workers.stop(assigned(0))
+                workers.stop()
                 workers.start(assigned(count + 2, 0))
                 wait_until(lambda: assigned(count + 2, 0) in self.lost)
                 self.assertGreater(clocks.seconds_of_boot() - failed, backoff - 0.1)
                 self.assertEqual((len(begins.read_text().split()), workers.backoff_seconds), (count, 0.0))
-                workers.stop(assigned(0))
+                workers.stop()
                 workers.start(assigned(count + 2, 0))
             wait_until(lambda: len(said.output) == 4)
         self.assertEqual(begins.read_text().split(), ['40000002', '40000003', '40000004', '40000005'])
@@ -307,14 +305,9 @@ class Watchdogs(Below):
         self.member.is_leaving = True
         wait_until(lambda: self.member.stuck)
         self.assertEqual([type(each) for each in self.member.stuck], [WorkerStuck])
-        ending = threading.Thread(target=workers.end, daemon=True)
-        ending.start()
-        ending.join(PATIENCE)
-        self.assertEqual((ending.is_alive(), self.member.ends, self.failures), (False, [], []))
-        closing = threading.Thread(target=workers.close, daemon=True)
-        closing.start()
-        closing.join(PATIENCE)
-        self.assertFalse(closing.is_alive())
+        workers.end()
+        self.assertEqual((self.member.ends, self.failures), ([], []))
+        workers.close()
         self.assertIsNone(workers._watchdog.poll())
         thaw(self.worker)
         self.assertEqual(workers._watchdog.wait(PATIENCE), 0)
@@ -325,7 +318,7 @@ class Watchdogs(Below):
         workers = self.begin('stubborn')
         os.kill(self.worker, signal.SIGSTOP)
         workers._watchdog.kill()
-        workers.stop(assigned(0))
+        workers.stop()
         self.assertTrue(self.are_gone())
         self.assertEqual([type(failure) for failure in self.failures], [WatchdogLost])
 
@@ -340,7 +333,7 @@ class Watchdogs(Below):
         self.assertEqual((self.failures, self.member.ends), ([], []))
         goes_on.set()
         wait_until(lambda: self.failures)
-        workers.stop(assigned(0))
+        workers.stop()
         self.assertEqual([type(failure) for failure in self.failures], [WatchdogLost])
 
     def test_watchdog_dies_while_its_member_is_stopped(self) -> None:
@@ -356,7 +349,7 @@ class Watchdogs(Below):
                 self.assertEqual((self.failures, self.member.ends), ([], []))
                 goes_on.set()
                 wait_until(lambda: self.failures)
-                workers.stop(assigned(0))
+                workers.stop()
                 self.assertEqual([type(failure) for failure in self.failures], [WatchdogLost])
                 self.failures.clear()
                 self.member.ends.clear()
@@ -370,7 +363,7 @@ class Watchdogs(Below):
                 os.kill(workers._watchdog.pid, number)
                 self.begin_again(workers)
                 os.kill(workers._watchdog.pid, number)
-                workers.stop(assigned(0))
+                workers.stop()
                 self.assertTrue(self.are_gone())
                 self.assertEqual((self.failures, self.lost, workers._watchdog.poll()), ([], [], None))
                 (self.folder / 'begun').unlink()
@@ -383,11 +376,11 @@ class Watchdogs(Below):
                 workers = self.begin('stubborn', patience=0.1)
                 os.kill(parent_of(self.worker), signal.SIGSTOP)
                 if stops:
-                    workers.stop(assigned(0))
+                    workers.stop()
                 else:
                     workers.hear_until(clocks.seconds_of_boot())
                     wait_until(self.are_gone)
-                    workers.stop(assigned(0))
+                    workers.stop()
                 self.assertTrue(self.are_gone())
                 self.assertEqual([type(failure) for failure in self.failures], [WatchdogLost])
                 self.failures.clear()
@@ -396,14 +389,15 @@ class Watchdogs(Below):
         os.kill(self.keeper(workers), signal.SIGSTOP)
         workers.start(self.assignment)
         wait_until(lambda: self.failures)
-        workers.stop(assigned(0))
+        workers.stop()
         self.assertIsInstance(self.failures[0], WatchdogLost)
 
-    def begin_unlisted(self, way: str, has_parents: bool = False) -> Timely:
-        """A worker that has begun, and whose keeper isn't told any more what is below it."""
+    def begin_unlisted(self, way: str, has_parents: bool = False, ttl: float = 20 * PATIENCE) -> Timely:
+        """A worker that has begun, and whose keeper isn't told any more what is below it. By this ttl its member waits
+        for longer than a busy machine takes."""
         since = self.folder / 'since'
         with mock.patch.dict(os.environ, unlisted_from(self, self.folder, since, has_parents)):
-            workers = self.made([sys.executable, '-c', WORKER, str(self.folder), way], 0.1, ttl=1.0)
+            workers = self.made([sys.executable, '-c', WORKER, str(self.folder), way], 0.1, ttl=ttl)
         self.begin_again(workers)
         since.touch()
         return workers
@@ -411,20 +405,20 @@ class Watchdogs(Below):
     def test_unlisted(self) -> None:
         """Whatever the kernel lists, a worker is killed with its process group, and has stopped then."""
         workers = self.begin_unlisted('whole')
-        workers.stop(assigned(0))
+        workers.stop()
         self.assertTrue(self.are_gone())
         (self.folder / 'begun').unlink()
         self.begin_again(workers)
         workers.hear_until(clocks.seconds_of_boot())
         wait_until(lambda: self.lost)
         self.assertTrue(self.are_gone())
-        workers.stop(assigned(0))
+        workers.stop()
         self.assertEqual((self.failures, self.lost), ([], [self.assignment]))
 
     def test_unlisted_children(self) -> None:
         """What the worker left is found by its parent."""
         workers = self.begin_unlisted('stubborn', has_parents=True)
-        workers.stop(assigned(0))
+        workers.stop()
         self.assertTrue(self.are_gone())
         self.assertEqual((self.failures, self.lost), ([], []))
 
@@ -432,16 +426,15 @@ class Watchdogs(Below):
         """What the worker left is not said to be gone by a watchdog to which it isn't listed: its member kills both."""
         for is_told in (True, False):
             with self.subTest(is_told=is_told):
-                workers = self.begin_unlisted('stubborn')
+                workers = self.begin_unlisted('stubborn', ttl=1.0)
                 with self.assertLogs('bully', 'ERROR') as said:
                     if not is_told:
                         workers.hear_until(clocks.seconds_of_boot())
                         wait_until(lambda: not is_running(self.worker))
-                    workers.stop(assigned(0))
+                    workers.stop()
                 self.assertTrue(self.are_gone())
-                self.assertTrue(
-                    said.output[0].endswith('nothing is started here before they end: they are not listed'), said.output
-                )
+                told = 'nothing is started here before they end: they are not listed'
+                self.assertTrue(any(line.endswith(told) for line in said.output), said.output)
                 self.assertEqual([type(failure) for failure in self.failures], [WatchdogLost])
                 self.assertEqual(self.lost, [])
                 self.failures.clear()
@@ -466,10 +459,8 @@ class Watchdogs(Below):
         sure."""
         workers = self.begin('stubborn', patience=3600.0)
         workers.hear_until(clocks.seconds_of_boot() + 0.3)
-        thread = threading.Thread(target=workers.stop, args=[self.assignment], daemon=True)
-        thread.start()
-        wait_until(self.are_gone)
-        wait_until(lambda: not thread.is_alive())
+        workers.stop()
+        self.assertTrue(self.are_gone())
         self.assertEqual((self.failures, self.lost), ([], []))
 
     def test_another_user(self) -> None:
@@ -576,10 +567,8 @@ class Watchdogs(Below):
         status = Path(f'/proc/{below(workers._watchdog.pid)[0]}/status').read_text().splitlines()
         masks = {line.split()[0]: int(line.split()[1], 16) for line in status if line.startswith(('SigIgn', 'SigBlk'))}
         self.assertEqual(masks, {'SigBlk:': 0, 'SigIgn:': 0})
-        of_watchdog = Path(f'/proc/{workers._watchdog.pid}/status').read_text()
-        ignored = int(of_watchdog.partition('SigIgn:')[2].split()[0], 16)
-        self.assertEqual(ignored >> signal.SIGCHLD - 1 & 1, 0, 'it would not hear how its keeper ends')
-        workers.stop(assigned(0))
+        self.assertFalse(ignores(workers._watchdog.pid, signal.SIGCHLD), 'it would not hear how its keeper ends')
+        workers.stop()
 
     def test_a_watchdog_that_is_stopped(self) -> None:
         """Its keeper hears of no renewal, for which nobody waits. After that a worker starts all the same."""
@@ -603,7 +592,7 @@ class Watchdogs(Below):
             os.kill(process, signal.SIGCONT)
         workers.start(self.assignment)
         wait_until(lambda: below(workers._watchdog.pid) or self.lost)
-        workers.stop(assigned(0))
+        workers.stop()
         self.assertEqual((self.failures, self.lost), ([], []))
 
     def test_orphans(self) -> None:
@@ -622,7 +611,7 @@ class Watchdogs(Below):
         wait_until(lambda: not any(map(is_running, left)))
         os.kill(keeper, signal.SIGCONT)
         wait_until(lambda: below(workers._watchdog.pid) == [worker])
-        workers.stop(assigned(0))
+        workers.stop()
         self.assertEqual((self.failures, self.lost), ([], []))
 
     def test_stopped_in_a_write(self) -> None:

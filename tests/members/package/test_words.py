@@ -18,41 +18,17 @@ from typing import Any
 from unittest import mock
 
 import bully
-from bully import command, exit_statuses, store_options
+from bully import command, commands, exit_statuses, store_options
 from bully.epochs import Opening
 from bully.shared_log import Log, LogExists
-from bully.sqlite import SqliteLog
 from places import ROOT, environment
 from ..processes import children
 from .configurations import TOP, toml
-from .folders import InFolder
-from .member_processes import BEGINS, MemberProcess, call
+from .member_processes import BEGINS, MemberProcess, WithLog, call
 from .threads import put
 
 PASSWORD = 'hidden'
 FAULT: dict[str, Any] = {'at': 1, 'node': 'b', 'kind': 'crash'}
-
-
-class WithLog(InFolder):
-    """Commands on a log in a file, of a group whose configuration is in a file, too."""
-
-    def setUp(self) -> None:
-        super().setUp()
-        self.config = self.folder / 'group.toml'
-        self.config.write_bytes(toml(TOP))
-        self.log = f'sqlite:{self.path}'
-
-    def of_log(self, *words: str) -> tuple[int, str, str]:
-        return call(*words, '--log', self.log)
-
-    def init(self, *words: str) -> tuple[int, str, str]:
-        return self.of_log('init', '--config', str(self.config), *words)
-
-    def configured(self, name: str, **more: Any) -> str:
-        """The path of another configuration."""
-        path = self.folder / name
-        path.write_bytes(toml({**TOP, **more}))
-        return str(path)
 
 
 class Inits(WithLog):
@@ -76,8 +52,7 @@ class Inits(WithLog):
         made = store_options.FileStore.create
         cases: list[tuple[list[str], int]] = [([], 7), (['--if-missing'], 0)]
         for words, status in cases:
-            self.path = self.folder / f'{status}.db'
-            self.log = f'sqlite:{self.path}'
+            self.use(status)
             with mock.patch.object(store_options.FileStore, 'create', make):
                 self.assertEqual(self.init(*words)[0], status)
 
@@ -108,10 +83,9 @@ class Inits(WithLog):
             (['--rebalance', 'cooperative'], 'cooperative', 'eager'),
         ]  # fmt: skip
         for number, (words, way, other) in enumerate(cases):
-            self.log = f'sqlite:{self.folder}/{number}.db'
+            self.use(number)
             self.assertEqual(self.init(*words)[0], 0)
-            with contextlib.closing(SqliteLog(f'{self.folder}/{number}.db')) as log:
-                self.assertEqual(log.opening().is_cooperative, way == 'cooperative')
+            self.assertEqual(self.opened().opening().is_cooperative, way == 'cooperative')
             self.assertEqual(self.init('--if-missing'), (0, '', ''))
             self.assertEqual(self.init('--if-missing', '--rebalance', way), (0, '', ''))
             said = f'bully-member: --rebalance is {other}, and the log is {way}\n'
@@ -253,8 +227,7 @@ class Configurations(WithLog):
         for number, (missing, mark) in enumerate(
             ((('events',), b''), (('turns',), b''), (('events', 'turns'), codecs.BOM_UTF8))
         ):
-            self.path = self.folder / f'{number}.db'
-            self.log = f'sqlite:{self.path}'
+            self.use(number)
             told = {**{name: value for name, value in TOP.items() if name not in missing}, 'fault': [FAULT]}
             self.config.write_bytes(mark + toml(told))
             with self.subTest(missing=missing):
@@ -347,11 +320,10 @@ class Outputs(WithLog):
 
     def test_an_encoding_without_room(self) -> None:
         """What it can't hold is an escape, and JSON is JSON."""
-        name, log = 'gr\u00f6\u00dfer\u2713', f'sqlite:{self.folder}/other.db'
-        config = self.folder / 'other.toml'
-        config.write_bytes(toml({**TOP, 'names': [name, 'b', 'c']}))
-        self.assertEqual(call('init', '--config', str(config), '--log', log)[0], 0)
-        for words in (['status', '--log', log], ['status', '--json', '--log', log]):
+        name = 'gr\u00f6\u00dfer\u2713'
+        self.configured('group.toml', names=[name, 'b', 'c'])
+        self.assertEqual(self.init()[0], 0)
+        for words in (['status', '--log', self.log], ['status', '--json', '--log', self.log]):
             command = [sys.executable, '-W', 'error', '-m', 'bully.command', *words]
             more = {'PYTHONIOENCODING': 'ascii', 'LC_ALL': 'C', 'PYTHONUTF8': '0'}
             ran = subprocess.run(command, env=environment(**more), capture_output=True)
@@ -441,7 +413,7 @@ class Completions(unittest.TestCase):
         return set(ran.stdout.split())
 
     def test_bash(self) -> None:
-        self.assertEqual(self.completed(''), {'--help', '--version', *command.COMMANDS})
+        self.assertEqual(self.completed(''), {'--help', '--version', *commands.COMMANDS})
         self.assertEqual(self.completed('un'), {'undrain'})
         self.assertLessEqual({'--log', '--if-missing', '--epoch', '--config'}, self.completed('init', '--'))
         self.assertEqual(self.completed('switchover', 'b', '--n'), set(), 'what is hidden in help is so here')
@@ -453,7 +425,7 @@ class Completions(unittest.TestCase):
 
     def test_each_word(self) -> None:
         """All that help lists of a command is offered."""
-        for name in command.COMMANDS:
+        for name in commands.COMMANDS:
             shown = set(re.findall(r'(?<![\w-])--[a-z][a-z-]*', call(name, '--help')[1].partition('options:')[2]))
             self.assertLessEqual(shown, self.completed(name, '--'), name)
 

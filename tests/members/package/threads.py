@@ -4,9 +4,11 @@ from __future__ import annotations
 import threading
 import time
 import unittest
+from collections import Counter
 from collections.abc import Callable, Sequence
 from typing import Any
 
+from bully import view
 from bully.clocks import seconds_of_boot
 from bully.core import Promise, Session
 from bully.epochs import Opening, Token
@@ -14,7 +16,7 @@ from bully.member import Member
 from bully.memory import MemoryLog
 from bully.shared_log import Log, Precondition, Snapshot, Unanswered
 from ..steps import LONG
-from ..waiting import PATIENCE
+from ..waiting import PATIENCE, wait_until
 
 
 def put(log: Log, *rows: str) -> None:
@@ -26,23 +28,43 @@ def put(log: Log, *rows: str) -> None:
 
 
 class Troubled(MemoryLog):
-    """A log that doesn't answer while it is silent."""
+    """A log that doesn't answer while it is silent, nor to nodes that are cut off; and notes what it is asked."""
 
     def __init__(self, opening: Opening) -> None:
         super().__init__(opening)
         self.is_silent = False
+        self.cut: set[str] = set()
+        self.renewals: Counter[str] = Counter()
+        self.reads: Counter[str] = Counter()  # snapshots, by the names of threads
+        self.appends: list[int] = []  # the offsets
 
-    def check(self) -> None:
-        if self.is_silent:
+    def check(self, name: str = '') -> None:
+        if self.is_silent or name in self.cut:
             raise Unanswered('silent')
 
     def renew(self, name: str, session: Session, ttl: int) -> bool:
-        self.check()
+        self.check(name)
+        self.renewals[name] += 1
         return super().renew(name, session, ttl)
 
     def snapshot(self, epoch: int, offset: int, promise_of: str | None = None) -> Snapshot:
         self.check()
+        self.reads[threading.current_thread().name] += 1
         return super().snapshot(epoch, offset, promise_of)
+
+    def append(self, epoch: int, offset: int, rows: Sequence[str], known: Precondition | None = None) -> bool:
+        self.appends.append(offset)
+        return super().append(epoch, offset, rows, known)
+
+    def pass_renewals(self, names: str, count: int = 5) -> None:
+        """So often the members of these nodes renew: so they had time to do more, if they were to."""
+        before = self.renewals.copy()
+        wait_until(lambda: all(self.renewals[name] >= before[name] + count for name in names))
+
+    def let_die(self, name: str) -> None:
+        """The member of this node isn't heard of up to the end of its lease, and longer."""
+        self.cut.add(name)
+        wait_until(lambda: name not in self.holders)
 
 
 class Slow(MemoryLog):
@@ -60,18 +82,6 @@ class Slow(MemoryLog):
         self.begun = seconds_of_boot()
         time.sleep(0.1)
         return done
-
-
-class Noting(MemoryLog):
-    """A log that notes at which offsets it was asked to append."""
-
-    def __init__(self, opening: Opening) -> None:
-        super().__init__(opening)
-        self.appends: list[int] = []
-
-    def append(self, epoch: int, offset: int, rows: Sequence[str], known: Precondition | None = None) -> bool:
-        self.appends.append(offset)
-        return super().append(epoch, offset, rows, known)
 
 
 class Threads(unittest.TestCase):
@@ -117,3 +127,9 @@ class Threads(unittest.TestCase):
     def token_of(self, log: MemoryLog) -> Token:
         """That of the first plan."""
         return Token.of(1, 1 + next(offset for offset, row in enumerate(log.rows) if row.startswith('plan')))
+
+    def viewed(self, log: Log, behind: view.ChangeWaits | None = None, ttl: float = 2.0) -> view.LogView:
+        """A view up to the end of the test."""
+        shown = view.LogView(log, behind, ttl)
+        self.addCleanup(shown.close)
+        return shown
