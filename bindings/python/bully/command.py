@@ -610,7 +610,7 @@ def run_command(options: argparse.Namespace) -> int:
             )
         )  # fmt: skip
         service = Service(member, workers)  # before any process starts that would inherit the environment
-        workers.begin(member, store.path if isinstance(store, FileStore) else '', releases_of(options, store, log))
+        workers.watch(member, store.path if isinstance(store, FileStore) else '', releases_of(options, store, log))
         closing.callback(workers.close)
         if page is not None:
             page.show(ask_until_answered(lambda: LogView(store.open(reads=True), member.behind, ttl)), member, workers)

@@ -101,7 +101,7 @@ class Below(unittest.TestCase):
         workers.asker = self.member
         self.member.ttl, self.member.margin = ttl, ttl / 5
         self.member.working = self.member.stopping = frozenset()  # of workers before
-        workers.begin(cast(Member, self.member), '', self.releases)
+        workers.watch(cast(Member, self.member), '', self.releases)
         self.addCleanup(workers.close)
         workers.hear_until(clocks.seconds_of_boot() + seconds)
         return workers

@@ -254,7 +254,7 @@ class GivesUp(Threads):
     def fail_from_now_on(self, work: Work) -> None:
         """It works, and fails from now on."""
         wait_until(work.member.assignment)
-        assigned = work.member._work
+        assigned, _, _ = work.member._shown
         assert assigned is not None
         work.fails = True
         work.failures.failed(seconds_of_boot())
