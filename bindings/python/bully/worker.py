@@ -127,7 +127,7 @@ class Workers:
         watchdog does that once this process is gone, and nothing is left of a worker. This process kills what a
         watchdog that died leaves. Raises ForeignLog and ChildrenUnlisted."""
         see_one_clock()
-        self._member, self._others, self._failures.ttl = member, children_listed(), member.ttl
+        self._member, self._others = member, children_listed()
         self._releases = releases
         adopt()
         self._settings = os.fdopen(os.memfd_create('settings'), 'wb')

@@ -317,6 +317,8 @@ class Commands(InFolder):
             '--log',
             f'sqlite:{self.path}',
         ]
+        # (the test may run in the background of a shell, whose processes ignore ^C)
+        self.addCleanup(signal.signal, signal.SIGINT, signal.signal(signal.SIGINT, signal.default_int_handler))
         with subprocess.Popen(
             words, env=environment(), stdout=subprocess.PIPE, stderr=subprocess.PIPE, text=True
         ) as shows:

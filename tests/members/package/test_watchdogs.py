@@ -58,7 +58,7 @@ logging.basicConfig(stream=sys.stdout, format='%(message)s')
 worker._logger.error = lambda _, processes: print('these processes may work on:', processes, flush=True)
 failures, ended = [], []
 words = [rooted, '--reuid', '0', '--regid', '0', '--clear-groups', 'sh', '-c', 'echo $$; exec sleep 1000']
-workers = worker.Workers(words, 'x', 0.1)
+workers = worker.Workers(words, 'x', 0.1, failures=worker.Failures(ttl=2.0))
 member = SimpleNamespace(ttl=2.0, margin=0.4, end_with=failures.append, ended=ended.append, is_leaving=True)
 workers.watch(member)
 workers.hear_until(clocks.seconds_of_boot() + 1000.0)
