@@ -69,6 +69,8 @@ PARTS = [
     Part('over-etcd', f'{MEMBERS} --over-etcd', 'library', short='--to 20', whole='--to 100', full='--to 10000', limit=7200),
     Part('epochs-over-etcd', f'{MEMBERS} --over-etcd --epochs', 'library', short='--to 12', whole='--to 60', full='--to 3000', limit=7200),
     Part('told', f'{MEMBERS} --told', 'library', short='--to 12', whole='--to 60', full='--to 3000', limit=7200),
+    Part('careless-store', f'{MEMBERS} --careless-store', 'library', short='--to 20', whole='--to 100', full='--to 3000', limit=7200),
+    Part('long', f'{MEMBERS} --long', 'library', short='100', whole='1000', full='10000', limit=7200),
     Part('cooperating', 'tests/members/run cooperating BUILT/library', 'library', short='--to 25', whole='--to 100', full='--to 3000', limit=7200),
     Part('etcd', 'tests/members/run compare BUILT/library', 'library', 'etcd', short='--requests 1000 --logs 300'),
     Part('kills', 'tests/members/run try BUILT/library', 'library', short='--kills 2 --pauses 2 --epochs 1 --maintenance 1 --share 3',
