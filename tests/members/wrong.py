@@ -222,14 +222,16 @@ def patiently(finder: tuple[str, str], tries: int) -> tuple[str, str]:
     return word, re.sub(r'--patience (\d+)', lambda found: f'--patience {int(found[1]) << tries}', more)
 
 
-def outcome_of(room: Room, finder: tuple[str, str], wanted: str) -> str:
-    """The outcome in a room, of the first try that comes out as it must, or of the last one."""
-    outcome = ''
+def outcome_of(room: Room, finder: tuple[str, str], wanted: str) -> tuple[str, str]:
+    """The outcome in a room, of the first try that comes out as it must, or of the last one; and how long all took, and
+    how many tries, if there was more than one."""
+    began = time.monotonic()
     for tries in range(TRIES):
         outcome = room.outcome(patiently(finder, tries))
         if outcome in (wanted, 'skipped'):
             break
-    return outcome
+    took = f'in {time.monotonic() - began:.1f} s'
+    return outcome, f'{took}, at try {tries + 1}' if tries else took
 
 
 class Trial:
@@ -262,11 +264,12 @@ class Trial:
             return
         room = self.room(str(number), self.libraries[bug.edit], bug)
         for finder in bug.finders:
-            before = self.before.get(finder) or outcome_of(self.right, finder, 'passed')
-            self.before[finder], begun = before, time.monotonic()
-            after = outcome_of(room, finder, 'failed')
             told = f'{" ".join(finder)}: {bug.sentence}'
-            print(f'{after} in {time.monotonic() - begun:.1f} s: {told}', flush=True)
+            if finder not in self.before:
+                self.before[finder], took = outcome_of(self.right, finder, 'passed')
+                print(f'{self.before[finder]} {took} without it: {told}', flush=True)
+            before, (after, took) = self.before[finder], outcome_of(room, finder, 'failed')
+            print(f'{after} {took}: {told}', flush=True)
             both = f'{before} without it, and {after} with it: {told}'
             yield {('passed', 'failed'): 'found', ('skipped', 'skipped'): 'skipped'}.get(
                 (before, after), 'missed'

@@ -94,7 +94,8 @@ class Driver:
         self.log, self.name, self.process, self._lasts = log, opening.names[node - 1], process, lasts or (lambda: ttl)
         self._has_announced = False  # whether it has noted in the log that it leaves
         self._kept: tuple[int, ...] = ()  # the partitions that the last requested promise keeps
-        self.working = self.stopping = NONE  # the partitions on which it works, and those of which work has to end
+        # (by the core, which holds that: the partitions on which it works, and those of which work has to end)
+        self.working = self.stopping = NONE
         self._enter(opening)
 
     def _enter(self, opening: Opening) -> None:
@@ -154,7 +155,7 @@ class Driver:
         return StopWork(self.stopping - before)
 
     def _look(self) -> None:
-        """What its process does on each partition, by the core."""
+        """What its process does on each partition, by the core: after each change of that."""
         there: dict[Activity, list[int]] = {each: [] for each in Activity}
         for partition, activity in enumerate(self.core.activities()):
             there[activity].append(partition)
@@ -243,12 +244,12 @@ class Driver:
 
     def ended(self, partitions: Collection[int]) -> None:
         """The work on these partitions has ended, asked for or not."""
-        self.working, self.stopping = self.working.difference(partitions), self.stopping.difference(partitions)
-        if self.working or self.stopping:
+        if (self.working | self.stopping).issubset(partitions):
+            self.core.stopped()
+        else:
             for partition in partitions:
                 self.core.stopped_on(partition)
-        else:
-            self.core.stopped()
+        self._look()
 
     def leave(self) -> None:
         """It must end in order."""

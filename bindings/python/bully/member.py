@@ -4,7 +4,6 @@ from __future__ import annotations
 import collections
 import dataclasses
 import logging
-import queue
 import secrets
 import socket
 import threading
@@ -27,7 +26,7 @@ from .view import ChangeWaits
 from .work_failures import Failures, GivingUp
 
 from .working import (
-    Assigned, Assignment as Assignment, Callback, Callbacks, PartitionCallbacks, Revoked, WholeCallbacks, Working,
+    Assigned, Assignment as Assignment, Callback, Callbacks, Calls, PartitionCalls, Revoked, WholeCalls, Working,
 )  # fmt: skip
 
 ENDINGS = {
@@ -121,15 +120,12 @@ class Member:
         self._sure, self._acquires = sure, acquires
         self._is_leaving = False
         self._is_stuck = False  # whether a stop failed, so that work may never stop
-        self._work: Assignment | None = (
-            None  # what its node owned when it last began; on some of it work may have ended
-        )
-        self._to_call: queue.SimpleQueue[Callable[[], None] | None] = queue.SimpleQueue()
         self._reports: Deque[Collection[int]] = collections.deque()  # partitions on which work has ended
         self._woken: socket.socket  # while it runs: can be read once it is woken
         self._wakes: socket.socket | None = None  # while it runs
         self._ended = threading.Event()
         self._ended.set()
+        # (what its node owns, as far as it works there; until when its lease is sure; whether it leads)
         self._shown: tuple[Assignment | None, float, bool] = NOTHING
         self.stepped = 0.0  # the time of its last step, by `clocks.seconds_of_boot`
 
@@ -139,14 +135,14 @@ class Member:
     ) -> Working:  # fmt: skip
         """What does the work: the one kind that is given. Raises TypeError."""
         (start, stop), (assigned, revoked) = whole, by_partition
-        kinds: list[Working] = [] if work is None else [work]
+        kinds: list[Working | Calls] = [] if work is None else [work]
         if start is not None and stop is not None:
-            kinds.append(WholeCallbacks(self, self._note_ended, self.name, start, stop))
+            kinds.append(WholeCalls(self, self._note_ended, self.name, start, stop))
         if assigned is not None and revoked is not None:
-            kinds.append(PartitionCallbacks(self, self._note_ended, self.name, assigned, revoked, on_lost))
+            kinds.append(PartitionCalls(self, self._note_ended, self.name, assigned, revoked, on_lost))
         if len(kinds) != 1:
             raise TypeError('a member needs start and stop, or on_assigned and on_revoked, or work')
-        return kinds[0]
+        return Callbacks(kinds[0], self.get_stuck) if isinstance(kinds[0], Calls) else kinds[0]
 
     def _driver_of(self, opening: Opening, node: int | str) -> Driver:
         """A driver that takes part from this epoch on, as a process with a number of its own."""
@@ -227,14 +223,14 @@ class Member:
         The member stops what is left of it, and starts again what the node still owns. For `start` it must be the
         object that was given last. Without callbacks `ended` reports that."""
         if isinstance(self._does, Callbacks):
-            self._to_call.put(partial(self._does.lose, assignment))
+            self._does.lose(assignment)
 
     def ended(self, partitions: Collection[int]) -> None:
         """Reports that the work on these partitions has ended, asked for or not. The member starts it again where the
         node still owns them. With `start` and `stop` it first stops all of it."""
         ended = frozenset(partitions)
         if isinstance(self._does, Callbacks):
-            self._to_call.put(partial(self._does.ended, ended))
+            self._does.ended(ended)
         else:
             self._note_ended(ended)
 
@@ -258,14 +254,12 @@ class Member:
             ending.callback(self._ended.set)
             woken, wakes = socket.socketpair()
             self._woken, self._wakes = ending.enter_context(woken), ending.enter_context(wakes)
-            caller = threading.Thread(target=self._call_all, name='bully work', daemon=True)
-            caller.start()
+            self._does.begin()
             try:
                 self._go_on()
             finally:
                 self._shown = None, self.sure_until, False
-                self._to_call.put(None)  # however the run ended
-                caller.join()
+                self._does.end()  # however the run ended
         if self.failure is not None:
             raise self.failure
 
@@ -341,8 +335,10 @@ class Member:
         while self._reports:
             self._driver.ended(self._reports.popleft())
 
-    def _show(self) -> None:
-        shown = None if self._work is None else self._work.left(self._driver.working)
+    def _show(self, begun: Assignment | None = None) -> None:
+        """Shows what its node owns, if its work begins on that, or else what is left of what was shown."""
+        work = begun or self._shown[0]
+        shown = None if work is None else work.left(self._driver.working)
         leads = not (self._driver.stopping or self.opening.is_cooperative) and self._is_coordinator(shown)
         self._shown = shown, self.core.sure_until / SECOND, leads
 
@@ -373,15 +369,14 @@ class Member:
     def _start(self, step: Start) -> None:
         """Starts the work on what its node owns, and goes on where it works already."""
         token, partitions = Token.of(self.opening.epoch, step.owned.token), step.owned.partitions
-        self._work = work = Assignment(token, step.coordinator, partitions, self.opening.settings)
-        self._show()
-        self._to_call.put(partial(self._does.start, work, step.added))
+        work = Assignment(token, step.coordinator, partitions, self.opening.settings)
+        self._show(work)
+        self._does.start(work, step.added)
 
     def _stop(self, partitions: frozenset[int]) -> None:
         """Stops the work that it may not go on with. It isn't shown any more."""
         self._show()
-        left = None if self._work is None else self._work.left(self._driver.working)
-        self._to_call.put(partial(self._does.stop, left, partitions))
+        self._does.stop(self._shown[0], partitions)
 
     def _wait(self, step: WaitForNews) -> None:
         """Waits for news in the log, or until it is woken; unless it must note something in the log."""
@@ -461,18 +456,3 @@ class Member:
         except Unanswered as unanswered:
             _logger.warning('node %s: %s', shown_name(self.name), unanswered)
             return None
-
-    # The callbacks, in their own thread.
-
-    def _call_all(self) -> None:
-        """Makes the calls that it is asked for, one after the other; at the end its work ends."""
-        for call in iter(self._to_call.get, None):
-            self._call(call)
-        self._call(self._does.end)
-
-    def _call(self, call: Callable[[], None]) -> None:
-        """If that raises an exception, which the callbacks don't here, it isn't known what goes on."""
-        try:
-            call()
-        except BaseException as failure:
-            self.get_stuck(failure)

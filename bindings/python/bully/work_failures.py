@@ -73,7 +73,7 @@ class Failures:
     `clocks.seconds_of_boot`."""
 
     def __init__(self, give_up: int = 0, ttl: float = 5.0) -> None:
-        """After so many failures in a row the node gives up; with 0 it never does."""
+        """After so many failures in a row the node gives up; with 0 it never does. The ttl is that of its member."""
         self.ttl, self._give_up = ttl, give_up
         self._lock = threading.Lock()
         self.forget()
@@ -155,8 +155,7 @@ class GivingUp:
 
     def __init__(self, log: Log, name: str, ttl: float, failures: Failures | None) -> None:
         """For the node of this name. If nobody counts failures, the work goes well."""
-        self._log, self._name, self._failures = log, name, failures or Failures()
-        self._failures.ttl = ttl
+        self._log, self._name, self._failures = log, name, failures or Failures(ttl=ttl)
         if failures is None:
             self._failures.began(float('-inf'))
         self._since: dict[str, tuple[Session, float]] = {}  # who holds a lease, by which session, and since when

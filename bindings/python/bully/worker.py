@@ -98,7 +98,7 @@ class Workers:
         there are; and a count of their failures."""
         self._words, self._node, self._patience, self._kind = words, node, patience, kind
         self._failures = failures or Failures()
-        # After `begin`:
+        # After `watch`:
         self._member: Member
         self._others: set[int]  # the children that this process had before
         self._watchdog: subprocess.Popen[bytes]
@@ -121,13 +121,13 @@ class Workers:
         self.killed = 0  # how often the watchdog killed a worker, because the lease wasn't sure any more
         self._ending = threading.Lock()  # held by the thread that waits for children
 
-    def begin(self, member: Member, file: str = '', releases: Callable[[Session], bytes] | None = None) -> None:
+    def watch(self, member: Member, file: str = '', releases: Callable[[Session], bytes] | None = None) -> None:
         """Starts the watchdog, before the member runs. If the log is a file, the watchdog also kills this process if
         that stays stopped in the middle of a write. `releases` says how the lease of a session is released: the
         watchdog does that once this process is gone, and nothing is left of a worker. This process kills what a
         watchdog that died leaves. Raises ForeignLog and ChildrenUnlisted."""
         check_one_clock()
-        self._member, self._others, self._failures.ttl = member, children_listed(), member.ttl
+        self._member, self._others = member, children_listed()
         self._releases = releases
         adopt()
         self._settings = os.fdopen(os.memfd_create('settings'), 'wb')
@@ -144,7 +144,10 @@ class Workers:
         self._thread = threading.Thread(target=self._run, name='bully watchdog', daemon=True)
         self._thread.start()
 
-    # What the member asks for, in threads of its own.
+    # What the member asks for.
+
+    def begin(self) -> None:
+        """The watchdog is there."""
 
     def start(self, assignment: Assignment, added: frozenset[int]) -> None:
         self._log('starts', added, assignment)

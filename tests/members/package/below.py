@@ -12,6 +12,7 @@ from bully import clocks
 from bully.core import Session
 from bully.epochs import Opening, Token
 from bully.member import Assignment, Member
+from bully.work_failures import Failures
 from bully.worker import Kind, Workers
 from ..waiting import PATIENCE, wait_until
 
@@ -97,11 +98,11 @@ class Below(unittest.TestCase):
         self.addCleanup(lambda: self.assertEqual(self.member.wrong, []))
 
     def made(self, words: list[str], patience: float = PATIENCE, seconds: float = 1000.0, ttl: float = 4.0) -> Timely:
-        workers = Timely(words, 'x', patience, self.kind)
+        workers = Timely(words, 'x', patience, self.kind, Failures(ttl=ttl))
         workers.asker = self.member
         self.member.ttl, self.member.margin = ttl, ttl / 5
         self.member.working = self.member.stopping = frozenset()  # of workers before
-        workers.begin(cast(Member, self.member), '', self.releases)
+        workers.watch(cast(Member, self.member), '', self.releases)
         self.addCleanup(workers.close)
         workers.hear_until(clocks.seconds_of_boot() + seconds)
         return workers

@@ -13,7 +13,7 @@ from bully.epochs import Opening, Token
 from bully.member import Member
 from bully.memory import MemoryLog
 from bully.shared_log import Holder
-from bully.working import Assignment, Callback, PartitionCallbacks, WholeCallbacks
+from bully.working import Assignment, Callback, Callbacks, Calls, PartitionCalls, WholeCalls
 from ..steps import LONG, OPENING
 from ..waiting import PATIENCE, wait_until
 from .below import assigned
@@ -176,8 +176,8 @@ class Cooperative(Grouped):
         member = self.members['a'][0]
         reports: list[int] = []
         does = member._does
-        assert isinstance(does, PartitionCallbacks)
-        report, revoked = does._report, does._revoked
+        assert isinstance(does, Callbacks) and isinstance(does.calls, PartitionCalls)
+        calls, report, revoked = does.calls, does.calls._report, does.calls._revoked
 
         def reported(partitions: Collection[int]) -> None:
             reports.extend(partitions)
@@ -187,15 +187,15 @@ class Cooperative(Grouped):
             revoked(partitions)
             member.ended(partitions)
 
-        does._report, does._revoked = reported, revokes
+        calls._report, calls._revoked = reported, revokes
         self.come('b')
         wait_until(self.is_shared)
-        wait_until(member._to_call.empty)
+        wait_until(does._asked.empty)
         self.assertEqual(sorted(reports), worker.stopped())
         self.assertTrue(reports)
 
 
-class Calls(unittest.TestCase):
+class Called(unittest.TestCase):
     """The calls of a member whose work has ended before it asks for more, of which the member hears after that."""
 
     def setUp(self) -> None:
@@ -212,7 +212,7 @@ class Calls(unittest.TestCase):
     def test_whole(self) -> None:
         for is_lost in (True, False):
             self.said, self.reports = [], []
-            work = WholeCallbacks(self.member, self.reports.append, 'a', self.say('start'), self.say('stop'))
+            work = WholeCalls(self.member, self.reports.append, 'a', self.say('start'), self.say('stop'))
             work.start(self.first, self.both)
             if is_lost:
                 work.lose(self.first)
@@ -226,7 +226,7 @@ class Calls(unittest.TestCase):
 
     def test_by_partition(self) -> None:
         says = self.say('assigned'), self.say('revoked')
-        work = PartitionCallbacks(self.member, self.reports.append, 'a', *says, None)
+        work = PartitionCalls(self.member, self.reports.append, 'a', *says, None)
         work.start(self.first, self.both)
         work.ended((0,))
         work.start(assigned(3, 0, 1), frozenset())
@@ -242,8 +242,9 @@ class Calls(unittest.TestCase):
     def test_work_that_raises(self) -> None:
         """It isn't known what goes on, so the lease stays."""
         for log, work in ((MemoryLog(OPENING), Raises(is_early)) for is_early in (True, False)):
-            with Member(log, 1, work=work, ttl=1.0) as member, self.assertRaises(KeyError):
-                work.leave = member.leave
+            with Member(log, 1, print, print, ttl=1.0) as member, self.assertRaises(KeyError):
+                assert isinstance(member._does, Callbacks)
+                member._does.calls, work.leave = work, member.leave
                 member.run()
             self.assertEqual((work.begun, set(log.holders)), (True, {'1'}))
 
@@ -252,8 +253,8 @@ class Calls(unittest.TestCase):
             member.ended(1)  # type: ignore[arg-type]
 
 
-class Raises:
-    """Work that can't be started, or stopped."""
+class Raises(Calls):
+    """Callbacks whose calls can't be made: that which starts work, or that which stops it."""
 
     def __init__(self, is_early: bool) -> None:
         self.is_early, self.begun = is_early, False

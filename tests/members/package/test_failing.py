@@ -204,8 +204,8 @@ class Services(unittest.TestCase):
 class Work:
     """What works for a member, or fails at once, whenever it is begun."""
 
-    def __init__(self, fails: bool, give_up: int = 3) -> None:
-        self.fails, self.failures = fails, Failures(give_up)
+    def __init__(self, fails: bool, give_up: int = 3, ttl: float = TTL) -> None:
+        self.fails, self.failures = fails, Failures(give_up, ttl)
         self.member: Member
         self.begun = 0
 
@@ -243,7 +243,7 @@ class GivesUp(Threads):
         self.threads: dict[int, threading.Thread] = {}
 
     def begin_member(self, node: int, fails: bool, give_up: int = 3) -> Work:
-        work = self.work[node] = Work(fails, give_up)
+        work = self.work[node] = Work(fails, give_up, self.ttl)
         _, _, self.threads[node] = self.begin(
             self.log, node, self.ttl, work.serve, start=work.start, stop=work.stop, failures=work.failures
         )
@@ -252,7 +252,7 @@ class GivesUp(Threads):
     def fail_from_now_on(self, work: Work) -> None:
         """It works, and fails from now on."""
         wait_until(work.member.assignment)
-        assigned = work.member._work
+        assigned, _, _ = work.member._shown
         assert assigned is not None
         work.fails = True
         work.failures.failed(seconds_of_boot())
@@ -400,7 +400,7 @@ class GivesUp(Threads):
     def test_a_note_of_an_earlier_process(self) -> None:
         """It is taken back once the work has gone well for a ttl, and then that of a member whose failures nobody
         counts."""
-        for failures in (Failures(3), None):
+        for failures in (Failures(3, TTL), None):
             self.log.note('1', True)
             member, _, thread = self.begin(self.log, 1, TTL, failures=failures)
             if failures is not None:
@@ -414,7 +414,7 @@ class GivesUp(Threads):
         """It waits for the first one, and what that noted stays."""
         first = self.begin_member(1, True)
         wait_until(lambda: self.log.failing == {'1': False})
-        second, _, thread = self.begin(self.log, 1, TTL, failures=Failures(3))
+        second, _, thread = self.begin(self.log, 1, TTL, failures=Failures(3, TTL))
         wait_until(lambda: any('another process is live' in line for line in self.said.output))
         second.leave()
         thread.join(PATIENCE)

@@ -727,7 +727,7 @@ except LogError as fault:
         begun = mock.patch.object(subprocess, 'Popen', side_effect=AssertionError('it has begun'))
         with begun, mock.patch.object(boots, 'namespace_of', str):
             with self.assertRaisesRegex(ForeignLog, 'its watchdog would count by another clock'):
-                Workers(['true'], 'a', 1.0).begin(mock.Mock())
+                Workers(['true'], 'a', 1.0).watch(mock.Mock())
 
     def test_first_of_a_boot(self) -> None:
         """Another member acquires the first lease of this boot between any two statements of a call."""

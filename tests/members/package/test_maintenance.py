@@ -524,11 +524,12 @@ class Maintained(Threads):
         member, told, thread = self.members[3]
         operations.pause(self.log)
         work = member.assignment()
-        assert work is not None and member._work is not None
+        shown, _, _ = member._shown
+        assert work is not None and shown is not None
         begun = f'start {work.token}'
         wait_until(lambda: told[-1] == begun)
         count = len(told)
-        member.lose(member._work)
+        member.lose(shown)
         wait_until(lambda: len(told) >= count + 2 and told[-1] == begun and member.assignment())
         self.assertEqual(told[count - 1 : count + 2], [begun, f'stop {work.token}', begun])
         rows = self.log.rows[:]

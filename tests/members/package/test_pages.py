@@ -259,7 +259,7 @@ class Pages(Paged):
 
     def test_a_worker_that_does_not_end(self) -> None:
         self.begin()
-        self.workers.begin(self.member)
+        self.workers.watch(self.member)
         self.addCleanup(self.workers.close)
         self.assertEqual(self.get('/healthz')[0], 200)
         state = self.workers._workers[ALL] = WorkerState(ALL, self.workers, Failures())

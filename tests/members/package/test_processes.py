@@ -145,7 +145,7 @@ file = sqlite3.connect({str(self.path)!r}, isolation_level=None, timeout=60)
 workers = Workers(['true'], 'x', 1.0)
 ended = []
 member = SimpleNamespace(ttl={ttl}, margin=1.0, ended=ended.append, end_with=lambda _: os._exit(9))
-workers.begin(member, {str(self.path)!r})
+workers.watch(member, {str(self.path)!r})
 workers.start(Assignment(1, 1, (0,), SimpleNamespace(text=lambda *_: '{{}}', name=str)), frozenset([0]))
 while not ended:  # so its watchdog is there
     time.sleep(0.01)

@@ -13,6 +13,7 @@ from bully.epochs import Opening
 from bully.member import Assignment, Member, OtherGroup, is_known
 from bully.memory import MemoryLog
 from bully.shared_log import Holder, LogError
+from bully.working import Callbacks
 from ..steps import HEADER, LONG, OPENING
 from ..waiting import PATIENCE, wait_until
 from .threads import Slow, Threads, Troubled
@@ -124,7 +125,8 @@ class Running(Threads):
         self.assertEqual({work.token for work in begun}, {self.token_of(log)})
         rows = log.rows[:]
         member.lose(begun[0])
-        wait_until(member._to_call.empty)
+        assert isinstance(member._does, Callbacks)
+        wait_until(member._does._asked.empty)
         renewals = len(sure)
         wait_until(lambda: len(sure) > renewals + 1)  # before which it would have stopped
         self.assertEqual((log.rows, len(begun)), (rows, 4))

@@ -68,13 +68,14 @@ class Slowly(Grouped):
 
     def test_the_first_look(self) -> None:
         """A view knows for whom a change waits for which somebody has stopped, and on which partitions that stops, when
-        it reads the log for the first time, whether or not a member reports to it."""
+        it reads the log for the first time, whether or not a member reports to it; since when, only if one does."""
         self.slowed()
         other = self.members['b'][0]
         wait_until(lambda: [name for name, _ in other.waits._waits[1]] == ['a'])
         for told in (None, other.waits):
             group = self.viewed(self.log, told).show()
             self.assertEqual((list(group.waits), [len(each) for each in group.stops.values()]), (['a'], [1]))
+            self.assertEqual(group.waits['a'] > 0, told is not None)
 
     def test_status(self) -> None:
         """In words of the command, which reads again until it has seen for long enough who came."""

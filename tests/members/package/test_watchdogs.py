@@ -58,9 +58,9 @@ logging.basicConfig(stream=sys.stdout, format='%(message)s')
 worker._logger.error = lambda _, processes: print('these processes may work on:', processes, flush=True)
 failures, ended = [], []
 words = [rooted, '--reuid', '0', '--regid', '0', '--clear-groups', 'sh', '-c', 'echo $$; exec sleep 1000']
-workers = worker.Workers(words, 'x', 0.1)
+workers = worker.Workers(words, 'x', 0.1, failures=worker.Failures(ttl=2.0))
 member = SimpleNamespace(ttl=2.0, margin=0.4, end_with=failures.append, ended=ended.append, is_leaving=True)
-workers.begin(member)
+workers.watch(member)
 workers.hear_until(clocks.seconds_of_boot() + 1000.0)
 settings = SimpleNamespace(text=lambda *_: '{}', name=str)
 workers.start(Assignment(1, 1, (0,), settings), frozenset([0]))
@@ -87,7 +87,7 @@ from types import SimpleNamespace
 from bully import clocks, worker
 lost = []
 workers = worker.Workers(['sleep', '1000'], 'x', 1000.0)
-workers.begin(SimpleNamespace(ttl=2.0, margin=0.4, end_with=print, ended=lost.append))
+workers.watch(SimpleNamespace(ttl=2.0, margin=0.4, end_with=print, ended=lost.append))
 workers.hear_until(clocks.seconds_of_boot() + 1000.0)
 settings = SimpleNamespace(text=lambda *_: '{}', name=str)
 workers.start(worker.Assignment(1, 1, (0,), settings), frozenset([0]))
@@ -624,7 +624,7 @@ from bully.worker import Workers
 file = sqlite3.connect({str(file)!r}, isolation_level=None)
 file.executescript('pragma journal_mode = wal; create table log (row text)')
 workers = Workers(['true'], 'x', 1.0)
-workers.begin(SimpleNamespace(ttl=0.6), {str(file)!r})
+workers.watch(SimpleNamespace(ttl=0.6), {str(file)!r})
 file.execute('begin immediate')
 os.kill(os.getpid(), signal.SIGSTOP)
 '''

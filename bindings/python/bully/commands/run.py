@@ -90,7 +90,7 @@ def take_part(
         )
     )  # fmt: skip
     service = Service(member, workers)  # before any process starts that would inherit the environment
-    workers.begin(member, store.path if isinstance(store, FileStore) else '', releases_of(options, store, log))
+    workers.watch(member, store.path if isinstance(store, FileStore) else '', releases_of(options, store, log))
     closing.callback(workers.close)
     if server is not None:
         server.show(ask_until_answered(lambda: LogView(store.open(reads=True), member.waits, ttl)), member, workers)
