@@ -139,7 +139,7 @@ class LeasesTaken(WithEtcd, WithFolder):
     """An operator of etcd takes the lease of a member away, which a premise forbids. Others may work from then on, so
     the worker, which doesn't stop by itself, is killed long before its time is over."""
 
-    TTL = 40.0
+    TTL = 100.0
 
     def setUp(self) -> None:
         WithEtcd.setUp(self)
@@ -184,11 +184,12 @@ class LeasesTaken(WithEtcd, WithFolder):
                     self.server.delete(f'{self.prefix}/lease/', f'{self.prefix}/lease0')
 
     def test_while_it_stops(self) -> None:
-        """Then a member of an eager group waits for nothing but its worker: its next renewal finds it."""
+        """Then a member of an eager group waits for its worker, and asks for nothing before its next renewal, a quarter
+        of the ttl after the one before: the watch reports it."""
         member = self.begun(f'trap "" TERM; {BEGINS}')
         member.process.terminate()
         wait_until(lambda: 'stops work' in member.said)
-        self.see_killed(member, True, 0.2)
+        self.see_killed(member, True, 0.45)
         member.wait()
 
 
