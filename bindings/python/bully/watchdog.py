@@ -717,7 +717,12 @@ def main() -> None:
         hub.go_on()
         release(hub)
     else:
-        Sentinel(channel, rules, of_member).go_on()
+        try:
+            sentinel = Sentinel(channel, rules, of_member)
+        except OSError as error:
+            say(f'no keeper of the worker can be started: {error.strerror}')
+            sys.exit(1)
+        sentinel.go_on()
 
 
 if __name__ == '__main__':
