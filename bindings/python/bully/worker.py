@@ -18,7 +18,7 @@ from pathlib import Path
 from typing import BinaryIO, Deque
 
 from .boots import see_one_clock
-from .clocks import SECOND, seconds_of_boot, sleep_until_ready
+from .clocks import SECOND, seconds_of_boot, sleep_until_ready, wall_clock
 from .core import Session
 from .member import Member
 from .processes import adopt, end_children, held_back, is_there, listed_children, may_kill
@@ -118,7 +118,6 @@ class Workers:
         self._survivors: list[int] = []  # processes of workers that are still there, though this process killed them
         self._is_lost = self._is_closed = self._is_given_up = False
         self._waiting: list[threading.Event] = []  # set once nothing is worked on
-        self.killed = 0  # how often the watchdog killed a worker, because the lease wasn't sure any more
         self._ending = threading.Lock()  # held by the thread that waits for children
 
     def begin(self, member: Member, file: str = '', releases: Callable[[Session], bytes] | None = None) -> None:
@@ -237,6 +236,11 @@ class Workers:
     @property
     def _owns(self) -> bool:
         return any(each.working for each in list(self._workers.values()))
+
+    @property
+    def killed(self) -> int:
+        """How often the watchdog killed a worker, because the lease wasn't sure any more."""
+        return self._failures.killed[0]
 
     @property
     def about(self) -> str:
@@ -416,9 +420,10 @@ class Workers:
 
     def _say_killed(self, worker: WorkerState, moment: float) -> None:
         """The watchdog killed it at that moment, in seconds of CLOCK_BOOTTIME."""
-        self.killed += 1
+        ago = seconds_of_boot() - moment
+        self._failures.note_killed(wall_clock() - int(1000 * ago))
         said = 'the watchdog killed the worker%s %.1f s ago, because the lease was not sure any more: %s'
-        _logger.warning(said, told_of(worker), seconds_of_boot() - moment, UNSURE)
+        _logger.warning(said, told_of(worker), ago, UNSURE)
 
     def _see_time(self) -> None:
         """Looks after workers that back off, or don't end, and after the watchdog. A silent one is killed."""
