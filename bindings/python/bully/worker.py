@@ -21,7 +21,7 @@ from .boots import see_one_clock
 from .clocks import SECOND, seconds_of_boot, sleep_until_ready, wall_clock
 from .core import Session
 from .member import Member
-from .processes import adopt, end_children, held_back, is_there, listed_children, may_kill
+from .processes import adopt, end_children, held_back, is_there, let_children_end, listed_children, may_kill
 from .watchdog import BEATS
 from .work_failures import ALL, Failures
 from .worker_states import PartitionState, TalkerState, WorkerState
@@ -436,7 +436,7 @@ class Workers:
             return
         self._checked, self._silent = now, self._silent + 1 if any(map(self._is_late, workers)) else 0
         if self._silent >= SILENT and not sleep_until_ready(0.0, self._channel.fileno()):
-            self._lose_watchdog()
+            self._lose_watchdog(is_silent=True)
 
     def _is_late(self, worker: WorkerState) -> bool:
         """Whether the watchdog is a twentieth of the ttl late to kill the worker, or a ttl to report that it started or
@@ -457,14 +457,15 @@ class Workers:
             told = f'the worker was killed, and has not ended for {seconds}; the lease of its node ends by itself'
             self._member.get_stuck(WorkerStuck(told))
 
-    def _lose_watchdog(self) -> None:
-        """The watchdog has ended, or has to."""
+    def _lose_watchdog(self, is_silent: bool = False) -> None:
+        """The watchdog has ended, or has to. Unless it is silent, the other one of watchdog and keeper ends what is left
+        now, and nothing else would if this process killed that, and were suspended at the same moment."""
         self._is_lost = True
         self._unsent.clear()
         if self._is_closed:
             return
         self._member.end_with(WatchdogLost('the watchdog of the worker died'))
-        self._end_all(self._wait_meanwhile)
+        self._end_all(self._wait_meanwhile, 0.0 if is_silent else 2 * self._member.ttl / BEATS)
         for worker in list(self._workers.values()):
             worker.give_up()
 
@@ -473,9 +474,11 @@ class Workers:
         self._do_asked()
         self._see_stuck()
 
-    def _end_all(self, meanwhile: Callable[[], object] = lambda: None) -> None:
-        """Returns once nothing is left of the watchdog, and of what it started."""
+    def _end_all(self, meanwhile: Callable[[], object] = lambda: None, seconds: float = 0.0) -> None:
+        """Returns once nothing is left of the watchdog, and of what it started, which may end for so many seconds before
+        it is killed."""
         with self._ending:
+            let_children_end(self._others, seconds, meanwhile)
             self._watchdog.kill()
             end_children(self._others, self._member.ttl / BEATS, self._hold, meanwhile)
             self._watchdog.wait()
