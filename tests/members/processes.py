@@ -5,6 +5,7 @@ import contextlib
 import ctypes
 import os
 import re
+import resource
 import select
 import signal
 import unittest
@@ -49,16 +50,62 @@ def halt_by_debugger(test: unittest.TestCase, process: int) -> Callable[[], obje
     return lambda: ctypes.CDLL(None).ptrace(PTRACE_DETACH, process, None, None)
 
 
+def mounts_of(kind: str, controller: str) -> list[str]:
+    """Where control groups are, of this kind of file system; those of the older kind with this controller."""
+    mounts = [line.split() for line in Path('/proc/self/mounts').read_text().splitlines()]
+    return [
+        place
+        for _, place, system, options, *_ in mounts
+        if system == kind and (kind == 'cgroup2' or controller in options.split(','))
+    ]
+
+
+class TaskLimit:
+    """A limit on threads and processes: by a control group if this user is root, whom nothing else limits, and else by
+    that on what the user has, who has some."""
+
+    def __init__(self, test: unittest.TestCase) -> None:
+        self.group = None if os.geteuid() else self._made(test)
+        self.counts = [0] if self.group is None else range(1, 9)  # which ones it can set for a process that begins
+
+    def _made(self, test: unittest.TestCase) -> Path:
+        for place in (*mounts_of('cgroup', 'pids'), *mounts_of('cgroup2', '')):
+            group = Path(place, f'bully-tasks{os.getpid()}')
+            with contextlib.suppress(OSError):
+                group.mkdir(exist_ok=True)
+                if (group / 'pids.max').exists():
+                    test.addCleanup(self._remove, group)
+                    return group
+                group.rmdir()
+        test.skipTest('no control group that limits threads and processes can be made here')
+
+    def _remove(self, group: Path) -> None:
+        (group / 'pids.max').write_text('max')
+        wait_until(lambda: not (group / 'cgroup.procs').read_text())
+        group.rmdir()
+
+    def set(self, process: int, count: int) -> None:
+        """The process can start no more, if it has so many; without a control group, none."""
+        if self.group is None:
+            resource.prlimit(process, resource.RLIMIT_NPROC, (0, resource.getrlimit(resource.RLIMIT_NPROC)[1]))
+        else:
+            (self.group / 'pids.max').write_text(str(count))
+            (self.group / 'cgroup.procs').write_text(str(process))
+
+    def lift(self, process: int) -> None:
+        """It may again, if it is there."""
+        if self.group is not None:
+            (self.group / 'pids.max').write_text('max')
+        else:
+            with contextlib.suppress(ProcessLookupError):
+                resource.prlimit(process, resource.RLIMIT_NPROC, resource.getrlimit(resource.RLIMIT_NPROC))
+
+
 def halt_by_group(test: unittest.TestCase, process: int, kind: str) -> Callable[[], None]:
     """A control group of its own, of this kind of file system, freezes the process. What continues it."""
     freezers = {'cgroup': ('freezer.state', 'FROZEN', 'THAWED'), 'cgroup2': ('cgroup.freeze', '1', '0')}
     name, froze, thawed = freezers[kind]
-    mounts = [line.split() for line in Path('/proc/self/mounts').read_text().splitlines()]
-    places = [
-        place
-        for _, place, system, options, *_ in mounts
-        if system == kind and (kind == 'cgroup2' or 'freezer' in options.split(','))
-    ]
+    places = mounts_of(kind, 'freezer')
     group = Path(places[0] if places else '/proc/none', f'bully{process}')
     try:
         group.mkdir(exist_ok=True)

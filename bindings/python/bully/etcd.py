@@ -196,6 +196,7 @@ class EtcdLog:
         self._client = Client(read, patience, tls, user, password)
         self._held: Held | None = None
         self._own: tuple[str, Session] | None = None  # the session that acquired a lease last, and of which name
+        self._own_found: tuple[str, Session] | None = None  # the same, once a snapshot had it
         self._seen_wanted: tuple[bytes | None, bytes | None] = None, None
         self._seen: Mapping[str, Told] = {}  # the promises in the last snapshot
         self._has_promises = True  # whether it had all of them
@@ -585,6 +586,8 @@ class EtcdLog:
         requested, holders = requested_of(self.address, end.epoch, news.requested), news.holders(part.promise_of)
         self._seen_wanted, self._seen = news.wanted, news.shown(part.promise_of)
         self._has_promises = part.promise_of is None
+        if self._own is not None and news.sessions.get(self._own[0]) == self._own[1]:
+            self._own_found = self._own
         there, failing, is_whole = rows or Rows(''), news.failing, self._has_promises
         return Snapshot(end.epoch, there, holders, requested, maintenance, failing, answer.revision, is_whole)
 
@@ -607,6 +610,30 @@ class EtcdLog:
         while not self._hear(is_news, is_wide, max(0.0, end - seconds_of_boot())):
             if seconds_of_boot() >= end or sleep_until_ready(0.0, wake):
                 return
+
+    def sees_loss(self, session: Session, seconds: float, wake: int | None = None) -> bool:
+        """By the watch that the last wait began, if it is still there."""
+        end = seconds_of_boot() + seconds
+        while not self._is_lost(session):
+            left = max(0.0, end - seconds_of_boot())
+            try:
+                events = None if self._watch is None else self._watch.events(left, wake)
+            except Silent:
+                self._break_watch()
+                continue
+            if events is None:
+                sleep_until_ready(left, wake)
+            for event in events or ():
+                self._news.see(event)
+            if not events:
+                return self._is_lost(session)
+        return True
+
+    def _is_lost(self, session: Session) -> bool:
+        """Whether this session held the lease that this process acquired last, and doesn't, by what is known since."""
+        own = self._own
+        is_known = own is not None and own == self._own_found and own[1] == session
+        return is_known and own is not None and self._news.sessions.get(own[0]) != session
 
     def _is_wide_for(self, until: Until, leases: int) -> bool:
         """Whether a watch reports promises, for such a wait while there are so many leases."""

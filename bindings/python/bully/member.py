@@ -13,7 +13,7 @@ from functools import partial
 from typing import Deque, TypeVar
 
 from .clocks import SECOND, nanoseconds_of_boot, seconds_of_boot, sleep_until_ready
-from .core import BackOff, Core, End, Ending, Reason, Request, Session
+from .core import BackOff, Core, End, Ending, Live, Reason, Request, Session
 from .display import shown_name
 from .driver import Call, Driver, Note, Start, Step, StopWork, WaitForNews
 from .epochs import Opening, Token
@@ -109,6 +109,7 @@ class Member:
             raise OtherGroup(f'the log belongs to another group: {opening.header} of {", ".join(opening.names)}')
         self.ttl, self.margin = ttl, ttl / 5
         self._other: Session | None = None  # the session of another process that was last seen for its node
+        self._taken: Session | None = None  # the last one of its own whose lease somebody took away
         self.failure: BaseException | None = None
         self.waits = ChangeWaits()
         self._driver = self._driver_of(opening, node)
@@ -340,7 +341,9 @@ class Member:
         work = begun or self._shown[0]
         shown = None if work is None else work.left(self._driver.working)
         leads = not (self._driver.stopping or self.opening.is_cooperative) and self._is_coordinator(shown)
-        self._shown = shown, self.core.sure_until / SECOND, leads
+        live = self.core.session
+        is_taken = isinstance(live, Live) and live.session == self._taken
+        self._shown = shown, 0.0 if is_taken else self.core.sure_until / SECOND, leads
 
     def _is_coordinator(self, work: Assignment | None) -> bool:
         """Whether its node planned the table of this work; or, if it owns nothing, the last plan after its promise."""
@@ -362,7 +365,7 @@ class Member:
         elif isinstance(step, StopWork):
             self._stop(step.partitions)
         elif isinstance(step, BackOff):
-            sleep_until_ready(step.at_most / SECOND, self._woken.fileno())
+            self._see_taken(step.at_most / SECOND)
         elif isinstance(step, WaitForNews):
             self._wait(step)
 
@@ -384,7 +387,18 @@ class Member:
             self._note_waits(step.reason)
             seconds = step.at_most / SECOND
             self._answer(lambda: self.log.wait(*step[:4], seconds, self._woken.fileno()))
+            self._see_taken(0.0)
         self._driver.woke()
+
+    def _see_taken(self, seconds: float) -> None:
+        """Waits for so long, or until it is woken. If the log reports that its lease was taken away, its work ends at
+        once: the rules hear of it by the next snapshot, or the next renewal, which may be late."""
+        live, woken = self.core.session, self._woken.fileno()
+        session = live.session if isinstance(live, Live) else None
+        if session is None or session == self._taken:
+            sleep_until_ready(seconds, woken)
+        elif self._answer(partial(self.log.sees_loss, session, seconds, woken)):
+            self._lose_lease(session)
 
     def _note_waits(self, reason: Reason) -> None:
         """Notes for whom the change waits that is under way, if one is. Without promises it isn't known for whom; what
@@ -415,7 +429,7 @@ class Member:
         request, session = step.ask.request, step.ask.session
         if request is Request.ACQUIRE and self._acquires is not None:
             self._acquires(session)
-        sure_until, epoch = self.core.sure_until, self.opening.epoch
+        before, sure_until, epoch = self.core.session, self.core.sure_until, self.opening.epoch
         result = self._answer(step.call)
         if isinstance(result, Snapshot):
             self._giving_up.see(result)
@@ -429,12 +443,16 @@ class Member:
             _logger.info('node %s: live as %d.%d', shown_name(self.name), session.process, session.number)
         if result and request in (Request.ACQUIRE, Request.RENEW) and self._sure is not None:
             self._sure(self.core.sure_until / SECOND)
-        if sure_until > nanoseconds_of_boot() and self.core.session is None and request is not Request.RELEASE:
-            self._lose_lease()
+        is_gone = self.core.session is None and request is not Request.RELEASE
+        if is_gone and sure_until > nanoseconds_of_boot() and before is not None:
+            self._lose_lease(before.session)
 
-    def _lose_lease(self) -> None:
-        """Its lease is gone, though it was sure, and the member hasn't released it: others may work from now on, so the
-        time of its work is over at once."""
+    def _lose_lease(self, session: Session) -> None:
+        """The lease of this session is gone, though it was sure, and the member hasn't released it: others may work
+        from now on, so the time of its work is over at once."""
+        if session == self._taken:
+            return
+        self._taken = session
         _logger.warning('node %s: somebody took its lease away, so its work is ended at once', shown_name(self.name))
         self._show()
         if self._sure is not None:

@@ -172,6 +172,11 @@ class MemoryLog:
                 ends = [lease.until for lease in self.leases.values() if self.clock() < lease.until]
                 self._changed.wait(max(0, min([end, *ends]) - self.clock()) / SECOND)
 
+    def sees_loss(self, session: Session, seconds: float, wake: int | None = None) -> bool:
+        """Nobody takes a lease away here."""
+        sleep_until_ready(seconds, wake)
+        return False
+
     def has_news(
         self, epoch: int, offset: int, sessions: Sessions, wanted: Wanted, until: Until, before: Mapping[str, Holder]
     ) -> bool:

@@ -44,8 +44,9 @@ def drop_output() -> None:
 def text_of(fault: Exception) -> str:
     """The text of an exception. For an error of a file it starts with the file's name, or with `standard output`, which
     has no name. (A store raises errors of its own.)"""
-    if str(fault) == NO_THREAD:
-        return 'no thread can be started now: a limit on threads or memory is reached'
+    if str(fault) == NO_THREAD or isinstance(fault, BlockingIOError):  # the second one as of a fork
+        what = 'thread' if str(fault) == NO_THREAD else 'process'
+        return f'no {what} can be started now: a limit on threads, processes or memory is reached'
     if isinstance(fault, OSError) and (fault.filename is not None or fault.errno in UNWRITTEN):
         return f'{fault.filename or "standard output"}: {fault.strerror}'
     return str(fault)

@@ -140,6 +140,16 @@ def end_children(
     return statuses
 
 
+def let_children_end(spared: AbstractSet[int], seconds: float, meanwhile: Callable[[], object]) -> None:
+    """Waits until none of the children of this process but these is left, for so many seconds at most."""
+    end = nanoseconds_of_boot() + int(seconds * SECOND)
+    while nanoseconds_of_boot() < end and (found := children_but(spared)) != set():
+        for child in found or ():
+            reap(child)
+        meanwhile()
+        time.sleep(LONGEST_SLEEP / 4)
+
+
 def kill(send: Callable[[int, int], None], number: int) -> None:
     """Kills a child or a process group, if it may. No other thread waits for children meanwhile, so the number is still
     theirs."""

@@ -203,6 +203,11 @@ class Log(Protocol):
         returns once the descriptor `wake` can be read, or the time is over; and it may return sooner. It never misses
         what was so before the call."""
 
+    def sees_loss(self, session: Session, seconds: float, wake: int | None = None) -> bool:
+        """Waits for so many seconds, or until the descriptor `wake` can be read, or until the store reports that this
+        session, which held a lease in the last snapshot, doesn't hold it any more. Returns whether it has reported
+        that. A store need not report it."""
+
     def ask(self, requested: Opening, epoch: int) -> bool:
         """Requests these settings, and no others, if the epoch is the current one and they are for the next. Returns
         whether it did."""

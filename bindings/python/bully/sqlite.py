@@ -510,6 +510,11 @@ class SqliteLog:
         found = self._file.execute('select name, gave_up from failing').fetchall()
         return {name: bool(gave_up) for name, gave_up in found}
 
+    def sees_loss(self, session: Session, seconds: float, wake: int | None = None) -> bool:
+        """Nobody takes a lease away from a file."""
+        sleep_until_ready(seconds, wake)
+        return False
+
     def wait(
         self, epoch: int, offset: int, sessions: Sessions, until: Until, seconds: float, wake: int | None = None
     ) -> None:  # fmt: skip

@@ -92,19 +92,26 @@ class NodeView:
     is_failing: bool  # whether its worker fails, and it owns something or gave up
     gave_up: bool  # whether it gave up what it owned for that reason
     partitions: tuple[int, ...]
+    killed: int  # how often its watchdog killed its work, because the lease wasn't sure any more
+    killed_last: int | None  # when last, in milliseconds since 1970
 
     @property
     def live_text(self) -> str:
-        """Whether it is live, drained, or gave up, and whether its worker fails, for people."""
+        """Whether it is live, drained, or gave up, whether its worker fails, and whether that was killed, for
+        people."""
         drained = ', drained' * self.is_drained + ', gave up' * self.gave_up
-        return ('yes' if self.is_live else 'no') + drained + ', its worker fails' * self.is_failing
+        fails = ', its worker fails' * self.is_failing
+        times = 'once' if self.killed == 1 else f'{self.killed} times, last'
+        killed = f', its worker was killed {times} at {time_text(self.killed_last)}' if self.killed else ''
+        return ('yes' if self.is_live else 'no') + drained + fails + killed
 
     def document(self) -> dict[str, Any]:
         """The same for JSON."""
         return {
             'node': self.node, 'name': self.name, 'status': str(self.status), 'coordinator': self.coordinator,
             'live': self.is_live, 'drained': self.is_drained, 'failing': self.is_failing,
-            'gave_up': self.gave_up, 'partitions': list(self.partitions),
+            'gave_up': self.gave_up, 'partitions': list(self.partitions), 'killed': self.killed,
+            'killed_last': time_text(self.killed_last) or None,
         }  # fmt: skip
 
 
@@ -304,8 +311,11 @@ class LogView:
         is_live, is_drained = name in found.holders, name in found.maintenance.drained
         gave_up = found.failing.get(name, False) and not is_live
         fails = gave_up or name in found.failing and bool(partitions)
+        note, holder = found.maintenance.killed.get(name), found.holders.get(name)
+        is_its = note is not None and note.is_of(holder and holder.session)
+        killed, last = note[1:] if note is not None and is_its else (0, None)
         return NodeView(
-            node, name, state.status, coordinator, is_live, is_drained, fails, gave_up, partitions
+            node, name, state.status, coordinator, is_live, is_drained, fails, gave_up, partitions, killed, last
         )  # fmt: skip
 
     def _name(self, node: int) -> str:

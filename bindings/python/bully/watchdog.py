@@ -718,7 +718,12 @@ def main() -> None:
         hub.go_on()
         release(hub)
     else:
-        KeeperWatchdog(channel, rules, of_member).go_on()
+        try:
+            watchdog = KeeperWatchdog(channel, rules, of_member)
+        except OSError as error:
+            say(f'no keeper of the worker can be started: {error.strerror}')
+            sys.exit(1)
+        watchdog.go_on()
 
 
 if __name__ == '__main__':

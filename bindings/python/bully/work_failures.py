@@ -14,6 +14,7 @@ from functools import partial
 
 from .clocks import seconds_of_boot
 from .core import Session
+from .maintenance import Killed
 from .shared_log import Holder, Log, Snapshot, renewed
 
 GIVE_UP = 5  # failures in a row, by default
@@ -76,6 +77,7 @@ class Failures:
         """After so many failures in a row the node gives up; with 0 it never does. The ttl is that of its member."""
         self.ttl, self._give_up = ttl, give_up
         self._lock = threading.Lock()
+        self.killed = 0, 0  # how often a watchdog killed work, and when last, in milliseconds since 1970
         self.forget()
 
     def forget(self) -> None:
@@ -109,6 +111,11 @@ class Failures:
             record = self._records.setdefault(key, Record())
             record.failed(now, self.ttl)
             return record.backoff
+
+    def note_killed(self, moment: int) -> None:
+        """A watchdog killed work at that moment, in milliseconds since 1970, because its lease wasn't sure any more:
+        that is no failure."""
+        self.killed = self.killed[0] + 1, moment
 
     def go_away(self) -> float:
         """The node gives up. Returns for how many seconds it stays away: each time twice as long, until the work goes
@@ -180,7 +187,8 @@ class GivingUp:
         if now < self._next:
             return None
         strays = [name for name in found.failing if name not in names] if leads else []
-        asked = self._own(found, names, now) or (partial(self._note, strays[0], None) if strays else None)
+        asked = self._own(found, names, now) or self._of_kills(found)
+        asked = asked or (partial(self._note, strays[0], None) if strays else None)
         self._next = self._next if asked is None else now + self._failures.ttl / NOTES
         return asked
 
@@ -193,6 +201,22 @@ class GivingUp:
         fails = noted is not None if health is Health.NEW else health is not Health.WELL
         wanted = False if fails else None
         return None if noted == wanted else partial(self._note, self._name, wanted)
+
+    def _of_kills(self, found: Snapshot) -> Callable[[], bool] | None:
+        """The call by which is noted how often the watchdog killed its work, if that isn't noted."""
+        holder, before, (count, last) = found.holders.get(self._name), found.maintenance, self._failures.killed
+        if not count or holder is None:
+            return None
+        note = Killed(holder.session.process, count, last)
+        if before.killed.get(self._name) == note:
+            return None
+        after = before.with_killed(self._name, note, found.sessions)
+
+        def ask() -> bool:
+            self._log.set_maintenance(after, before)  # if others changed it at the same moment, later
+            return False
+
+        return ask
 
     def _note(self, name: str, gave_up: bool | None) -> bool:
         self._is_noted |= name == self._name

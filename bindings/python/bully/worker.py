@@ -18,10 +18,10 @@ from pathlib import Path
 from typing import BinaryIO, Deque
 
 from .boots import check_one_clock
-from .clocks import SECOND, seconds_of_boot, sleep_until_ready
+from .clocks import SECOND, seconds_of_boot, sleep_until_ready, wall_clock
 from .core import Session
 from .member import Member
-from .processes import adopt, end_children, held_back, is_there, listed_children, may_kill
+from .processes import adopt, end_children, held_back, is_there, let_children_end, listed_children, may_kill
 from .watchdog import BEATS
 from .work_failures import ALL, Failures
 from .worker_states import PartitionState, TalkerState, WorkerState
@@ -118,7 +118,6 @@ class Workers:
         self._survivors: list[int] = []  # processes of workers that are still there, though this process killed them
         self._is_lost = self._is_closed = self._is_given_up = False
         self._waiting: list[threading.Event] = []  # set once nothing is worked on
-        self.killed = 0  # how often the watchdog killed a worker, because the lease wasn't sure any more
         self._ending = threading.Lock()  # held by the thread that waits for children
 
     def watch(self, member: Member, file: str = '', releases: Callable[[Session], bytes] | None = None) -> None:
@@ -240,6 +239,11 @@ class Workers:
     @property
     def _owns(self) -> bool:
         return any(each.working for each in list(self._workers.values()))
+
+    @property
+    def killed(self) -> int:
+        """How often the watchdog killed a worker, because the lease wasn't sure any more."""
+        return self._failures.killed[0]
 
     @property
     def about(self) -> str:
@@ -419,9 +423,10 @@ class Workers:
 
     def _say_killed(self, worker: WorkerState, moment: float) -> None:
         """The watchdog killed it at that moment, in seconds of CLOCK_BOOTTIME."""
-        self.killed += 1
+        ago = seconds_of_boot() - moment
+        self._failures.note_killed(wall_clock() - int(1000 * ago))
         said = 'the watchdog killed the worker%s %.1f s ago, because the lease was not sure any more: %s'
-        _logger.warning(said, worker_text(worker), seconds_of_boot() - moment, UNSURE)
+        _logger.warning(said, worker_text(worker), ago, UNSURE)
 
     def _see_time(self) -> None:
         """Looks after workers that back off, or don't end, and after the watchdog. A silent one is killed."""
@@ -434,7 +439,7 @@ class Workers:
             return
         self._checked, self._silent = now, self._silent + 1 if any(map(self._is_late, workers)) else 0
         if self._silent >= SILENT and not sleep_until_ready(0.0, self._channel.fileno()):
-            self._lose_watchdog()
+            self._lose_watchdog(is_silent=True)
 
     def _is_late(self, worker: WorkerState) -> bool:
         """Whether the watchdog is a twentieth of the ttl late to kill the worker, or a ttl to report that it started or
@@ -455,14 +460,15 @@ class Workers:
             why = f'the worker was killed, and has not ended for {seconds}; the lease of its node ends by itself'
             self._member.get_stuck(WorkerStuck(why))
 
-    def _lose_watchdog(self) -> None:
-        """The watchdog has ended, or has to."""
+    def _lose_watchdog(self, is_silent: bool = False) -> None:
+        """The watchdog has ended, or has to. Unless it is silent, the other one of watchdog and keeper ends what is left
+        now, and nothing else would if this process killed that, and were suspended at the same moment."""
         self._is_lost = True
         self._unsent.clear()
         if self._is_closed:
             return
         self._member.end_with(WatchdogLost('the watchdog of the worker died'))
-        self._end_all(self._wait_meanwhile)
+        self._end_all(self._wait_meanwhile, 0.0 if is_silent else 2 * self._member.ttl / BEATS)
         for worker in list(self._workers.values()):
             worker.give_up()
 
@@ -471,9 +477,11 @@ class Workers:
         self._do_asked()
         self._see_stuck()
 
-    def _end_all(self, meanwhile: Callable[[], object] = lambda: None) -> None:
-        """Returns once nothing is left of the watchdog, and of what it started."""
+    def _end_all(self, meanwhile: Callable[[], object] = lambda: None, seconds: float = 0.0) -> None:
+        """Returns once nothing is left of the watchdog, and of what it started, which may end for so many seconds before
+        it is killed."""
         with self._ending:
+            let_children_end(self._others, seconds, meanwhile)
             self._watchdog.kill()
             end_children(self._others, self._member.ttl / BEATS, self._hold, meanwhile)
             self._watchdog.wait()

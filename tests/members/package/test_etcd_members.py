@@ -21,12 +21,13 @@ from places import ROOT
 from ..etcd_servers import (
     NUMBERS, OLDER, Server, WithCertificates, WithEtcd, add_users, alone, begin_alone, prune_in_part, put_older,
 )  # fmt: skip
-from ..processes import below, children, is_running
+from ..processes import TaskLimit, below, children, is_running
 from ..steps import HEADER
-from ..waiting import wait_until
+from ..waiting import PATIENCE, wait_until
 from .away_laws import Away
 from .configurations import TOP, toml
 from .folders import WithFolder
+from .in_etcd import TXN, Proxy
 from .member_processes import BEGINS, TALKS, MemberProcess, call
 from .threads import put
 
@@ -135,11 +136,54 @@ class OverEtcd(WithEtcd, WithFolder):
         self.assertEqual(dict(log.snapshot(log.epochs()[-1], 0).holders), {})
 
 
+class Limited(OverEtcd):
+    """Members that may start no more threads or processes, and lose a connection."""
+
+    def begin_cut(self, host: str, limit: TaskLimit) -> tuple[MemberProcess, Proxy]:
+        """A member whose worker works; and what is between it and etcd, once that has cut a connection."""
+        proxy = Proxy(self.server.port)
+        self.addCleanup(proxy.close)
+        address = f'etcd://{host}:{proxy.endpoint.rpartition(":")[2]}/{self.prefix}'
+        member = self.begin('a', ['sh', '-c', BEGINS], '--log', address)
+        member.worker()
+        limit.set(member.process.pid, 0)
+        proxy.lose('request', TXN)
+        self.assertTrue(proxy.lost.wait(PATIENCE))
+        return member, proxy
+
+    def end_limited(self, member: MemberProcess) -> None:
+        self.assertEqual(member.end(), 0, member.said)
+        self.assertNotIn('Traceback', member.said)
+
+    def test_an_address(self) -> None:
+        """It needs no thread to reconnect to an address."""
+        limit = TaskLimit(self)
+        self.make()
+        member, proxy = self.begin_cut('127.0.0.1', limit)
+        before = proxy.requests
+        wait_until(lambda: proxy.requests > before + 20)
+        self.assertNotIn('can be started', member.said)
+        self.end_limited(member)
+
+    def test_a_name(self) -> None:
+        """It says why it doesn't reconnect to a name, and does once it may start threads."""
+        limit = TaskLimit(self)
+        self.make()
+        member, _ = self.begin_cut('localhost', limit)
+        worker = member.worker()
+        wait_until(lambda: 'its name can not be looked up, because no thread can be started' in member.said)
+        wait_until(lambda: not is_running(worker))
+        (member.folder / 'begun').unlink()
+        limit.lift(member.process.pid)
+        member.worker()
+        self.end_limited(member)
+
+
 class LeasesTaken(WithEtcd, WithFolder):
     """An operator of etcd takes the lease of a member away, which a premise forbids. Others may work from then on, so
     the worker, which doesn't stop by itself, is killed long before its time is over."""
 
-    TTL = 40.0
+    TTL = 100.0
 
     def setUp(self) -> None:
         WithEtcd.setUp(self)
@@ -184,11 +228,12 @@ class LeasesTaken(WithEtcd, WithFolder):
                     self.server.delete(f'{self.prefix}/lease/', f'{self.prefix}/lease0')
 
     def test_while_it_stops(self) -> None:
-        """Then a member of an eager group waits for nothing but its worker: its next renewal finds it."""
+        """Then a member of an eager group waits for its worker, and asks for nothing before its next renewal, a quarter
+        of the ttl after the one before: the watch reports it."""
         member = self.begun(f'trap "" TERM; {BEGINS}')
         member.process.terminate()
         wait_until(lambda: 'stops work' in member.said)
-        self.see_killed(member, True, 0.2)
+        self.see_killed(member, True, 0.45)
         member.wait()
 
 

@@ -66,6 +66,45 @@ class Watching(InEtcd):
             self.log._news.see({'kv': {**pair, 'key': coded(key)}})
         self.assertEqual((set(self.log._news.holders(None)), self.log._news.is_fresh), ({'a'}, True))
 
+    def test_who_loses_a_lease(self) -> None:
+        """The watch of the last wait reports it while nothing else is answered: of the session that acquired a lease
+        over this log last, and of no other."""
+
+        def delete() -> None:
+            self.server.delete(f'{self.prefix}/lease/session/b')
+
+        def revoke() -> None:
+            self.server.ask('/v3/lease/revoke', {'ID': self.leases()['session/b']})
+
+        for number, take in enumerate((delete, revoke), 1):
+            with self.subTest(number=number):
+                mine = Session(B.process, number)
+                self.assertTrue(self.log.acquire('b', mine, EMPTY, LONG))
+                self.log.snapshot(1, 0)
+                self.wait_for_nobody({'a': A, 'b': mine})
+                self.direct.release('a', A)
+                self.assertFalse(self.log.sees_loss(mine, 0.1), 'another one has lost its lease')
+                self.assertTrue(self.log.renew('b', mine, 2 * LONG), 'it moves to another lease of etcd')
+                self.assertFalse(self.log.sees_loss(mine, 0.1), 'it has moved')
+                take()
+                with mock.patch.object(Client, 'ask', side_effect=AssertionError('it asks for something')):
+                    self.assertTrue(self.log.sees_loss(mine, PATIENCE))
+                    self.assertTrue(self.log.sees_loss(mine, 0.0), 'it stays so')
+                    self.assertFalse(self.log.sees_loss(Session(B.process, 9), 0.0), 'it has held nothing')
+                self.assertTrue(self.direct.acquire('a', A, EMPTY, LONG))
+
+    def test_who_is_not_found_yet(self) -> None:
+        """A lease that no snapshot has found isn't lost."""
+        self.log.snapshot(1, 0)
+        self.wait_for_nobody({'a': A})
+        self.assertTrue(self.log.acquire('b', B, EMPTY, LONG))
+        self.assertFalse(self.log.sees_loss(B, 0.0))
+
+    def wait_for_nobody(self, sessions: dict[str, Session]) -> None:
+        """A wait that begins a watch, and ends without news."""
+        self.log.wait(1, 0, sessions, Until.NEWS, 0.1)
+        self.assertIsNotNone(self.log._watch)
+
     def test_begin_of_a_watch(self) -> None:
         """What comes between the snapshot and the watch is seen."""
         watch = Client.watch

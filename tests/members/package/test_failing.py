@@ -17,7 +17,7 @@ from bully import operations, settings, systemd, view, work_failures
 from bully.clocks import seconds_of_boot
 from bully.core import Session
 from bully.group import Setup
-from bully.maintenance import Maintenance
+from bully.maintenance import Killed, Maintenance
 from bully.member import Assignment, Member
 from bully.memory import MemoryLog
 from bully.shared_log import Holder, Log, Snapshot
@@ -161,6 +161,23 @@ class Returns(unittest.TestCase):
         self.assertIsNone(self.asked(self.found({'a': False, 'x': True}), 200.0))
         self.assertIs(self.asked(self.found({'a': False, 'x': True}), 200.0, True), False)
         self.log.note.assert_called_with('x', None)
+
+    def test_kills(self) -> None:
+        """How often the watchdog killed its work is noted for the process that holds its lease: once, and again only
+        after the next one, or if others changed the maintenance at the same moment."""
+        self.failures.began(0.0)
+        self.assertIsNone(self.asked(self.found({}, ('a', A)), 100.0))
+        self.failures.note_killed(5000)
+        self.assertIsNone(self.asked(self.found({}, ('b', B)), 110.0), 'it holds no lease')
+        found, noted = self.found({}, ('a', A)), Maintenance(killed={'a': Killed(A.process, 1, 5000)})
+        for now in (120.0, 130.0):
+            self.assertIs(self.asked(found, now), False)
+            self.log.set_maintenance.assert_called_with(noted, Maintenance())
+        self.assertIsNone(self.asked(found._replace(maintenance=noted), 140.0))
+        self.failures.note_killed(7000)
+        self.assertIs(self.asked(found._replace(maintenance=noted), 150.0), False)
+        self.log.set_maintenance.assert_called_with(Maintenance(killed={'a': Killed(A.process, 2, 7000)}), noted)
+        self.log.note.assert_not_called()
 
     def test_comes_back(self) -> None:
         """After its time; or once nobody else is there, or none has worked well for five ttls."""
@@ -456,6 +473,28 @@ class InProcesses(InFolder):
         with contextlib.suppress(OSError, KeyError):  # it hasn't begun, or writes just now
             return member.environment()['BULLY_PARTITIONS']
         return ''
+
+    def test_a_worker_that_its_watchdog_kills(self) -> None:
+        """With a member suspended its watchdog kills the worker. Once the member continues all count that."""
+        [port] = free_ports(1)
+        member = self.begin('b', ['sh', '-c', BEGINS], '--listen', str(port))
+        for times, words in ((1, 'once'), (2, '2 times, last')):
+            with self.subTest(times=times):
+                worker = member.worker()
+                member.process.send_signal(signal.SIGSTOP)
+                wait_until(lambda: not is_running(worker))
+                (member.folder / 'begun').unlink()
+                member.process.send_signal(signal.SIGCONT)
+                wait_until(lambda: self.killed() == {'a': 0, 'b': times})
+                told = f'yes, its worker was killed {words} at 2[0-9]{{3}}-[0-9T:.-]*Z'
+                self.assertRegex(call('status', *self.log_words)[1], f'\nb .* {told} ')
+                self.assertRegex(asked(port, '/')[1], f'<td>{told}<td>')
+                self.assertIn(f'bully_work_killed_total{{node="b"}} {times}\n', asked(port, '/metrics')[1])
+        self.assertEqual(member.end(), 0, member.said)
+
+    def killed(self) -> dict[str, int]:
+        """How often work was killed, by the nodes that `status` shows."""
+        return {node['name']: node['killed'] for node in json.loads(call('status', '--json', *self.log_words)[1])['nodes']}
 
     def test_a_worker_that_can_not_be_started(self) -> None:
         """Its node gives up, all say so, and the other one works on all partitions; up to the day when it can be

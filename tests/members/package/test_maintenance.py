@@ -15,7 +15,7 @@ from bully.core import Ask, Lease, Promise, Request, Seen, Session, Until
 from bully.epochs import Opening, Token
 from bully.group import Setup
 from bully.history import timed
-from bully.maintenance import Maintenance
+from bully.maintenance import Killed, Maintenance
 from bully.member import Member, NotInGroup
 from bully.memory import MemoryLog
 from bully.shared_log import Holder, Snapshot, Unanswered
@@ -36,7 +36,8 @@ class Values(unittest.TestCase):
         some = Maintenance(frozenset(['b', 'größer', '"'])), Maintenance(
             frozenset('a'), {"'": A, 'b': Session(2**64 - 1, 7)}
         )
-        for maintenance in (Maintenance(), Maintenance(sessions={}), Maintenance(leaving={'b': A, 'ö': B}), *some):
+        more = Maintenance(leaving={'b': A, 'ö': B}), Maintenance(killed={'ö': Killed(2**64 - 1, 3, 1_790_000_000_123)})
+        for maintenance in (Maintenance(), Maintenance(sessions={}), *more, *some):
             self.assertEqual(Maintenance.parse(maintenance.text()), maintenance)
         self.assertEqual(Maintenance().text(), '')
         for text in (
@@ -49,6 +50,8 @@ class Values(unittest.TestCase):
             '{"drained": [], "paused": {"a": [1]}}',
             '{"drained": [], "leaving": ["a"]}',
             '{"drained": [], "leaving": {"a": 1}}',
+            '{"drained": [], "killed": ["a"]}',
+            '{"drained": [], "killed": {"a": [1, 2]}}',
         ):
             with self.subTest(text=text), self.assertRaises((ValueError, KeyError, TypeError, AttributeError)):
                 Maintenance.parse(text)
@@ -81,6 +84,16 @@ class Values(unittest.TestCase):
         self.assertEqual(some.among({'a', 'b'}), Maintenance(frozenset('b'), leaving={'a': A}))
         after = some.with_leaving('d', {'a': A, 'c': D, 'd': D})
         self.assertEqual(after, Maintenance(frozenset('b'), leaving={'a': A, 'd': D}), 'session C is gone')
+
+    def test_whose_work_was_killed(self) -> None:
+        """A note stays until another process acts for its node, or the group doesn't have that any more."""
+        first, second = Killed(A.process, 1, 10), Killed(B.process, 2, 20)
+        some = Maintenance(frozenset('b')).with_killed('a', first, {'a': A}).with_killed('b', second, {'a': A, 'b': B})
+        self.assertEqual(some, Maintenance(frozenset('b'), killed={'a': first, 'b': second}))
+        again = Killed(B.process, 3, 30)
+        self.assertEqual(some.with_killed('b', again, {'b': B}).killed, {'a': first, 'b': again}, 'nobody acts for a')
+        self.assertEqual(some.with_killed('b', again, {'a': D, 'b': B}).killed, {'b': again})
+        self.assertEqual(some.among({'b'}).killed, {'b': second})
 
     def test_who_leaves_is_shown(self) -> None:
         """A member is shown who else is known to leave, and its own lease as that of a session that stays."""

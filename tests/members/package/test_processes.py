@@ -2,6 +2,7 @@
 from __future__ import annotations
 
 import contextlib
+import errno
 import json
 import os
 import re
@@ -20,9 +21,12 @@ from bully.clocks import SECOND
 from bully.epochs import Token
 from bully.sqlite import SqliteLog
 from bully.view import LogView
+from bully.worker import WATCHDOG
 from places import environment
 from ..etcd_servers import free_ports
-from ..processes import children, ender, freeze, full_pipe, has_stopped, ignores, is_running, parent_of, thaw
+from ..processes import (
+    TaskLimit, children, ender, freeze, full_pipe, has_stopped, ignores, is_running, parent_of, thaw,
+)  # fmt: skip
 from ..waiting import PATIENCE, wait_until
 from .member_processes import BEGINS, STARTS, TALKS, WithMember, asked, manager_in, started
 from .unlisted import unlisted_from
@@ -250,6 +254,59 @@ os.kill(os.getpid(), signal.SIGSTOP)
                 self.assertEqual(ran.returncode, 4, ran.stderr)
                 self.assertIn('bully-member: no thread can be started now', ran.stderr)
                 self.assertNotIn('Traceback', ran.stderr)
+
+    def test_limit_on_tasks(self) -> None:
+        """However few threads and processes it may start, it says that it can't start more, or works. It works once it
+        may."""
+        limit = TaskLimit(self)
+        self.begin(BEGINS).kill()
+        words = [sys.executable, *self.words[self.words.index('-W') + 2 :]]  # as users start it
+        for count in limit.counts:
+            with self.subTest(count=count):
+                (self.folder / 'begun').unlink(missing_ok=True)
+                member = self.begin_limited(words, limit, count)
+                wait_until(lambda: member.poll() is not None or 'is started again' in self.told() or self.works())
+                limit.lift(member.pid)
+                if member.poll() is None:
+                    wait_until(self.works)
+                    member.terminate()
+                    self.assertEqual(member.wait(PATIENCE), 0, self.told())
+                else:
+                    self.assertIn(member.returncode, (1, 4), self.told())
+                    self.assertRegex(self.told(), '(thread|process|keeper of the worker) can be started')
+                self.assertNotIn('Traceback', self.told())
+
+    def test_no_keeper(self) -> None:
+        """A watchdog that may start no process says so, and ends: its member hears of that."""
+        limit = TaskLimit(self)
+        mine, given = socket.socketpair(socket.AF_UNIX, socket.SOCK_SEQPACKET)
+        with mine, given:
+            words = [sys.executable, '-I', '-S', WATCHDOG, str(given.fileno()), '1', 'ends', '', '2', 'true']
+            watchdog = self.begin_limited(words, limit, 1, given.fileno())
+            self.assertEqual(watchdog.wait(PATIENCE), 1)
+        said = f'bully: no keeper of the worker can be started: {os.strerror(errno.EAGAIN)}\n'
+        self.assertEqual(self.told(), said)
+
+    def begin_limited(self, words: list[str], limit: TaskLimit, count: int, *given: int) -> subprocess.Popen[bytes]:
+        """A process of these words, with these descriptors, within such a limit."""
+        first = ['sh', '-c', 'read -r line; exec "$@"', 'sh', *words]
+        with open(self.folder / 'said', 'wb') as said:
+            member = subprocess.Popen(
+                first, env=environment(FOLDER=str(self.folder)), stderr=said, stdin=subprocess.PIPE, pass_fds=given
+            )
+        self.addCleanup(member.wait)
+        self.addCleanup(member.kill)
+        limit.set(member.pid, count)
+        assert member.stdin is not None
+        member.stdin.close()
+        return member
+
+    def told(self) -> str:
+        return (self.folder / 'said').read_text()
+
+    def works(self) -> bool:
+        """Whether a worker has begun."""
+        return (self.folder / 'begun').exists()
 
     def test_quiet(self) -> None:
         member = self.begin('exit 5', '--quiet')

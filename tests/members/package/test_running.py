@@ -16,7 +16,7 @@ from bully.shared_log import Holder, LogError
 from bully.working import Callbacks
 from ..steps import HEADER, LONG, OPENING
 from ..waiting import PATIENCE, wait_until
-from .threads import Slow, Threads, Troubled
+from .threads import Slow, Taking, Threads, Troubled
 
 
 DAY = 86_400.0
@@ -92,6 +92,22 @@ class Running(Threads):
         self.assertNotIn('took its lease', ' '.join(said.output))
         self.assertEqual((log.rows[-1], log.holders), ('crash,1', {}))
         self.assertEqual(told, [f'start {self.token_of(log)}', f'stop {self.token_of(log)}'])
+
+    def test_a_lease_that_is_taken_away(self) -> None:
+        """Once that is reported its work isn't sure any more, while the last snapshot says otherwise; that is said
+        once. After it has the lease again it works."""
+        log, sure = Taking(OPENING), [0.0]
+        with self.assertLogs('bully', 'WARNING') as said:
+            member, _, _ = self.begin(log, 1, 100.0, sure=sure.append)
+            wait_until(member.assignment)
+            log.taken = log.holders['1'].session
+            self.begin(log, 2)  # so that its wait ends
+            wait_until(lambda: member.assignment() is None and sure[-1] <= seconds_of_boot())
+            self.assertEqual((log.holders['1'].session, member.sure_until, member.leads), (log.taken, 0.0, False))
+            log.release('1', log.taken)
+            wait_until(lambda: '1' in log.holders and member.assignment())
+        self.assertGreater(sure[-1], seconds_of_boot())
+        self.assertEqual([line.count('took its lease away') for line in said.output], [1])
 
     def test_a_second_process_is_told(self) -> None:
         """Who comes for a node that has a process says so, once, and waits."""

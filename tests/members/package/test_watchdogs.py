@@ -9,13 +9,13 @@ import socket
 import subprocess
 import sys
 import threading
-from collections.abc import Callable
+from collections.abc import Callable, Set as AbstractSet
 from pathlib import Path
 from types import SimpleNamespace
 from typing import Any, cast
 from unittest import mock
 
-from bully import Setup, clocks, processes, watchdog
+from bully import Setup, clocks, processes, watchdog, worker
 from bully.epochs import Token
 from bully.member import Assignment, Member
 from bully.settings import Settings
@@ -692,6 +692,28 @@ os.kill(os.getpid(), signal.SIGSTOP)
             if said == 'idle\n':
                 print('go on', file=writer.stdin, flush=True)
         self.assertEqual(writer.wait(PATIENCE), -signal.SIGKILL)
+
+    def test_who_ends_what_is_left(self) -> None:
+        """If watchdog or keeper is killed the other one ends the worker, with what that left in another session. Up to
+        then the member kills neither: it may be suspended just after that, and nobody would end the rest."""
+        for number in range(2):
+            with self.subTest(number=number):
+                left: list[AbstractSet[int]] = []
+
+                def ends(spared: AbstractSet[int], *more: Any) -> dict[int, int]:
+                    left.append(processes.listed_children() - spared)
+                    return processes.end_children(spared, *more)
+
+                workers = self.made([sys.executable, '-c', WORKER, str(self.folder), ''], ttl=200.0)
+                workers.start(self.assignment)
+                wait_until((self.folder / 'begun').exists)
+                watchdog = workers._watchdog.pid
+                with mock.patch.object(worker, 'end_children', ends):
+                    os.kill((watchdog, *keepers(watchdog))[number], signal.SIGKILL)
+                    wait_until(lambda: left)
+                self.assertEqual(left, [set()])
+                workers.close()
+                (self.folder / 'begun').unlink()
 
     def test_who_is_stopped(self) -> None:
         def halt(process: int) -> Callable[[], object]:

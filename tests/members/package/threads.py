@@ -67,6 +67,15 @@ class Troubled(MemoryLog):
         wait_until(lambda: name not in self.holders)
 
 
+class Taking(MemoryLog):
+    """A log that reports the loss of the lease of one session."""
+
+    taken: Session | None = None
+
+    def sees_loss(self, session: Session, seconds: float, wake: int | None = None) -> bool:
+        return session == self.taken or super().sees_loss(session, seconds, wake)
+
+
 class Slow(MemoryLog):
     """A log that is slow to answer that a lease was acquired or renewed. When the last such request began is kept."""
 
