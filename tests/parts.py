@@ -56,6 +56,7 @@ PARTS = [
     Part('promises', 'tests/promises/compare'),
     Part('versions', 'tests/release/compare'),
     Part('types', 'tests/types', tools='mypy'),
+    Part('format', 'tests/format', tools='black'),
     Part('wrong-bodies', 'tests/edits/try'),
     Part('wrong-members', 'tests/members/run wrong --fit'),
     Part('build', 'tests/build/try'),

@@ -119,8 +119,14 @@ class KeptLog(EtcdLog):
         return self._client
 
     def wait(
-        self, epoch: int, offset: int, sessions: Mapping[str, Session], until: Until, seconds: float, woken: int | None = None,
-    ) -> None:  # fmt: skip
+        self,
+        epoch: int,
+        offset: int,
+        sessions: Mapping[str, Session],
+        until: Until,
+        seconds: float,
+        woken: int | None = None,
+    ) -> None:
         """Nobody waits by this."""
 
     def has_news(

@@ -32,8 +32,25 @@ from dataclasses import dataclass, field, replace
 from pathlib import Path
 
 from bully.core import (
-    Activity, Ask, BackOff, Begin, Core, CoreOpening, End, Lease, Live, Promise, Reason, Request, Seen, Session, Stop, StoreAnswer, Until, Wait,
-)  # fmt: skip
+    Activity,
+    Ask,
+    BackOff,
+    Begin,
+    Core,
+    CoreOpening,
+    End,
+    Lease,
+    Live,
+    Promise,
+    Reason,
+    Request,
+    Seen,
+    Session,
+    Stop,
+    StoreAnswer,
+    Until,
+    Wait,
+)
 from counts import Counts
 from .expected import Expected, last_table
 
@@ -43,10 +60,22 @@ TROUBLE, QUIET = 12 * TTL, 45 * TTL  # how long there are faults, and how long i
 STEPS = 100  # more than a member takes at one moment
 ENOUGH = 25  # seeds, among which all of this must happen
 TROUBLES = (
-    'a process is killed', 'a process is paused', 'a member leaves', 'a member notes that it leaves', 'a node comes and goes', 'work ends by itself',
-    'other settings are requested', 'a request is lost', 'an answer is lost', 'a request comes late', 'work stops before an answer', 'a rebalance',
-    'an epoch rolls over', 'backs off: STOP', 'backs off: PAUSE',
-)  # fmt: skip
+    'a process is killed',
+    'a process is paused',
+    'a member leaves',
+    'a member notes that it leaves',
+    'a node comes and goes',
+    'work ends by itself',
+    'other settings are requested',
+    'a request is lost',
+    'an answer is lost',
+    'a request comes late',
+    'work stops before an answer',
+    'a rebalance',
+    'an epoch rolls over',
+    'backs off: STOP',
+    'backs off: PAUSE',
+)
 TROUBLES_OF_COOPERATIVE = (
     'work goes on by another token',
     'a rebalance that affects nobody',
@@ -486,8 +515,11 @@ class Group:
             {lease.node for lease in leases if lease.promise == end and not lease.kept} for leases in (found, seen)
         )
         over = {
-            Until.NEWS: False, Until.ANY_IDLE: bool(idle - before), Until.ALL_IDLE: len(idle) == len(found), Until.PROMISES: seen != found,
-        }  # fmt: skip
+            Until.NEWS: False,
+            Until.ANY_IDLE: bool(idle - before),
+            Until.ALL_IDLE: len(idle) == len(found),
+            Until.PROMISES: seen != found,
+        }
         return over[until]
 
     # Trouble.
@@ -564,11 +596,14 @@ class Group:
         for node in range(1, self.store.nodes + 1):
             self.after(self.choice.randint(0, TTL), lambda started=node: self.start(started))  # type: ignore[misc]
         for span, what, action in (
-            (3 * TTL, 'a process is killed', self.crash), (3 * TTL, 'a process is paused', self.pause), (6 * TTL, 'a member leaves', self.leave),
-            (2 * TTL, 'work ends by itself', self.lose), (2 * TTL, 'missing ones start', lambda _: self.start_missing()),
+            (3 * TTL, 'a process is killed', self.crash),
+            (3 * TTL, 'a process is paused', self.pause),
+            (6 * TTL, 'a member leaves', self.leave),
+            (2 * TTL, 'work ends by itself', self.lose),
+            (2 * TTL, 'missing ones start', lambda _: self.start_missing()),
             (20 * TTL, 'other settings are requested', self.request),
             (self.loops, 'a node comes and goes', self.come_and_go),
-        ):  # fmt: skip
+        ):
             self.often(span, what, action)
         self.run_until(TROUBLE)
         for process in self.alive():

@@ -77,10 +77,13 @@ def troubles_of(options: argparse.Namespace, seeds: int) -> list[str]:
     has_kept = options.is_cooperative is not False and options.kind is None
     is_maintained = options.trouble == Maintained.__name__ or not options.trouble and seeds >= 5 * ENOUGH
     return [
-        *TROUBLES, *(TROUBLES_OF_COOPERATIVE if has_kept and not options.trouble else ()), *(TROUBLES_OF_MAINTENANCE if is_maintained else ()),
+        *TROUBLES,
+        *(TROUBLES_OF_COOPERATIVE if has_kept and not options.trouble else ()),
+        *(TROUBLES_OF_MAINTENANCE if is_maintained else ()),
         *(TROUBLES_OF_KEPT_WORK if has_kept and is_maintained else ()),
-        *(TROUBLES_OF_ETCD if options.told or options.over_etcd else ()), *(['a watch begins anew'] if options.told else ()),
-    ]  # fmt: skip
+        *(TROUBLES_OF_ETCD if options.told or options.over_etcd else ()),
+        *(['a watch begins anew'] if options.told else ()),
+    ]
 
 
 def try_seeds(options: argparse.Namespace, counts: Counts) -> None:

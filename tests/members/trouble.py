@@ -10,18 +10,44 @@ TROUBLE_FOR, STABLE_WITHIN = 16, 25  # ttl
 OFTEN = 20  # changes of the log within a ttl, which are never as many
 
 TROUBLES = (
-    'a pause', 'a pause before a step', 'a pause with a renewal', 'a death', 'a cut', 'a join', 'a loop',
-    'a member is told to leave', 'a worker ends by itself', 'a request is lost', 'an answer is lost',
-    'a request or an answer is slow', 'a request comes after its time', 'a request to resize',
-    'a request to resize is taken back', 'old epochs are taken away', 'the end of an epoch', 'an append',
-    'unknown processes are seen', 'an old token is refused', 'a unit beside one that was paused beyond its lease',
-    'a plan keeps to the epoch before', 'a member ends: left', 'a member ends: not there',
-    'a message of a worker is late', 'a promise comes late', 'a member notes that it leaves', 'work stops before an answer',
-)  # fmt: skip
+    'a pause',
+    'a pause before a step',
+    'a pause with a renewal',
+    'a death',
+    'a cut',
+    'a join',
+    'a loop',
+    'a member is told to leave',
+    'a worker ends by itself',
+    'a request is lost',
+    'an answer is lost',
+    'a request or an answer is slow',
+    'a request comes after its time',
+    'a request to resize',
+    'a request to resize is taken back',
+    'old epochs are taken away',
+    'the end of an epoch',
+    'an append',
+    'unknown processes are seen',
+    'an old token is refused',
+    'a unit beside one that was paused beyond its lease',
+    'a plan keeps to the epoch before',
+    'a member ends: left',
+    'a member ends: not there',
+    'a message of a worker is late',
+    'a promise comes late',
+    'a member notes that it leaves',
+    'work stops before an answer',
+)
 TROUBLES_OF_COOPERATIVE = (
-    'work goes on over a change', 'work goes on by another token', 'a change that affects nobody', 'partitions are stopped that move',
-    'a process starts anew', 'a worker is paused while it starts anew', 'the start of a process is called off',
-)  # fmt: skip
+    'work goes on over a change',
+    'work goes on by another token',
+    'a change that affects nobody',
+    'partitions are stopped that move',
+    'a process starts anew',
+    'a worker is paused while it starts anew',
+    'the start of a process is called off',
+)
 
 
 class Trouble:

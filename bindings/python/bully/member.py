@@ -88,11 +88,22 @@ class Member:
     - `on_lost(partitions)`: the same, in place of `on_revoked`, once the lease of the node isn't sure any more."""
 
     def __init__(
-        self, log: Log, node: int | str, start: Callback | None = None, stop: Callback | None = None, ttl: float = 5.0,
-        settings: Settings | None = None, sure: Callable[[float], object] | None = None,
-        failures: Failures | None = None, *, on_assigned: Assigned | None = None, on_revoked: Revoked | None = None,
-        on_lost: Revoked | None = None, work: Working | None = None, acquires: Callable[[Session], object] | None = None,
-    ) -> None:  # fmt: skip
+        self,
+        log: Log,
+        node: int | str,
+        start: Callback | None = None,
+        stop: Callback | None = None,
+        ttl: float = 5.0,
+        settings: Settings | None = None,
+        sure: Callable[[float], object] | None = None,
+        failures: Failures | None = None,
+        *,
+        on_assigned: Assigned | None = None,
+        on_revoked: Revoked | None = None,
+        on_lost: Revoked | None = None,
+        work: Working | None = None,
+        acquires: Callable[[Session], object] | None = None,
+    ) -> None:
         """A member of the log's group, for the node of this name, or of this number in the current epoch. When the
         group's settings change it keeps the name; `run` returns if the group has no such node any more. The work is
         done by `start` and `stop`, by `on_assigned` and `on_revoked`, or by `work`. If `settings` are given, which may

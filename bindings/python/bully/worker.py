@@ -461,8 +461,8 @@ class Workers:
             self._member.get_stuck(WorkerStuck(why))
 
     def _lose_watchdog(self, is_silent: bool = False) -> None:
-        """The watchdog has ended, or has to. Unless it is silent, the other one of watchdog and keeper ends what is left
-        now, and nothing else would if this process killed that, and were suspended at the same moment."""
+        """The watchdog has ended, or has to. Unless it is silent, the other one of watchdog and keeper ends what is
+        left now, and nothing else would if this process killed that, and were suspended at the same moment."""
         self._is_lost = True
         self._unsent.clear()
         if self._is_closed:
@@ -478,8 +478,8 @@ class Workers:
         self._see_stuck()
 
     def _end_all(self, meanwhile: Callable[[], object] = lambda: None, seconds: float = 0.0) -> None:
-        """Returns once nothing is left of the watchdog, and of what it started, which may end for so many seconds before
-        it is killed."""
+        """Returns once nothing is left of the watchdog, and of what it started, which may end for so many seconds
+        before it is killed."""
         with self._ending:
             let_children_end(self._others, seconds, meanwhile)
             self._watchdog.kill()

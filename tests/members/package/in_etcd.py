@@ -21,13 +21,29 @@ PUT = b'request_put'
 
 # Answers over HTTP that are not etcd's: the status and the text.
 OF_OTHERS = (
-    (404, 'nothing here'), (404, '{"code": 5, "message": "Not Found", "details": []}'), (403, '<html>Forbidden</html>'),
-    (403, '{"message": "permission denied"}'), (401, '{"error": "user name is empty"}'), (408, ''), (429, 'slow down'),
-    (429, '{"error": "rate limit"}'), (502, '<html>'), (503, '{"status": 503}'), (503, '{"code": 503, "message": "auth"}'),
-    (504, '{"error": {"code": 7, "message": "permission denied"}}'), (500, '{"header": {"raft_term": "1"}}'), (200, '{}'),
-    (200, '[]'), (200, '"x"'), (200, '<html>'), (200, ''), (200, '{"result": []}'), (200, '{"header": 1}'),
-    (200, '{"header": {"raft_term": "1"}}'), (302, ''),
-)  # fmt: skip
+    (404, 'nothing here'),
+    (404, '{"code": 5, "message": "Not Found", "details": []}'),
+    (403, '<html>Forbidden</html>'),
+    (403, '{"message": "permission denied"}'),
+    (401, '{"error": "user name is empty"}'),
+    (408, ''),
+    (429, 'slow down'),
+    (429, '{"error": "rate limit"}'),
+    (502, '<html>'),
+    (503, '{"status": 503}'),
+    (503, '{"code": 503, "message": "auth"}'),
+    (504, '{"error": {"code": 7, "message": "permission denied"}}'),
+    (500, '{"header": {"raft_term": "1"}}'),
+    (200, '{}'),
+    (200, '[]'),
+    (200, '"x"'),
+    (200, '<html>'),
+    (200, ''),
+    (200, '{"result": []}'),
+    (200, '{"header": 1}'),
+    (200, '{"header": {"raft_term": "1"}}'),
+    (302, ''),
+)
 
 
 def answer(status: int, text: str) -> bytes:

@@ -136,13 +136,28 @@ class Laws(Tests):
         none, here, there = (Promise(), ()), (Promise(1, 3), (2,)), (Promise(1, 4), (0, 5))
         changes: list[tuple[Callable[[], object], dict[str, Holder]]] = [
             (lambda: None, {'a': Holder(A, EMPTY), 'b': Holder(B, EMPTY), 'c': Holder(C, EMPTY)}),
-            (lambda: other.promise('b', B, *here), {'a': Holder(A, EMPTY), 'b': Holder(B, *here), 'c': Holder(C, EMPTY)}),
-            (lambda: other.promise('a', A, *there), {'a': Holder(A, *there), 'b': Holder(B, *here), 'c': Holder(C, EMPTY)}),
+            (
+                lambda: other.promise('b', B, *here),
+                {'a': Holder(A, EMPTY), 'b': Holder(B, *here), 'c': Holder(C, EMPTY)},
+            ),
+            (
+                lambda: other.promise('a', A, *there),
+                {'a': Holder(A, *there), 'b': Holder(B, *here), 'c': Holder(C, EMPTY)},
+            ),
             (lambda: other.release('c', C), {'a': Holder(A, *there), 'b': Holder(B, *here)}),
-            (lambda: other.acquire('c', B, EMPTY, self.LONG), {'a': Holder(A, *there), 'b': Holder(B, *here), 'c': Holder(B, EMPTY)}),
-            (lambda: other.promise('c', B, *there), {'a': Holder(A, *there), 'b': Holder(B, *here), 'c': Holder(B, *there)}),
-            (lambda: give_over(other, 'b', B, C), {'a': Holder(A, *there), 'b': Holder(C, EMPTY), 'c': Holder(B, *there)}),
-        ]  # fmt: skip
+            (
+                lambda: other.acquire('c', B, EMPTY, self.LONG),
+                {'a': Holder(A, *there), 'b': Holder(B, *here), 'c': Holder(B, EMPTY)},
+            ),
+            (
+                lambda: other.promise('c', B, *there),
+                {'a': Holder(A, *there), 'b': Holder(B, *here), 'c': Holder(B, *there)},
+            ),
+            (
+                lambda: give_over(other, 'b', B, C),
+                {'a': Holder(A, *there), 'b': Holder(C, EMPTY), 'c': Holder(B, *there)},
+            ),
+        ]
         for number, (change, holders) in enumerate(changes):
             change()
             for name, reads in (('a', log), ('nobody', log), ('nobody', other)):  # `other` reads of nobody each time
@@ -218,13 +233,25 @@ class Laws(Tests):
         log, other = self.pair()
         self.assertTrue(log.acquire('a', A, EMPTY, self.LONG))
         few, some, other_ones, most = (17,), (0, 17), (0, 4), (0, 5, 17)
-        for number, (offset, kept, wanted) in enumerate((
-            ((1, 0), some, ((1, 0), ())), ((1, 2), most, ((1, 2), most)), ((1, 2), some, ((1, 2), some)),
-            ((1, 2), most, ((1, 2), some)), ((1, 2), other_ones, ((1, 2), some)), ((1, 1), (), ((1, 2), some)),
-            ((1, 2), some, ((1, 2), some)), ((1, 2), few, ((1, 2), few)), ((1, 10), (1, 2, 4095), ((1, 10), (1, 2, 4095))),
-            ((1, 9), (), ((1, 10), (1, 2, 4095))), ((1, 10), (), ((1, 10), ())), ((1, 10), few, ((1, 10), ())),
-            ((2, 0), few, ((2, 0), few)), ((1, 11), (), ((2, 0), few)), ((2, 0), (), ((2, 0), ())),
-        )):  # fmt: skip
+        for number, (offset, kept, wanted) in enumerate(
+            (
+                ((1, 0), some, ((1, 0), ())),
+                ((1, 2), most, ((1, 2), most)),
+                ((1, 2), some, ((1, 2), some)),
+                ((1, 2), most, ((1, 2), some)),
+                ((1, 2), other_ones, ((1, 2), some)),
+                ((1, 1), (), ((1, 2), some)),
+                ((1, 2), some, ((1, 2), some)),
+                ((1, 2), few, ((1, 2), few)),
+                ((1, 10), (1, 2, 4095), ((1, 10), (1, 2, 4095))),
+                ((1, 9), (), ((1, 10), (1, 2, 4095))),
+                ((1, 10), (), ((1, 10), ())),
+                ((1, 10), few, ((1, 10), ())),
+                ((2, 0), few, ((2, 0), few)),
+                ((1, 11), (), ((2, 0), few)),
+                ((2, 0), (), ((2, 0), ())),
+            )
+        ):
             self.assertTrue((log, other)[number % 2].promise('a', A, Promise(*offset), kept))
             self.assertEqual(live(other), {'a': Holder(A, Promise(*wanted[0]), wanted[1])}, number)
         self.assertFalse(other.promise('a', B, Promise(9, 0), few))
@@ -303,9 +330,10 @@ class Laws(Tests):
         be_idle(log, ('a', A))
         for here in (Promise(1, 3), Promise(2, 0), Promise(2, 1)):
             calls: list[Callable[[], object]] = [
-                lambda: other.snapshot(here.epoch, here.offset), lambda: other.append(here.epoch, here.offset, ['recover,1']),
+                lambda: other.snapshot(here.epoch, here.offset),
+                lambda: other.append(here.epoch, here.offset, ['recover,1']),
                 lambda: other.roll_over(here.epoch, here.offset, OPENING.next(None, ())),
-            ]  # fmt: skip
+            ]
             for number, call in enumerate(calls):
                 with self.subTest(here=here, call=number), self.assertRaises(DamagedLog):
                     call()

@@ -96,20 +96,41 @@ class Commands(WithLog):
         that a new try doesn't help."""
         cases = (
             ("insert into log values (1, 1, packed(char(10)), 0)", 'the line at offset 1 of epoch 1 is not a row'),
-            ("insert into log values (1, 1, packed('recover,1' || char(13, 10)), 0)", 'the line at offset 1 of epoch 1 is not a row'),
-            ("insert into log values (1, 1, packed('end,bully,1,3,6' || char(10)), 0)", "row 3: The row doesn't have the form"),
-            ("insert into log values (1, 1, packed(x'ff0a'), 0)", "the append at offset 1 of epoch 1 can not be read: 'utf-8' codec can't decode"),
-            ("insert into log values (1, 1, 'recover,1' || char(10), 0)", 'the append at offset 1 of epoch 1 can not be read'),
-            ("insert into log values (1, 1, packed('recover,1'), 0)", 'the append at offset 1 of epoch 1 can not be read'),
+            (
+                "insert into log values (1, 1, packed('recover,1' || char(13, 10)), 0)",
+                'the line at offset 1 of epoch 1 is not a row',
+            ),
+            (
+                "insert into log values (1, 1, packed('end,bully,1,3,6' || char(10)), 0)",
+                "row 3: The row doesn't have the form",
+            ),
+            (
+                "insert into log values (1, 1, packed(x'ff0a'), 0)",
+                "the append at offset 1 of epoch 1 can not be read: 'utf-8' codec can't decode",
+            ),
+            (
+                "insert into log values (1, 1, 'recover,1' || char(10), 0)",
+                'the append at offset 1 of epoch 1 can not be read',
+            ),
+            (
+                "insert into log values (1, 1, packed('recover,1'), 0)",
+                'the append at offset 1 of epoch 1 can not be read',
+            ),
             ("update epochs set requested = 'x'", 'the opening of epoch 2 can not be read'),
             (f"{REQUESTED} '$.header', 'x')", 'the opening of epoch 2 can not be read: x is not a header'),
             (f"{REQUESTED} '$.names', json_array(1, 2, 3))", 'the opening of epoch 2 can not be read: a name of'),
-            ("update epochs set requested = json_set(opening, '$.epoch', 2, '$.limit', 5)", 'the opening of epoch 2 can not be read: a name of'),
-            (f"{REQUESTED} '$.table', json_array(1, 2, 3, 1, 2, 4))", 'the opening of epoch 2 can not be read: a name of'),
+            (
+                "update epochs set requested = json_set(opening, '$.epoch', 2, '$.limit', 5)",
+                'the opening of epoch 2 can not be read: a name of',
+            ),
+            (
+                f"{REQUESTED} '$.table', json_array(1, 2, 3, 1, 2, 4))",
+                'the opening of epoch 2 can not be read: a name of',
+            ),
             (f"{REQUESTED} '$.header', 'bully,2,3,6,1 1 0,clear')", 'the opening of epoch 2 can not be read: '),
             ("update epochs set requested = opening", 'epoch 2 has the opening of epoch 1'),
             ("update epochs set opening = json_set(opening, '$.header', 'bully,1,4,6')", '1,4,6 has 3 names'),
-        )  # fmt: skip
+        )
         for number, (asked, told) in enumerate(cases):
             self.use(number)
             self.init()
@@ -132,13 +153,28 @@ class Commands(WithLog):
         no_row = "row 5: The row doesn't have the form of a row"
         missing = 'rows are missing or can not be read, or there is something else between them'
         cases: tuple[tuple[str, int, list[str], str], ...] = (
-            ("update log set rows = packed(unpacked(rows) || char(10) || 'start,2' || char(10))", 5, ['', 'start,2'], "'' is not a row"),
-            ("update log set rows = packed(unpacked(rows) || 'start,2' || char(13, 10))", 4, ['start,2\r'], "'start,2\\r' is not a row"),
-            ("update log set rows = packed(unpacked(rows) || 'end,bully,1,3,6' || char(10))", 4, ['end,bully,1,3,6'], no_row),
+            (
+                "update log set rows = packed(unpacked(rows) || char(10) || 'start,2' || char(10))",
+                5,
+                ['', 'start,2'],
+                "'' is not a row",
+            ),
+            (
+                "update log set rows = packed(unpacked(rows) || 'start,2' || char(13, 10))",
+                4,
+                ['start,2\r'],
+                "'start,2\\r' is not a row",
+            ),
+            (
+                "update log set rows = packed(unpacked(rows) || 'end,bully,1,3,6' || char(10))",
+                4,
+                ['end,bully,1,3,6'],
+                no_row,
+            ),
             ("insert into log values (1, 3, packed(x'ff0a'), 0)", 4, ['\ufffd'], no_row),
             ("insert into log values (1, 4, packed('x' || char(10)), 0)", 5, ['x'], missing),
             ("insert into log values (1, 3, 'start,2' || char(10), 0)", 4, [], missing),
-        )  # fmt: skip
+        )
         for number, (asked, count, rows, why) in enumerate(cases):
             self.use(number)
             self.init()

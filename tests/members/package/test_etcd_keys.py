@@ -75,12 +75,16 @@ class Keys(InEtcd):
         requested = Opening(2, 'bully,1,2,4', ('a', 'b'), 500)
         self.assertTrue(log.ask(requested, 1))
         wanted: dict[str, str | bytes] = {
-            'opening/0000000001': OPENING.text().replace('{"epoch"', '{"form": 4, "epoch"'), 'first': '0000000001',
-            'offset': '0000000001/0000000002', 'rows/0000000001/0000000000': zlib.compress('recover,1\ngrößer\n'.encode()),
-            'requested': requested.text(), 'lease/session/größer': '17.3',
-            'lease/promise/größer': '0000000001/0000000003 0 5 17', 'time/0000000001/0000000000': '1700000000007',
+            'opening/0000000001': OPENING.text().replace('{"epoch"', '{"form": 4, "epoch"'),
+            'first': '0000000001',
+            'offset': '0000000001/0000000002',
+            'rows/0000000001/0000000000': zlib.compress('recover,1\ngrößer\n'.encode()),
+            'requested': requested.text(),
+            'lease/session/größer': '17.3',
+            'lease/promise/größer': '0000000001/0000000003 0 5 17',
+            'time/0000000001/0000000000': '1700000000007',
             'maintenance': '{"drained": ["a", "größer"], "paused": {"größer": [17, 3]}}',
-        }  # fmt: skip
+        }
         pairs = self.server.keys(f'{self.prefix}/')
         found = {key[len(self.prefix) + 1 :]: b64decode(pair['value']) for key, pair in pairs.items()}
         self.assertRegex(found.pop('name'), b'^4 [0-9a-f]{16}$')

@@ -494,7 +494,9 @@ class InProcesses(InFolder):
 
     def killed(self) -> dict[str, int]:
         """How often work was killed, by the nodes that `status` shows."""
-        return {node['name']: node['killed'] for node in json.loads(call('status', '--json', *self.log_words)[1])['nodes']}
+        return {
+            node['name']: node['killed'] for node in json.loads(call('status', '--json', *self.log_words)[1])['nodes']
+        }
 
     def test_a_worker_that_can_not_be_started(self) -> None:
         """Its node gives up, all say so, and the other one works on all partitions; up to the day when it can be
@@ -513,9 +515,12 @@ class InProcesses(InFolder):
         self.assertIn('<td>no, gave up, its worker fails<td>', asked(port, '/')[1])
         metrics = asked(port, '/metrics')[1].splitlines()
         wanted = [
-            'bully_worker_failing{node="a"} 0', 'bully_worker_failing{node="b"} 1', 'bully_gave_up{node="a"} 0', 'bully_gave_up{node="b"} 1',
+            'bully_worker_failing{node="a"} 0',
+            'bully_worker_failing{node="b"} 1',
+            'bully_gave_up{node="a"} 0',
+            'bully_gave_up{node="b"} 1',
             'bully_drained{node="b"} 0',
-        ]  # fmt: skip
+        ]
         self.assertEqual([line for line in wanted if line not in metrics], [])
         self.assertEqual(fails.said.count(f'bully: {worker}: No such file or directory'), 3)
         said = 'node b: its worker keeps failing; it gives up what it owns, and tries again in 12.0 s'

@@ -30,9 +30,17 @@ class Fences(WithFolder):
     def see(self, write: Callable[[int, int], bool]) -> None:
         """An older token of a partition is refused; a lower one of another partition isn't, nor the same one again."""
         for partition, token, passes in (
-            (0, MID, True), (0, MID, True), (0, LOW, False), (5, LOW, True), (0, TOP, True), (0, MID, False), (5, LOW, True),
-            (5, MID, True), (5, LOW, False), (0, TOP, True),
-        ):  # fmt: skip
+            (0, MID, True),
+            (0, MID, True),
+            (0, LOW, False),
+            (5, LOW, True),
+            (0, TOP, True),
+            (0, MID, False),
+            (5, LOW, True),
+            (5, MID, True),
+            (5, LOW, False),
+            (0, TOP, True),
+        ):
             self.assertEqual(write(partition, token), passes, (partition, token))
 
     def test_table(self) -> None:

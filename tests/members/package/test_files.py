@@ -310,9 +310,15 @@ except LogError as fault:
         """A lock of that kind on byte 120 of the file counts, where SQLite has the writer's, and none beside it."""
         lock = '1: POSIX  ADVISORY  WRITE 7 08:02:31 {} {}'.format
         for first, last, is_found in (
-            (120, 120, True), (0, 'EOF', True), (120, 127, True), (119, 119, False), (121, 121, False), (123, 127, False),
-            (121, 'EOF', False), (0, 119, False),
-        ):  # fmt: skip
+            (120, 120, True),
+            (0, 'EOF', True),
+            (120, 127, True),
+            (119, 119, False),
+            (121, 121, False),
+            (123, 127, False),
+            (121, 'EOF', False),
+            (0, 119, False),
+        ):
             found = processes.holder_in('31', f'{lock(first, last)}\n', processes.WRITE)
             self.assertEqual(found, 7 if is_found else None, (first, last))
         for inode, kind in (('3', processes.WRITE), ('31', processes.READ)):
@@ -760,9 +766,16 @@ except LogError as fault:
 
     def test_bad_lease(self) -> None:
         bad = (
-            "session = 'x'", "session = '1.x'", "epoch = 'x'", "until = 'x'", "kept = 'x'", "kept = '2 1'", "kept = '1 1'",
-            "kept = ' 1'", "kept = '-1'",
-        )  # fmt: skip
+            "session = 'x'",
+            "session = '1.x'",
+            "epoch = 'x'",
+            "until = 'x'",
+            "kept = 'x'",
+            "kept = '2 1'",
+            "kept = '1 1'",
+            "kept = ' 1'",
+            "kept = '-1'",
+        )
         for asked in bad:
             log = self.begun()
             self.change(f'update leases set {asked}')

@@ -36,7 +36,9 @@ class Values(unittest.TestCase):
         some = Maintenance(frozenset(['b', 'größer', '"'])), Maintenance(
             frozenset('a'), {"'": A, 'b': Session(2**64 - 1, 7)}
         )
-        more = Maintenance(leaving={'b': A, 'ö': B}), Maintenance(killed={'ö': Killed(2**64 - 1, 3, 1_790_000_000_123)})
+        more = Maintenance(leaving={'b': A, 'ö': B}), Maintenance(
+            killed={'ö': Killed(2**64 - 1, 3, 1_790_000_000_123)}
+        )
         for maintenance in (Maintenance(), Maintenance(sessions={}), *more, *some):
             self.assertEqual(Maintenance.parse(maintenance.text()), maintenance)
         self.assertEqual(Maintenance().text(), '')

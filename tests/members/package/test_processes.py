@@ -24,6 +24,7 @@ from bully.view import LogView
 from bully.worker import WATCHDOG
 from places import environment
 from ..etcd_servers import free_ports
+
 from ..processes import (
     TaskLimit, children, ender, freeze, full_pipe, has_stopped, ignores, is_running, parent_of, thaw,
 )  # fmt: skip

@@ -241,9 +241,20 @@ class Talks(Below):
         channel, given = socket.socketpair(socket.AF_UNIX, socket.SOCK_SEQPACKET)
         with channel, given, open(self.folder / 'said', 'wb') as said:
             words = [
-                sys.executable, '-I', '-S', WATCHDOG, str(given.fileno()), '0.2', 'talks', '', '1.0', 'sh', '-c', worker,
+                sys.executable,
+                '-I',
+                '-S',
+                WATCHDOG,
+                str(given.fileno()),
+                '0.2',
+                'talks',
+                '',
+                '1.0',
+                'sh',
+                '-c',
+                worker,
                 str(child),
-            ]  # fmt: skip
+            ]
             watchdog = subprocess.Popen(words, stdin=subprocess.DEVNULL, stderr=said, pass_fds=[given.fileno()])
             self.addCleanup(watchdog.kill)
             given.close()

@@ -23,8 +23,20 @@ from bully.worker import ChildrenUnlisted, WatchdogLost, WorkerEnded, WorkerStuc
 from places import environment
 
 from ..processes import (
-    below, children, descriptors_of, freeze, halt_by_debugger, halt_by_group, has_stopped, ignores, is_running, keepers, name_of, parent_of, thaw,
-)  # fmt: skip
+    below,
+    children,
+    descriptors_of,
+    freeze,
+    halt_by_debugger,
+    halt_by_group,
+    has_stopped,
+    ignores,
+    is_running,
+    keepers,
+    name_of,
+    parent_of,
+    thaw,
+)
 from ..waiting import PATIENCE, wait_until
 from .below import Below, Timely, assigned
 from .unlisted import unlisted_from

@@ -205,19 +205,25 @@ class Configurations(WithLog):
         for text, place in (
             ('nodes = 3\n', ': Missing partitions'),
             (head.replace('partitions', 'partitons'), ': Missing partitions (line 2 has partitons, which is no key)'),
-            ('nodes = 3\nweight = 6\n', ': Missing partitions'), (head.replace('6', '"x"'), ':2: Kind partitions'),
-            (head.replace('3', '0'), ':1: Range nodes'), (head.replace('"c"', '"a"'), ':3: DoubleName'),
-            (f'{head}\n# more\npartition = 6\n', ':6: UnknownKey partition'), (f'{head}turns = 0\n', ':4: Range turns'),
+            ('nodes = 3\nweight = 6\n', ': Missing partitions'),
+            (head.replace('6', '"x"'), ':2: Kind partitions'),
+            (head.replace('3', '0'), ':1: Range nodes'),
+            (head.replace('"c"', '"a"'), ':3: DoubleName'),
+            (f'{head}\n# more\npartition = 6\n', ':6: UnknownKey partition'),
+            (f'{head}turns = 0\n', ':4: Range turns'),
             (f'{head}\nweights = [\n1,\n1, 1]\nkeep = 1\n', ':8: Kind keep'),
             (f'{head}{fault}{fault.replace("crash", "halt")}', ':11: Range kind'),
             (f'{head}{fault}{fault}{fault.replace("1", "0")}', ':13: Range at'),
-            (f'{head}{fault}keep = true\n', ':8: UnknownKey keep'), (f'{head}{fault}[[fault]]\nat = 1\n', ': Missing node'),
-            (f'{head}weights = [1,\n  1, 1\n\nkeep = true\n', ':4: Toml'), (f'{head}\nkeep = yes\n', ':5: Toml'),
-            (f'{head}nodes = 3\n', ':4: Toml'), ('nodes = 3\n\ufeff', ':2: Toml'),
+            (f'{head}{fault}keep = true\n', ':8: UnknownKey keep'),
+            (f'{head}{fault}[[fault]]\nat = 1\n', ': Missing node'),
+            (f'{head}weights = [1,\n  1, 1\n\nkeep = true\n', ':4: Toml'),
+            (f'{head}\nkeep = yes\n', ':5: Toml'),
+            (f'{head}nodes = 3\n', ':4: Toml'),
+            ('nodes = 3\n\ufeff', ':2: Toml'),
             (f'{head}{"# more" * 2}\n{"# [" * 3}\n' + '\n' * 2_000 + 'keep = yes\n', ':2006: Toml'),
             (f'{head}{fault}names = [[1],\n[2]]\n', ':8: UnknownKey names'),
             (f'{head}{fault.replace("1", "0")}text = """\nat = 1\n"""\n', ':5: Range at'),
-        ):  # fmt: skip
+        ):
             self.config.write_text(text)
             with self.subTest(text=text):
                 self.assertEqual(self.init(), (3, '', f'bully-member: {self.config}{place}\n'))
@@ -264,10 +270,23 @@ class Words(WithLog):
     def test_defaults(self) -> None:
         """Help shows the default of each word that has one."""
         for name, defaults in (
-            ('run', ['else 5)', '(default: 10)', '(default: BULLY_LOG_FORMAT of the environment, or else text)', 'BULLY_LOG', 'BULLY_CACERT', '(default: all)']),
-            ('init', ['(default: 1)', 'own)']), ('resize', ['(default: 60)']), ('drain', ['(default: 60)']),
-            ('history', ['(default: the current one)']), ('switchover', ['(default: 60)']),
-        ):  # fmt: skip
+            (
+                'run',
+                [
+                    'else 5)',
+                    '(default: 10)',
+                    '(default: BULLY_LOG_FORMAT of the environment, or else text)',
+                    'BULLY_LOG',
+                    'BULLY_CACERT',
+                    '(default: all)',
+                ],
+            ),
+            ('init', ['(default: 1)', 'own)']),
+            ('resize', ['(default: 60)']),
+            ('drain', ['(default: 60)']),
+            ('history', ['(default: the current one)']),
+            ('switchover', ['(default: 60)']),
+        ):
             said = ' '.join(call(name, '--help')[1].split())
             for default in defaults:
                 self.assertIn(default, said)

@@ -47,13 +47,19 @@ class Waits(Tests):
         log, other = self.pair()
         requested = OPENING.after(None)
         acts: list[Callable[[], object]] = [
-            lambda: other.acquire('1', A, EMPTY, self.LONG), lambda: other.acquire('2', B, EMPTY, self.SHORT), lambda: None,
-            lambda: other.append(1, 0, ['recover,1']), lambda: other.release('1', A),
-            lambda: other.acquire('1', B, Promise(1, 1), self.LONG), lambda: other.ask(requested, 1), lambda: other.cancel(1),
+            lambda: other.acquire('1', A, EMPTY, self.LONG),
+            lambda: other.acquire('2', B, EMPTY, self.SHORT),
+            lambda: None,
+            lambda: other.append(1, 0, ['recover,1']),
+            lambda: other.release('1', A),
+            lambda: other.acquire('1', B, Promise(1, 1), self.LONG),
+            lambda: other.ask(requested, 1),
+            lambda: other.cancel(1),
             lambda: other.promise('1', B, Promise(1, 1)) and other.append(1, 1, ['x', 'y']),
-            lambda: other.set_maintenance(Maintenance(frozenset('2')), Maintenance()), lambda: other.set_maintenance(Maintenance(sessions={}), None),
+            lambda: other.set_maintenance(Maintenance(frozenset('2')), Maintenance()),
+            lambda: other.set_maintenance(Maintenance(sessions={}), None),
             lambda: other.promise('1', B, Promise(1, 3)) and other.roll_over(1, 3, requested),
-        ]  # fmt: skip
+        ]
         for number, act in enumerate(acts):
             with self.subTest(act=number):
                 found = log.snapshot(1, 0)
