@@ -16,7 +16,6 @@ from bully.maintenance import Maintenance
 from bully.memory import MemoryLog
 from bully.settings import Settings
 from bully.shared_log import Precondition
-from bully.store_options import BadWords
 from .driven import Member, Wrong
 from .simulated_store import Epoch, Lease, LogStore, StoreMaker
 from .stabilizing import NEVER, Mode, Simulation
@@ -127,7 +126,7 @@ class OverMemory(Simulation):
 
     def drain(self) -> None:
         self.happened['a node is drained while a promise keeps work'] += self.keeps_work()
-        with suppress(BadWords):  # nobody would work
+        with suppress(operations.LastNode):  # nobody would work
             self.last_set = operations.drain(
                 self.store.log, self.choice.choice(self.store.epoch.settings.names), takes_last=False
             )

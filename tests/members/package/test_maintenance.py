@@ -19,7 +19,6 @@ from bully.maintenance import Killed, Maintenance
 from bully.member import Member, NotInGroup
 from bully.memory import MemoryLog
 from bully.shared_log import Holder, Snapshot, Unanswered
-from bully.store_options import BadWords
 from ..steps import LONG, OPENING
 from ..waiting import PATIENCE, wait_until
 from .threads import Threads, Troubled
@@ -263,7 +262,7 @@ class Drains(unittest.TestCase):
     def test_drain(self) -> None:
         for name in '12':
             self.assertEqual(operations.drain(self.log, name, False), self.log.maintenance)
-        with self.assertRaisesRegex(BadWords, '3 is the last node left that is not drained'):
+        with self.assertRaisesRegex(operations.LastNode, '3 is the last node left that is not drained'):
             operations.drain(self.log, '3', False)
         calls: list[Callable[[], object]] = [
             lambda: operations.drain(self.log, '4', True),
@@ -304,7 +303,7 @@ class Drains(unittest.TestCase):
     def test_the_last_one_that_is_there(self) -> None:
         self.assertTrue(self.log.acquire('2', B, Promise(1, 0), LONG))
         self.assertTrue(self.log.acquire('unknown', C, Promise(1, 0), LONG))
-        with self.assertRaises(BadWords):
+        with self.assertRaises(operations.LastNode):
             operations.drain(self.log, '2', False)
         self.assertEqual(operations.drain(self.log, '1', False).drained, frozenset('1'))
 
