@@ -248,7 +248,7 @@ os.kill(os.getpid(), signal.SIGSTOP)
     def test_no_more_threads(self) -> None:
         """That may pass: it says so, and can be started again."""
         self.init()
-        for count in range(4):
+        for count in range(3):  # as many as it needs
             with self.subTest(threads=count):
                 words = [sys.executable, '-c', FEW_THREADS, str(count), 'run', *self.options, '--', 'true']
                 ran = subprocess.run(words, env=environment(), stderr=subprocess.PIPE, text=True, timeout=PATIENCE)

@@ -409,7 +409,9 @@ class Units(unittest.TestCase):
     def test_what_waits_for_a_person(self) -> None:
         """It begins a member again but by the statuses of which docs/MEMBERS.md says that no new try helps."""
         page = (ROOT / 'docs' / 'MEMBERS.md').read_text()
-        rows = re.findall(r'^\| ([0-9, ]+) \|.*\| waits for a person \|$', page, re.MULTILINE)
+        rows = re.findall(
+            r'^- \*\*([0-9, ]+)\*\*:(?:(?!\n[-\n]).)* systemd waits for a person$', page, re.MULTILINE | re.DOTALL
+        )
         told = {int(number) for row in rows for number in row.split(',')}
         self.assertIn(exit_statuses.NO_RETRY, told)
         unit = (ROOT / 'examples' / 'members' / 'bully-member@.service').read_text()
