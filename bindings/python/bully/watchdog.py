@@ -458,7 +458,10 @@ class Keeper(Receiver):
         self.stop(self.name, b'')
 
     def lose_watchdog(self) -> None:
-        """Its watchdog has died, so if it died, too, nobody would kill what is left. The member hears that it ends."""
+        """Its watchdog has died, so if it died, too, nobody would kill what is left. The member hears that it ends. What
+        that has sent before counts: until when work is sure, most of all."""
+        while not self.is_alone and select.select([self.channel], [], [], 0)[0]:
+            self.receive()
         self.watchdog, self.is_alone = close(self.watchdog), True
         with contextlib.suppress(OSError):  # the member is gone, too
             self.channel.shutdown(socket.SHUT_WR)

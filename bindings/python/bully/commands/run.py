@@ -6,7 +6,6 @@ import contextlib
 import logging
 import os
 import signal
-import sys
 import time
 from collections.abc import Callable
 from typing import TYPE_CHECKING, TypeVar
@@ -50,7 +49,7 @@ def run(options: argparse.Namespace) -> int:
     """Takes part with a worker, until a signal tells it to leave."""
     ignored = {each for each in signal.valid_signals() if signal.getsignal(each) == signal.SIG_IGN}
     default_signals(ignored - STAY_IGNORED)
-    at_signals(lambda: sys.exit(OK))  # until it takes part
+    at_signals(lambda: os._exit(OK))  # until it takes part (an exception might end in whatever is imported just now)
     if options.log_format is not None:
         os.environ[LOG_FORMAT] = options.log_format  # for the watchdog, too
     children_listed()
