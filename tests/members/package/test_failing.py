@@ -20,6 +20,7 @@ from bully.group import Setup
 from bully.maintenance import Killed, Maintenance
 from bully.member import Assignment, Member
 from bully.memory import MemoryLog
+from bully.processes import lock_holder
 from bully.shared_log import Holder, Log, Snapshot
 from bully.sqlite import SqliteLog
 from bully.work_failures import ALL, AWAY_MAX, BACKOFF_MAX, Failures, Health
@@ -27,7 +28,7 @@ from bully.worker import Workers
 from bully.worker_states import WorkerState
 from .. import waiting
 from ..etcd_servers import free_ports
-from ..processes import below, children, is_running
+from ..processes import below, children, has_stopped, is_running
 from ..steps import EMPTY, LONG, OPENING, A, B, C
 from ..waiting import PATIENCE
 from .below import assigned
@@ -481,7 +482,7 @@ class InProcesses(InFolder):
         for times, words in ((1, 'once'), (2, '2 times, last')):
             with self.subTest(times=times):
                 worker = member.worker()
-                member.process.send_signal(signal.SIGSTOP)
+                self.suspend(member)
                 wait_until(lambda: not is_running(worker))
                 (member.folder / 'begun').unlink()
                 member.process.send_signal(signal.SIGCONT)
@@ -491,6 +492,16 @@ class InProcesses(InFolder):
                 self.assertRegex(asked(port, '/')[1], f'<td>{told}<td>')
                 self.assertIn(f'bully_work_killed_total{{node="b"}} {times}\n', asked(port, '/metrics')[1])
         self.assertEqual(member.end(), 0, member.said)
+
+    def suspend(self, member: MemberProcess) -> None:
+        """Suspends it, but not in the middle of a write: there its watchdog would kill it."""
+        process = member.process
+        process.send_signal(signal.SIGSTOP)
+        wait_until(lambda: has_stopped(process.pid))
+        while lock_holder(f'{self.path}-shm') == process.pid:
+            process.send_signal(signal.SIGCONT)
+            process.send_signal(signal.SIGSTOP)
+            wait_until(lambda: has_stopped(process.pid))
 
     def killed(self) -> dict[str, int]:
         """How often work was killed, by the nodes that `status` shows."""

@@ -19,6 +19,22 @@ from ..processes import children, has_loaded, is_running, name_of, parent_of, wa
 from ..waiting import PATIENCE, wait_until
 from .member_processes import BEGINS, WithMember, member_words, started
 
+# A command that gets a signal as it begins, where all exceptions are caught.
+CATCHES = '''
+import os, signal, sys
+from bully import command
+from bully.commands import run
+
+def store_of(options):
+    try:
+        os.kill(os.getpid(), signal.SIGTERM)
+    except BaseException:
+        os._exit(9)
+    os._exit(8)
+
+run.store_of = store_of
+command.main(sys.argv[1:])
+'''
 MOMENTS = (0.0, 0.01, 0.03, 0.06, 0.1, 0.2, 0.4, 0.8)  # seconds, at which a signal comes
 WITHIN = ('unshare', '--pid', '--fork', '--kill-child', '--mount-proc')  # where the member is the first process
 
@@ -76,6 +92,11 @@ class Signals(WithMember):
         words = [sys.executable, '-c', code, 'run', '--log', f'sqlite:{self.path}', '--node', 'a', '--', 'true']
         ran = subprocess.run(words, env=environment(), stdout=subprocess.PIPE, text=True, timeout=PATIENCE)
         self.assertEqual((ran.returncode, ran.stdout), (4, 'True\n'))  # there is no log
+
+    def test_within_what_catches_all(self) -> None:
+        """As it begins a signal ends it, whatever it does just now: some imports let no exception by."""
+        words = [sys.executable, '-c', CATCHES, 'run', '--log', f'sqlite:{self.path}', '--node', 'a', '--', 'true']
+        self.assertEqual(subprocess.run(words, env=environment(), timeout=PATIENCE).returncode, 0)
 
     def until(self) -> int:
         """Up to when the lease is held."""

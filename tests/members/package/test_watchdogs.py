@@ -548,6 +548,17 @@ class Watchdogs(Below):
                 watchdog.Worker(['sleep', '1000'], [], talks)
             self.assertEqual(descriptors_of(os.getpid()), count)
 
+    def test_what_was_sent_before_its_watchdog_died(self) -> None:
+        """It counts for a keeper, however late that reads it: else work would go on after its lease was taken away."""
+        mine, given = socket.socketpair(socket.AF_UNIX, socket.SOCK_SEQPACKET)
+        with mine, given:
+            keeper = watchdog.Keeper(given, watchdog.Rules(1.0, False, 4.0, []), watchdog.MemberWatchdog('', 4.0), 9)
+            self.addCleanup(os.close, keeper.timer)
+            for moment in (b'8', b'7'):
+                mine.send(b'until ' + moment)
+            keeper.lose_watchdog()
+        self.assertEqual((keeper.until, keeper.is_alone), (7, True))
+
     def test_a_worker_that_is_not_seen(self) -> None:
         """It has started, but can't be watched: then it isn't reported as one that ended, and the watchdog ends."""
         mine, given = socket.socketpair(socket.AF_UNIX, socket.SOCK_SEQPACKET)
