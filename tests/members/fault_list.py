@@ -124,6 +124,8 @@ def halt(trial: Trial) -> Steps:
     nothing is appended."""
     group, name = trial.group, trial.choice.choice(trial.names)
     maintain(trial, 'pause')
+    is_frozen = trial.tend_until(lambda: group.show().is_frozen, group.patience)  # a change under way comes first
+    group.count(is_frozen, 'a pause does not begin')
     before, member = group.show(), group.members.pop(name)
     member.kill()
     member.wait()
